@@ -367,14 +367,3 @@ belongs_to-elsewhere interface settings low to_host e bytes h =
         both_ways (names_in interface to_host e bytes) h
         (ap (λ i. names_in i to_host e bytes) (sym (eqb-true end.interface interface t))
         ∙ usable_under-belongs settings low to_host e bytes end is))
-
-pub settable_in-no_text : (interface setting : ℕ) (bytes : List ℕ) (fault : DescriptorFault)
-    → config_of bytes ≡ Err fault → settable_in interface setting bytes ≡ false
-unfolding settable_in
-settable_in-no_text interface setting bytes fault h = ap (settable_if interface setting) h
-
-pub names_in-no_text : (interface : ℕ) (to_host : Bool) (e : ℕ) (bytes : List ℕ)
-    (fault : DescriptorFault) → config_of bytes ≡ Err fault
-    → names_in interface to_host e bytes ≡ false
-unfolding names_in
-names_in-no_text interface to_host e bytes fault h = ap (names_if interface to_host e) h

@@ -1,7 +1,7 @@
 -- What bytes that begin with a hub descriptor say.
 use Rattle.std.proofs.Common.{◌≡◌, ◌≤◌, ◌==◌, ◌||◌, ◌&&◌, ℕ, nat_lt, nat_le, not, Bool, true, false}
 use Rattle.std.proofs.Common.{if◌then◌else◌, List, length, slice_index, Result, Ok, Err, refl, arith}
-use Rattle.std.proofs.Common.{ap, subst}
+use Rattle.std.proofs.Common.{ap}
 use Rattle.std.proofs.lemmas.Bool.{or_parts, leb-true}
 use Rattle.std.proofs.lemmas.Bool.Decides.{nat_tests}
 use Rattle.usb_request.specs.{HUB, HUB_LENGTH}
@@ -53,15 +53,6 @@ passes wide bytes {v = v} h =
 up_to_fifteen : (wide : Bool) (ports : ℕ) → nat_le ports (most_ports wide) ≡ true → ports ≤ 15
 up_to_fifteen true ports h = leb-true ports 15 h
 up_to_fifteen false ports h = let few = leb-true ports 7 h in omega (arith, few)
-
--- it has as many ports
-pub hub_spelled-few : (wide : Bool) (bytes : List ℕ) {v : List ℕ} → hub_spelled wide bytes ≡ Ok v
-    → (1 ≤ port_count v) × (port_count v ≤ 15)
-hub_spelled-few wide bytes {v = v} h =
-    let p = passes wide bytes h in
-    let some : 1 ≤ port_count bytes = leb-true 1 (port_count bytes) p.some in
-    let few : port_count bytes ≤ 15 = up_to_fifteen wide (port_count bytes) p.few in
-    subst (λ b. (1 ≤ port_count b) × (port_count b ≤ 15)) p.same (some, few)
 
 -- what a host reads that takes no wide hubs, one reads that does
 pub hub_spelled-wide : (wide : Bool) (bytes : List ℕ) {v : List ℕ} → hub_spelled wide bytes ≡ Ok v

@@ -7,13 +7,12 @@ use Rattle.std.proofs.lemmas.Option.{cond_some}
 use Rattle.std.proofs.lemmas.Bool.Decides.{nat_tests}
 use Rattle.usb_request.specs.{STATUS_ENDPOINT}
 use Rattle.usb_descriptor.specs.{DescriptorFault, Endpoint, Interface, IsUsable, Other, config_of}
-use Rattle.usb_descriptor.specs.{config_after, config_head_of, configuration_value, counts_after}
+use Rattle.usb_descriptor.specs.{counts_after}
 use Rattle.usb_descriptor.specs.{endpoint_address, endpoint_number, first_counting, first_from}
 use Rattle.usb_descriptor.specs.{in_config, interrupt_described, interrupt_in_at, is_in}
 use Rattle.usb_descriptor.specs.{is_interrupt, items_of, packet_size, picked, status_at}
 use Rattle.usb_descriptor.specs.{status_endpoint_of, transfer_of}
 use Rattle.usb_descriptor.specs.declared.item.Item.{Item}
-use Rattle.usb_descriptor.proofs.Texts.{header_of}
 
 -- what is so of each endpoint that is picked, is so of the first that counts
 
@@ -130,29 +129,3 @@ status_endpoint-usable wide bytes {e = e} h = usable (by_choice wide bytes h)
         (of_config (λ e. IsUsable e × (e.0 ≡ 1)) status_at status_each (config_of bytes) one).0
     usable (inr (_, _, any)) =
         of_config IsUsable interrupt_in_at interrupt_each (config_of bytes) any
-
--- it is endpoint 1 for a host that takes no wide hubs
-pub status_endpoint-narrow : (bytes : List ℕ) {e : ℕ × ℕ} → status_endpoint_of false bytes ≡ Some e
-    → e.0 ≡ 1
-status_endpoint-narrow bytes {e = e} h = one (by_choice false bytes h)
-  where
-    one : (in_config status_at (config_of bytes) ≡ Some e)
-        ⊎ ((in_config status_at (config_of bytes) ≡ None) × (false ≡ true)
-        × (in_config interrupt_in_at (config_of bytes) ≡ Some e)) → e.0 ≡ 1
-    one (inl first) =
-        (of_config (λ e. IsUsable e × (e.0 ≡ 1)) status_at status_each (config_of bytes) first).1
-    one (inr (_, never, _)) = absurd (cc never)
-
--- the text's configuration has a value
-pub status_endpoint-valued : (wide : Bool) (bytes : List ℕ) {e : ℕ × ℕ}
-    → status_endpoint_of wide bytes ≡ Some e → 1 ≤ configuration_value bytes
-unfolding status_endpoint_of config_of
-status_endpoint-valued wide bytes {e = e} h = by_head (config_head_of bytes) refl wide h
-  where
-    by_head : (head : Result ℕ DescriptorFault) → config_head_of bytes ≡ head → (wide : Bool)
-        → option_or (in_config status_at (config_after head bytes))
-        (if wide then in_config interrupt_in_at (config_after head bytes) else None) ≡ Some e
-        → 1 ≤ configuration_value bytes
-    by_head (Ok total) is wide h = (header_of bytes total is).valued
-    by_head (Err fault) is true h = absurd (cc h)
-    by_head (Err fault) is false h = absurd (cc h)

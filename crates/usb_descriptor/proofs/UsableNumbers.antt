@@ -9,13 +9,13 @@ use Rattle.std.specs.Option.{is_some, option_or}
 use Rattle.usb_descriptor.specs.declared.item.Item.{Item}
 use Rattle.usb_descriptor.specs.{EndpointKind, DescriptorFault, Endpoint, Interface, Other}
 use Rattle.usb_descriptor.specs.{UsableEndpoint, alternate_setting, as_usable, bulk_described}
-use Rattle.usb_descriptor.specs.{bulk_in_at, bulk_in_of, bulk_out_at, bulk_out_of, bulk_with}
+use Rattle.usb_descriptor.specs.{bulk_with}
 use Rattle.usb_descriptor.specs.{config_of, default_settings, endpoint_number}
-use Rattle.usb_descriptor.specs.{first_counting, first_from, first_inside, has_number, in_config}
+use Rattle.usb_descriptor.specs.{first_from, first_inside, has_number}
 use Rattle.usb_descriptor.specs.{inside_after, interface_number, interrupt_described}
-use Rattle.usb_descriptor.specs.{interrupt_with, is_bulk, is_bulk_size, is_in, is_interrupt}
+use Rattle.usb_descriptor.specs.{interrupt_with, is_bulk, is_bulk_size, is_interrupt}
 use Rattle.usb_descriptor.specs.{items_of, max_packet_size, packet_size, setting_of, transfer_of}
-use Rattle.usb_descriptor.specs.{usable_at, usable_in, usable_of, usable_under, interrupt_most}
+use Rattle.usb_descriptor.specs.{usable_at, usable_in, usable_under, interrupt_most}
 use Rattle.usb_descriptor.specs.declared.usable.EndpointKind.TheVariants as kind
 
 -- number and maximum are what a pipe may have
@@ -165,12 +165,6 @@ usable_under-small settings low to_host e bytes end h = by_text (config_of bytes
         (first_so settings (interrupt_with low to_host e) (IsSmall e)
         (interrupt_small low to_host e) None (items_of text) end) g
 
-pub usable_of-small : (low to_host : Bool) (e : ℕ) (bytes : List ℕ) (end : UsableEndpoint)
-    → usable_of low to_host e bytes ≡ Some end
-    → (1 ≤ e) × (e ≤ 15) × (1 ≤ end.max) × (end.max ≤ 64)
-usable_of-small low to_host e bytes end h =
-    usable_under-small default_settings low to_host e bytes end h
-
 -- the settings of a device that was just configured
 pub setting_of-default : (interface : ℕ) → setting_of default_settings interface ≡ 0
 unfolding default_settings
@@ -243,95 +237,8 @@ then_none : (interface : ℕ) (b : Bool) (o : Option (ℕ × ℕ)) → o ≡ Non
 then_none interface true o h = rw h refl
 then_none interface false o h = refl
 
--- an endpoint that is described has its own number
-then_some : (n interface : ℕ) (endpoint : List ℕ) (end : ℕ × ℕ) → bulk_described endpoint ≡ Some end
-    → end.0 ≡ n
-    → (if endpoint_number endpoint == n then as_usable kind.Bulk interface (bulk_described endpoint)
-    else None) ≡ as_usable kind.Bulk interface (Some end)
-then_some n interface endpoint end h number =
-    let same : (endpoint_number endpoint == n) ≡ true =
-    grind (arith, nat_tests, number, (bulk_end endpoint end h).number) in
-    rw (same, h) refl
-
-out_with : (n interface : ℕ) (endpoint : List ℕ)
-    → (bulk_out_at endpoint ≡ None → bulk_with false false n interface endpoint ≡ None)
-    × ((end : ℕ × ℕ) → bulk_out_at endpoint ≡ Some end → end.0 ≡ n
-    → bulk_with false false n interface endpoint ≡ as_usable kind.Bulk interface (Some end))
-unfolding bulk_out_at bulk_with
-out_with n interface endpoint = (by_none (is_in endpoint), λ end. by_some end (is_in endpoint))
-  where
-    by_none : (b : Bool) → (if b then None else bulk_described endpoint) ≡ None
-        → (if not b && endpoint_number endpoint == n
-        then as_usable kind.Bulk interface (bulk_described endpoint) else None) ≡ None
-    by_none true h = refl
-    by_none false h =
-        then_none interface (endpoint_number endpoint == n) (bulk_described endpoint) h
-
-    by_some : (end : ℕ × ℕ) (b : Bool) → (if b then None else bulk_described endpoint) ≡ Some end
-        → end.0 ≡ n
-        → (if not b && endpoint_number endpoint == n
-        then as_usable kind.Bulk interface (bulk_described endpoint) else None)
-        ≡ as_usable kind.Bulk interface (Some end)
-    by_some end true h number = cc h
-    by_some end false h number = then_some n interface endpoint end h number
-
-in_with : (n interface : ℕ) (endpoint : List ℕ)
-    → (bulk_in_at endpoint ≡ None → bulk_with false true n interface endpoint ≡ None)
-    × ((end : ℕ × ℕ) → bulk_in_at endpoint ≡ Some end → end.0 ≡ n
-    → bulk_with false true n interface endpoint ≡ as_usable kind.Bulk interface (Some end))
-unfolding bulk_in_at bulk_with
-in_with n interface endpoint = (by_none (is_in endpoint), λ end. by_some end (is_in endpoint))
-  where
-    by_none : (b : Bool) → (if b then bulk_described endpoint else None) ≡ None
-        → (if b && endpoint_number endpoint == n
-        then as_usable kind.Bulk interface (bulk_described endpoint) else None) ≡ None
-    by_none false h = refl
-    by_none true h =
-        then_none interface (endpoint_number endpoint == n) (bulk_described endpoint) h
-
-    by_some : (end : ℕ × ℕ) (b : Bool) → (if b then bulk_described endpoint else None) ≡ Some end
-        → end.0 ≡ n
-        → (if b && endpoint_number endpoint == n
-        then as_usable kind.Bulk interface (bulk_described endpoint) else None)
-        ≡ as_usable kind.Bulk interface (Some end)
-    by_some end false h number = cc h
-    by_some end true h number = then_some n interface endpoint end h number
-
-or_bulk : (max : ℕ) (a b : Option UsableEndpoint) → IsBulkOf max a → IsBulkOf max (option_or a b)
-or_bulk max None b h = cc h.1
-or_bulk max (Some end) b h = h
-
-pub usable_of-bulk_out : (e max : ℕ) (bytes : List ℕ) → bulk_out_of bytes ≡ Some (e, max)
-    → IsBulkOf max (usable_of false false e bytes)
-unfolding usable_under usable_at bulk_out_of first_counting
-usable_of-bulk_out e max bytes h = by_text (config_of bytes) h
-  where
-    by_text : (text : Result (List ℕ) DescriptorFault) → in_config bulk_out_at text ≡ Some (e, max)
-        → IsBulkOf max (usable_in default_settings false false e text)
-    by_text (Err fault) g = cc g
-    by_text (Ok text) g = or_bulk max
-        (first_inside default_settings (bulk_with false false e) None (items_of text)) _
-        (first_with false bulk_out_at e max (out_with e) None (items_of text) g)
-
-pub usable_of-bulk_in : (e max : ℕ) (bytes : List ℕ) → bulk_in_of bytes ≡ Some (e, max)
-    → IsBulkOf max (usable_of false true e bytes)
-unfolding usable_under usable_at bulk_in_of first_counting
-usable_of-bulk_in e max bytes h = by_text (config_of bytes) h
-  where
-    by_text : (text : Result (List ℕ) DescriptorFault) → in_config bulk_in_at text ≡ Some (e, max)
-        → IsBulkOf max (usable_in default_settings false true e text)
-    by_text (Err fault) g = cc g
-    by_text (Ok text) g = or_bulk max
-        (first_inside default_settings (bulk_with false true e) None (items_of text)) _
-        (first_with true bulk_in_at e max (in_with e) None (items_of text) g)
-
 pub usable_under-no_text : (settings : List ℕ) (low to_host : Bool) (e : ℕ) (bytes : List ℕ)
     (fault : DescriptorFault) → config_of bytes ≡ Err fault
     → usable_under settings low to_host e bytes ≡ None
 unfolding usable_under
 usable_under-no_text settings low to_host e bytes fault h = ap (usable_in settings low to_host e) h
-
-pub usable_of-no_text : (low to_host : Bool) (e : ℕ) (bytes : List ℕ) (fault : DescriptorFault)
-    → config_of bytes ≡ Err fault → usable_of low to_host e bytes ≡ None
-usable_of-no_text low to_host e bytes fault h =
-    usable_under-no_text default_settings low to_host e bytes fault h

@@ -5,8 +5,8 @@ use Rattle.std.proofs.Common.{length-drop}
 use Rattle.std.proofs.lemmas.List.{length-take, drop-drop}
 use Rattle.std.proofs.Math.Seq.{take-add}
 use Rattle.std.specs.List.{concat}
-use Rattle.usb_device.specs.{EndpointData, GivesOn, GivesWithin, Source, State, advanced, if_some}
-use Rattle.usb_device.specs.{in_data, packet_in, place_behind}
+use Rattle.usb_device.specs.{EndpointData, GivesOn, Source, advanced, if_some}
+use Rattle.usb_device.specs.{place_behind}
 
 if_some-is : (xs b : List ℕ) → if_some xs ≡ Some b → xs ≡ b
 if_some-is [] b h = cc h
@@ -56,15 +56,6 @@ joined_bytes source most got behind (b ∷ packets) some gives =
     ∙ ap (λ n. take n (drop got source)) (sym (length-append b more))
 
 pub ruleset packets_of_a_source = (joined_bytes, place_of_joined)
-
--- the packets of a source are no longer than its endpoint's maximum
-pub source_within : (e most : ℕ) (s : State) (source : List ℕ) → in_data s e ≡ Source source
-    → GivesWithin most e most s
-source_within e most s source is place b h =
-    let whole = ap (λ content. packet_in content most place) (sym is) ∙ h in
-    let n : length (take most (drop place source)) ≡ length b =
-    ap length (if_some-is (take most (drop place source)) b whole) in
-    omega (arith, n, length-take most (drop place source))
 
 -- one row of packets after another
 pub gives-append : (content : EndpointData) (most got mid behind : ℕ) (a b : List (List ℕ))

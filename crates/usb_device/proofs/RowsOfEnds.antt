@@ -2,7 +2,7 @@
 use Rattle.std.proofs.Common.{◌≡◌, ℕ, zero, suc, ◌+◌, ◌<◌, ◌==◌, ◌||◌, true, false, List, []}
 use Rattle.std.proofs.Common.{◌∷◌, length, map}
 use Rattle.std.proofs.Common.{get_or, slice_set, refl, ap, ap₂, sym, ◌∙◌, arith}
-use Rattle.std.proofs.Common.{Bool, Result, Ok, Err, IfOk, eqb-true}
+use Rattle.std.proofs.Common.{Bool, eqb-true}
 use Rattle.std.proofs.lemmas.Bool.Decides.{nat_tests}
 use Rattle.usb_device.specs.{begun_if, numbered_from, with_at}
 
@@ -106,11 +106,6 @@ module _ {A : Type 0} where
       → begun_if b rested none ≡ none
   begun_if-none rested none same true = same
   begun_if-none rested none same false = refl
-
-pub if_ok-so : {T E P Q : Type 0} (r : Result T E) → (P → Q) → IfOk r (λ done. P)
-    → IfOk r (λ done. Q)
-if_ok-so (Ok v) f h = f h
-if_ok-so (Err e) f h = tt
 
 -- what is so of the end at one number is so of each, where it is so of any that stays
 pub at_each : {A : Type 0} (none : A) (R : A → A → Type 0) → ((y : A) → R y y) → (n : ℕ) (x : A)

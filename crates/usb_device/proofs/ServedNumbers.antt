@@ -1,46 +1,15 @@
 -- Which endpoints are served, by their numbers.
-use Rattle.std.proofs.Common.{◌≡◌, ◌≤◌, ◌+◌, ◌-◌, ◌==◌, ◌||◌, ◌&&◌, nat_le, ℕ, Bool, true, false}
+use Rattle.std.proofs.Common.{◌≡◌, ◌≤◌, ◌+◌, ◌-◌, ◌==◌, ◌&&◌, nat_le, ℕ, Bool, true, false}
 use Rattle.std.proofs.Common.{List}
 use Rattle.std.proofs.Common.{if◌then◌else◌, Option, None, Some, is_some, refl, ap, subst, arith}
 use Rattle.std.proofs.lemmas.Bool.Decides.{nat_tests}
 use Rattle.usb_request.specs.{DIRECTION_IN}
-use Rattle.usb_descriptor.specs.{UsableEndpoint, bulk_in_of, bulk_out_of, default_settings}
-use Rattle.usb_descriptor.specs.{max_of_usable, status_endpoint_of, usable_of, usable_under}
-use Rattle.usb_descriptor.proofs.Interface.{usable_of-bulk_in, usable_of-bulk_out}
+use Rattle.usb_descriptor.specs.{UsableEndpoint}
+use Rattle.usb_descriptor.specs.{max_of_usable, status_endpoint_of, usable_under}
 use Rattle.usb_descriptor.proofs.Interface.{usable_under-small, status_endpoint-usable}
-use Rattle.usb_device.specs.{Registers, Spec, State, bulk_of, in_max, out_max, served, served_at}
-use Rattle.usb_device.specs.{text_of, IsSink, IsSource, BulkIn, BulkOut, Changes, number_or_one}
-use Rattle.usb_device.specs.{status_number, tells_changes}
-use Rattle.usb_device.proofs.Attempts.{same_number}
-
--- while each interface has setting 0, the first bulk endpoint of a direction is served with its own
--- maximum
-pub in_max-is : (e most : ℕ) (s : State) → s.registers.settings ≡ default_settings
-    → bulk_of s true ≡ Some (e, most) → in_max s e ≡ Some most
-in_max-is e most s zeros h = rw zeros (by_speed s.spec.low (s.registers.configuration == 0) h)
-  where
-    text : List ℕ
-    text = text_of s.spec s.registers
-
-    by_speed : (low none : Bool) → (if low || none then None else bulk_in_of text) ≡ Some (e, most)
-        → max_of_usable (if none then None else usable_of low true e text) ≡ Some most
-    by_speed true none h = cc h
-    by_speed false true h = cc h
-    by_speed false false h = ap max_of_usable (usable_of-bulk_in e most text h).1
-
-pub out_max-is : (e most : ℕ) (s : State) → s.registers.settings ≡ default_settings
-    → bulk_of s false ≡ Some (e, most) → out_max s e ≡ Some most
-out_max-is e most s zeros h = rw zeros (by_speed s.spec.low (s.registers.configuration == 0) h)
-  where
-    text : List ℕ
-    text = text_of s.spec s.registers
-
-    by_speed : (low none : Bool)
-        → (if low || none then None else bulk_out_of text) ≡ Some (e, most)
-        → max_of_usable (if none then None else usable_of low false e text) ≡ Some most
-    by_speed true none h = cc h
-    by_speed false true h = cc h
-    by_speed false false h = ap max_of_usable (usable_of-bulk_out e most text h).1
+use Rattle.usb_device.specs.{Registers, Spec, State, out_max, served, served_at}
+use Rattle.usb_device.specs.{text_of, IsSink, IsSource, BulkIn, BulkOut, number_or_one}
+use Rattle.usb_device.specs.{status_number}
 
 -- numbers and maximums
 small_at : (e most : ℕ) (settings : List ℕ) (low is_in none : Bool) (text : List ℕ)
@@ -59,11 +28,6 @@ small_at e most settings low is_in false text h =
     by_end None is g = cc g
     by_end (Some end) is g = subst (λ m. (1 ≤ e) × (e ≤ 15) × (1 ≤ m) × (m ≤ 64)) (ap max_or g)
         (usable_under-small settings low is_in e text end is)
-
-pub in_max-small : (e most : ℕ) (s : State) → in_max s e ≡ Some most
-    → (1 ≤ e) × (e ≤ 15) × (1 ≤ most) × (most ≤ 64)
-in_max-small e most s h = small_at e most s.registers.settings s.spec.low true
-    (s.registers.configuration == 0) (text_of s.spec s.registers) h
 
 pub out_max-small : (e most : ℕ) (s : State) → out_max s e ≡ Some most
     → (1 ≤ e) × (e ≤ 15) × (1 ≤ most) × (most ≤ 64)
@@ -148,8 +112,3 @@ served-in e most s i =
     by_number : (b : Bool) → (e == number) ≡ b → (DIRECTION_IN + e == DIRECTION_IN + number) ≡ b
     by_number true at = grind (arith, nat_tests, at)
     by_number false at = grind (arith, nat_tests, at)
-
--- a hub's status endpoint is named in the same way, also where another one has its number
-pub served-status : (s : Spec) (g : Registers) → tells_changes s g ≡ true
-    → served s g (DIRECTION_IN + status_number s g) ≡ Some Changes
-served-status s g tells = rw (same_number (DIRECTION_IN + status_number s g), tells) refl

@@ -1,11 +1,11 @@
 -- What an interface's setting changes, and what it leaves.
 use Rattle.std.proofs.Common.{◌≡◌, ◌||◌, ◌==◌, if◌then◌else◌, ℕ, Bool, true, false, List, None}
 use Rattle.std.proofs.Common.{refl, ap, ap₂}
-use Rattle.usb_descriptor.specs.{belongs_to, default_settings, max_of_usable, names_in}
-use Rattle.usb_descriptor.specs.{settable_in, setting_of, usable_under, with_setting}
-use Rattle.usb_descriptor.proofs.Interface.{belongs_to-elsewhere, usable-elsewhere, usable-named}
-use Rattle.usb_device.specs.{Registers, Spec, State, begun_if, fresh, in_end, in_max}
-use Rattle.usb_device.specs.{is_of_setting, no_in, no_out, out_end, out_max, reset_state, rested_in}
+use Rattle.usb_descriptor.specs.{belongs_to, max_of_usable, names_in}
+use Rattle.usb_descriptor.specs.{usable_under, with_setting}
+use Rattle.usb_descriptor.proofs.Interface.{belongs_to-elsewhere, usable-elsewhere}
+use Rattle.usb_device.specs.{Registers, Spec, State, begun_if, in_end, in_max}
+use Rattle.usb_device.specs.{is_of_setting, no_in, no_out, out_end, out_max, rested_in}
 use Rattle.usb_device.specs.{rested_out, served_at, set_to, takes_setting, text_of, with_endpoints}
 use Rattle.usb_device.specs.{with_interface}
 use Rattle.usb_device.proofs.RowsOfEnds.{at_numbered, begun_if-none}
@@ -77,22 +77,4 @@ pub in_max-elsewhere : (d : State) (interface setting e : ℕ)
 in_max-elsewhere d interface setting e h =
     ap max_of_usable (served_at-elsewhere d.spec d.registers interface setting true e h)
 
--- where the interface has it, and shares it with no other, its setting alone counts
-pub served_at-named : (s : Spec) (g : Registers) (settings : List ℕ) (interface setting : ℕ)
-    (is_in : Bool) (e : ℕ) → settable_in interface setting (text_of s g) ≡ true
-    → names_in interface is_in e (text_of s g) ≡ true
-    → setting_of settings interface ≡ setting_of g.settings interface
-    → served_at s (record g { settings = settings }) is_in e ≡ served_at s g is_in e
-served_at-named s g settings interface setting is_in e settable named same =
-    served_at-settings s g settings is_in e (usable-named interface setting settings g.settings
-    s.low is_in e (text_of s g) settable named same)
-
 -- A device that is plugged or reset has each setting 0
-
-pub fresh-settings : (s : Spec) → (fresh s).registers.settings ≡ default_settings
-unfolding fresh
-fresh-settings s = refl
-
-pub reset_state-settings : (d : State) → (reset_state d).registers.settings ≡ default_settings
-unfolding reset_state
-reset_state-settings d = refl

@@ -1,10 +1,9 @@
 -- The bits by which a hub tells its changes, and their bytes (11.12.4).
 use Rattle.std.proofs.Common.{◌≡◌, ◌≤◌, ℕ, nat_lt, if◌then◌else◌, Bool, true, false, List, [], ◌∷◌}
-use Rattle.std.proofs.Common.{length, slice_get, Option, None, Some, ◌/◌, ◌%◌, ◌+◌, refl, arith}
-use Rattle.std.proofs.lemmas.Bool.Decides.{nat_tests}
+use Rattle.std.proofs.Common.{slice_get, Option, None, Some, ◌/◌, ◌%◌, refl, arith}
 use Rattle.usb_port.specs.{PortState, has_change}
 use Rattle.usb_device.specs.{change_bits, change_bytes, changed_bit, high_changes, low_changes}
-use Rattle.usb_device.specs.{status_length, told_bits}
+use Rattle.usb_device.specs.{told_bits}
 
 changed_bit-small : (row : List PortState) (i weight : ℕ) → changed_bit row i weight ≤ weight
 changed_bit-small row i weight = by_port (slice_get row i)
@@ -62,16 +61,5 @@ told-back ports row = by_size (nat_lt 7 ports) refl
         → told_bits (if many then bits % 256 ∷ bits / 256 ∷ [] else bits % 256 ∷ []) ≡ bits
     by_size true is = omega arith
     by_size false is = let small = few_bits ports row is in omega (arith, small)
-
--- there are so many bytes
-pub length-change_bytes : (ports bits : ℕ) → ports ≤ 15
-    → length (change_bytes ports bits) ≡ status_length ports
-length-change_bytes ports bits few = by_size (nat_lt 7 ports) refl
-  where
-    by_size : (many : Bool) → nat_lt 7 ports ≡ many
-        → length (if many then bits % 256 ∷ bits / 256 ∷ [] else bits % 256 ∷ []) ≡ ports / 8 + 1
-    by_size true is = let least : 8 ≤ ports = grind (arith, nat_tests, is) in
-        omega (arith, least, few)
-    by_size false is = let most : ports ≤ 7 = grind (arith, nat_tests, is) in omega (arith, most)
 
 pub ruleset told = (low_changes-small, high_changes-small)

@@ -1,10 +1,11 @@
 //! The lines on an entry after the first one: which key, what stands there, what is allowed, and
 //! what was meant.
 
+use crate::allowed::push_allowed_at;
 use crate::endpoints::Within;
 use crate::entry::{Entry, array_of, text_at};
 use crate::flaw::{are_hex_digits, is_word};
-use crate::key::{ENDPOINT_KEYS, PlanKey};
+use crate::key::{DEVICE, ENDPOINT_KEYS, ENDPOINTS, NAME, PATH, PlanKey, REQUESTS};
 use crate::marks::{Anchor, Layout};
 use crate::nearest::nearest;
 use crate::path_slip::{path_slip, push_path_slip};
@@ -14,7 +15,7 @@ use crate::span::{Span, key_span, slip_span, value_span};
 use crate::trouble::{Trouble, is_known};
 use std::alloc::{AllocError, Global};
 use toml::{Table, Value};
-use usb_plan::{Place, PlanFault};
+use usb_plan::{MOST_DAMAGES, MOST_DEVICES, MOST_EVENTS, Place, PlanFault};
 
 /// Where an entry begins.
 fn head_at(layout: &Layout<'_>, place: Place) -> Option<Anchor> {
@@ -36,7 +37,7 @@ fn key_at(layout: &Layout<'_>, place: Place, key: &str) -> Option<Anchor> {
 /// What is marked of a value that is to be digits, or to have them.
 fn marked_digits(layout: &Layout<'_>, anchor: Anchor, key: PlanKey, value: &Value) -> Span {
     match value.as_array() {
-        Some(_) if key == PlanKey::Requests => value_span(layout, anchor),
+        Some(_) if key == REQUESTS => value_span(layout, anchor),
         None => slip_span(layout, anchor, 0),
         Some(values) => match first_undigital(values.as_slice()) {
             None => value_span(layout, anchor),
@@ -67,12 +68,12 @@ fn span_within(
     let within = within?;
     let inner = match within.trouble {
         Trouble::Unknown(key) => key,
-        Trouble::Wrong(key, _) => key.name(),
+        Trouble::Wrong(key, _) => key.name,
         Trouble::Missing(_) | Trouble::OneTooMany => "",
     };
     let (array, number) = array_of(place)?;
     let table = within.index.saturating_add(1);
-    let anchor = layout.within_at(array, number, PlanKey::Endpoints.name(), table, inner)?;
+    let anchor = layout.within_at(array, number, ENDPOINTS.name, table, inner)?;
     Some(marked(layout, anchor, within.trouble, fault))
 }
 
@@ -86,7 +87,7 @@ fn span_at_key(
     let trouble = trouble?;
     let key = match trouble {
         Trouble::Unknown(key) => key,
-        Trouble::Wrong(key, _) => key.name(),
+        Trouble::Wrong(key, _) => key.name,
         Trouble::Missing(_) | Trouble::OneTooMany => return None,
     };
     let anchor = key_at(layout, place, key)?;
@@ -144,7 +145,7 @@ fn push_head(
     let words = entry.place().to_string(alloc)?;
     out.push_str("  ")?;
     out.push_str(words.as_str())?;
-    if let Some(name) = entry.text(PlanKey::Name) {
+    if let Some(name) = entry.text(NAME) {
         out.push_str(" \"")?;
         push_shown(alloc, out, name)?;
         out.push_str("\"")?;
@@ -169,7 +170,7 @@ fn push_keys(alloc: Global, out: &mut String, keys: &[PlanKey]) -> Result<(), Al
         if i > 0 {
             out.push_str(", ")?;
         }
-        push_key(alloc, out, key.name())?;
+        push_key(alloc, out, key.name)?;
     }
     Ok(())
 }
@@ -179,7 +180,7 @@ fn push_trouble(alloc: Global, out: &mut String, trouble: Trouble<'_>) -> Result
     match trouble {
         Trouble::Missing(key) => {
             out.push_str("no key ")?;
-            push_key(alloc, out, key.name())?;
+            push_key(alloc, out, key.name)?;
         }
         Trouble::Unknown(name) => {
             out.push_str("unknown key ")?;
@@ -187,7 +188,7 @@ fn push_trouble(alloc: Global, out: &mut String, trouble: Trouble<'_>) -> Result
         }
         Trouble::Wrong(key, value) => {
             let text = value.to_string(alloc)?;
-            push_key(alloc, out, key.name())?;
+            push_key(alloc, out, key.name)?;
             out.push_str(" is ")?;
             push_shown(alloc, out, text.as_str())?;
         }
@@ -249,12 +250,8 @@ fn push_digits(
     let Some((index, text)) = first_undigital(values.as_slice()) else {
         return Ok(());
     };
-    let part = if key == PlanKey::Requests {
-        ".answer"
-    } else {
-        ""
-    };
-    let place = format!(in alloc; "{}[{index}]{part}, ", key.name())?;
+    let part = if key == REQUESTS { ".answer" } else { "" };
+    let place = format!(in alloc; "{}[{index}]{part}, ", key.name)?;
     push_digit_line(alloc, out, place.as_str(), text)
 }
 
@@ -292,22 +289,22 @@ fn push_slip_line(
     }
 }
 
-/// What is allowed at a key, as far as the fault asks for it.
-fn allowed_for(key: PlanKey, fault: PlanFault) -> &'static str {
+/// Adds what is allowed at a key, as far as the fault asks for it.
+fn push_allowed_for(out: &mut String, key: PlanKey, fault: PlanFault) -> Result<(), AllocError> {
     match (key, fault) {
-        (PlanKey::Path, PlanFault::PortTaken(_)) => "a port where nothing is plugged",
-        (PlanKey::Path, PlanFault::PortEmpty(_)) => "a port where something is plugged",
-        _ => key.allowed(),
+        (PATH, PlanFault::PortTaken(_)) => out.push_str("a port where nothing is plugged"),
+        (PATH, PlanFault::PortEmpty(_)) => out.push_str("a port where something is plugged"),
+        _ => push_allowed_at(out, key),
     }
 }
 
-/// How many entries a plan may have.
-fn room_for(place: Place) -> &'static str {
+/// Adds how many entries a plan may have.
+fn push_room(out: &mut String, place: Place) -> Result<(), AllocError> {
     match place {
-        Place::Top => "no other",
-        Place::Device(_) => "at most 127 devices",
-        Place::Event(_) => "at most 10000 events",
-        Place::Damage(_) => "at most 10000 damages",
+        Place::Top => out.push_str("no other"),
+        Place::Device(_) => write!(out, "at most {MOST_DEVICES} devices"),
+        Place::Event(_) => write!(out, "at most {MOST_EVENTS} events"),
+        Place::Damage(_) => write!(out, "at most {MOST_DAMAGES} damages"),
     }
 }
 
@@ -329,10 +326,10 @@ fn push_allowed(
 ) -> Result<(), AllocError> {
     out.push_str("  allowed: ")?;
     match told.trouble {
-        Trouble::Missing(key) => out.push_str(key.allowed())?,
+        Trouble::Missing(key) => push_allowed_at(out, key)?,
         Trouble::Unknown(_) => push_keys(alloc, out, told.keys)?,
-        Trouble::Wrong(key, _) => out.push_str(allowed_for(key, fault))?,
-        Trouble::OneTooMany => out.push_str(room_for(place))?,
+        Trouble::Wrong(key, _) => push_allowed_for(out, key, fault)?,
+        Trouble::OneTooMany => push_room(out, place)?,
     }
     out.push_str("\n")
 }
@@ -342,13 +339,9 @@ fn push_example(out: &mut String, trouble: Trouble<'_>) -> Result<(), AllocError
     let Trouble::Missing(key) = trouble else {
         return Ok(());
     };
-    match key.example() {
+    match key.example {
         None => Ok(()),
-        Some(line) => {
-            out.push_str("  such as: ")?;
-            out.push_str(line)?;
-            out.push_str("\n")
-        }
+        Some(value) => write!(out, "  such as: {} = {value}\n", key.name),
     }
 }
 
@@ -356,7 +349,7 @@ fn push_example(out: &mut String, trouble: Trouble<'_>) -> Result<(), AllocError
 fn key_names(alloc: Global, keys: &[PlanKey]) -> Result<Vec<&'static str>, AllocError> {
     let mut names = Vec::new(alloc);
     for key in keys {
-        names.push(key.name())?;
+        names.push(key.name)?;
     }
     Ok(names)
 }
@@ -384,7 +377,7 @@ fn misspelled<'a>(
     key: PlanKey,
 ) -> Result<Option<&'a str>, AllocError> {
     let names = unknown_names(alloc, table, keys)?;
-    match nearest(alloc, key.name(), names.as_slice())? {
+    match nearest(alloc, key.name, names.as_slice())? {
         None => Ok(None),
         Some(i) => Ok(names.get(i).copied()),
     }
@@ -443,7 +436,7 @@ fn push_meant_value(
     let Some(word) = first_other(value, key.words()) else {
         return Ok(());
     };
-    if key == PlanKey::Device {
+    if key == DEVICE {
         let names = device_names(alloc, devices)?;
         return push_meant(alloc, out, word, names.as_slice(), "\"");
     }
@@ -460,7 +453,7 @@ fn push_suggestion(
     match told.trouble {
         Trouble::Missing(key) => match misspelled(alloc, told.table, told.keys, key)? {
             None => Ok(()),
-            Some(name) => push_misspelled(alloc, out, key.name(), name),
+            Some(name) => push_misspelled(alloc, out, key.name, name),
         },
         Trouble::Unknown(name) => {
             let names = key_names(alloc, told.keys)?;
@@ -502,7 +495,7 @@ fn push_told(
 
 /// Adds which of the tables within an entry it is: `endpoint[1], `.
 fn push_index(out: &mut String, index: usize) -> Result<(), AllocError> {
-    write!(out, "{}[{index}], ", PlanKey::Endpoints.name())
+    write!(out, "{}[{index}], ", ENDPOINTS.name)
 }
 
 /// The lines behind the first one on an entry's trouble.

@@ -11,13 +11,10 @@ ghost use Rattle.usb_diagnosis.specs.Trouble.{IsTroubleWithin};
 
 use crate::entry::value_at;
 use crate::flaw::{Flaw, are_tables, flaw_of};
-use crate::key::{ENDPOINT_KEYS, PlanKey};
+use crate::key::{ADDRESS, ENDPOINT_KEYS, ENDPOINT_SOURCE, Kind, PACKET_TEXTS, PlanKey};
 use crate::trouble::{Trouble, is_known};
 use toml::{Table, Value};
 use usb_plan::PlanFault;
-
-/// The most tables of endpoints.
-const MOST_ENDPOINTS: usize = 30;
 
 /// A table of `endpoint`, and what of it makes the fault.
 #[derive(Clone, Copy)]
@@ -33,7 +30,7 @@ fn value_of<'a>(table: &'a Table, key: PlanKey) -> Option<&'a Value>
     ensures { option_map (λ v. view v.now) result
         ≡ get_member (key_name key) (table_view table.now) }
 {
-    value_at(table, key.name())
+    value_at(table, key.name)
 }
 
 /// What is wrong with the value at a key, if one stands there.
@@ -72,7 +69,7 @@ fn unknown_key<'a>(table: &'a Table) -> Option<&'a str>
 
 /// The number at `address`, 0 with none.
 fn address_of(table: &Table) -> i64 {
-    match value_of(table, PlanKey::Address) {
+    match value_of(table, ADDRESS) {
         None => 0,
         Some(value) => value.as_integer().unwrap_or(0),
     }
@@ -97,14 +94,14 @@ fn data_trouble<'a>(table: &'a Table) -> Option<Trouble<'a>>
     ensures { IfSome result (IsTroubleWithin (table_view table.now)) }
 {
     if address_of(table) < 128 {
-        if let Some(trouble) = wrong_at(table, PlanKey::EndpointSource) {
+        if let Some(trouble) = wrong_at(table, ENDPOINT_SOURCE) {
             return Some(trouble);
         }
-        return wrong_at(table, PlanKey::PacketTexts);
+        return wrong_at(table, PACKET_TEXTS);
     }
-    match value_of(table, PlanKey::EndpointSource) {
+    match value_of(table, ENDPOINT_SOURCE) {
         None => None,
-        Some(_) => wrong_at(table, PlanKey::PacketTexts),
+        Some(_) => wrong_at(table, PACKET_TEXTS),
     }
 }
 
@@ -119,7 +116,7 @@ fn bad_value<'a>(table: &'a Table, earlier: &[Value]) -> Option<Trouble<'a>>
         return Some(Trouble::Unknown(name));
     }
     if is_taken(address_of(table), earlier) {
-        return wrong_at(table, PlanKey::Address);
+        return wrong_at(table, ADDRESS);
     }
     data_trouble(table)
 }
@@ -129,9 +126,7 @@ fn trouble_in<'a>(table: &'a Table, earlier: &[Value], flaw: Flaw) -> Option<Tro
     ensures { IfSome result (IsTroubleWithin (table_view table.now)) }
 {
     match flaw {
-        Flaw::Key if value_of(table, PlanKey::Address).is_none() => {
-            Some(Trouble::Missing(PlanKey::Address))
-        }
+        Flaw::Key if value_of(table, ADDRESS).is_none() => Some(Trouble::Missing(ADDRESS)),
         Flaw::Key => None,
         Flaw::Value => bad_value(table, earlier),
         Flaw::Digits => flawed(table, Flaw::Digits),
@@ -156,20 +151,20 @@ fn first_within<'a>(values: &'a [Value], flaw: Flaw) -> Option<Within<'a>>
     None
 }
 
-/// The tables of an array of at most 30.
-fn tables_in<'a>(value: &'a Value) -> Option<&'a [Value]> {
+/// The tables of an array of at most so many.
+fn tables_in<'a>(value: &'a Value, most: usize) -> Option<&'a [Value]> {
     let values = value.as_array()?.as_slice();
-    if values.len() <= MOST_ENDPOINTS && are_tables(value) {
+    if values.len() <= most && are_tables(value) {
         Some(values)
     } else {
         None
     }
 }
 
-/// How the value of `endpoint` fails what is allowed there. Of several flaws the first is told, in the
-/// order of faults.
-pub(crate) fn endpoints_flaw(value: &Value) -> Option<Flaw> {
-    let Some(values) = tables_in(value) else {
+/// How the value of `endpoint` fails to be at most so many tables, each an endpoint. Of several flaws
+/// the first is told, in the order of faults.
+pub(crate) fn endpoints_flaw(value: &Value, most: usize) -> Option<Flaw> {
+    let Some(values) = tables_in(value, most) else {
         return Some(Flaw::Value);
     };
     [Flaw::Key, Flaw::Value, Flaw::Digits]
@@ -182,7 +177,14 @@ pub(crate) fn endpoints_flaw(value: &Value) -> Option<Flaw> {
 pub(crate) fn trouble_within<'a>(trouble: Trouble<'a>, fault: PlanFault) -> Option<Within<'a>>
     ensures { IfSome result (λ w. IsTroubleWithin (table_view w.table.now) w.trouble) }
 {
-    let Trouble::Wrong(PlanKey::Endpoints, value) = trouble else {
+    let Trouble::Wrong(
+        PlanKey {
+            kind: Kind::Endpoints(most),
+            ..
+        },
+        value,
+    ) = trouble
+    else {
         return None;
     };
     let flaw = match fault {
@@ -191,5 +193,5 @@ pub(crate) fn trouble_within<'a>(trouble: Trouble<'a>, fault: PlanFault) -> Opti
         PlanFault::BadHex(_) => Flaw::Digits,
         _ => return None,
     };
-    first_within(tables_in(value)?, flaw)
+    first_within(tables_in(value, most)?, flaw)
 }

@@ -7,9 +7,12 @@ ghost use Rattle.usb_diagnosis.specs.Entry.{IsEntry, array_place, entry_keys, ta
 ghost use Rattle.usb_plan.specs.Plan.{values_at};
 ghost use Rattle.usb_diagnosis.specs.Key.{key_name};
 
-use crate::key::{DAMAGE_KEYS, DEVICE_KEYS, PlanKey, TOP_KEYS, WIDE_DEVICE_KEYS, keys_with};
+use crate::key::{
+    BIT, BYTES, DAMAGE_KEYS, DEVICE_KEYS, DO, HOW, PORTS, PlanKey, SETUP, TOP_KEYS,
+    WIDE_DEVICE_KEYS, WIDE_PORTS, keys_with,
+};
 use toml::{Table, Value};
-use usb_plan::Place;
+use usb_plan::{MOST_DAMAGES, MOST_DEVICES, MOST_EVENTS, Place};
 
 /// An entry, with the entries that it is judged beside.
 #[derive(Clone, Copy)]
@@ -161,11 +164,7 @@ impl<'a> Entry<'a> {
     pub(crate) fn ports_key(&self) -> PlanKey
         ensures { key_name result ≡ codes "ports" }
     {
-        if self.wide_hubs() {
-            PlanKey::WidePorts
-        } else {
-            PlanKey::Ports
-        }
+        if self.wide_hubs() { WIDE_PORTS } else { PORTS }
     }
 
     /// The keys that have a meaning in the entry.
@@ -187,18 +186,18 @@ impl<'a> Entry<'a> {
         ensures { option_map (λ v. view v.now) result
             ≡ get_member (key_name key) (table_view self.now.table.now) }
     {
-        value_at(self.table, key.name())
+        value_at(self.table, key.name)
     }
 
     /// The text at a key, where it is one.
     pub(crate) fn text(&self, key: PlanKey) -> Option<&'a str> {
-        text_at(self.table, key.name())
+        text_at(self.table, key.name)
     }
 
     /// Whether `setup` is that of a request that writes bytes: bit 7 of its first byte is clear, and
     /// wLength, its last two, is not 0 (9.3).
     fn writes_bytes(&self) -> bool {
-        match self.text(PlanKey::Setup) {
+        match self.text(SETUP) {
             None => false,
             Some(digits) => {
                 let writes = matches!(digits.as_bytes().first(), Some(b'0'..=b'7'));
@@ -210,9 +209,9 @@ impl<'a> Entry<'a> {
     /// Whether the entry has to have the key.
     pub(crate) fn needs(&self, key: PlanKey) -> bool {
         match key {
-            PlanKey::Bit => self.text(PlanKey::How) == Some("flip"),
-            PlanKey::Bytes if self.text(PlanKey::Do) == Some("control") => self.writes_bytes(),
-            _ => key.example().is_some(),
+            BIT => self.text(HOW) == Some("flip"),
+            BYTES if self.text(DO) == Some("control") => self.writes_bytes(),
+            _ => key.example.is_some(),
         }
     }
 
@@ -220,8 +219,9 @@ impl<'a> Entry<'a> {
     pub(crate) fn is_first_too_many(&self) -> bool {
         match self.place {
             Place::Top => false,
-            Place::Device(number) => number == 128,
-            Place::Event(number) | Place::Damage(number) => number == 10_001,
+            Place::Device(number) => number == MOST_DEVICES + 1,
+            Place::Event(number) => number == MOST_EVENTS + 1,
+            Place::Damage(number) => number == MOST_DAMAGES + 1,
         }
     }
 
@@ -229,8 +229,9 @@ impl<'a> Entry<'a> {
     pub(crate) fn is_one_too_many(&self) -> bool {
         match self.place {
             Place::Top => false,
-            Place::Device(number) => number > 127,
-            Place::Event(number) | Place::Damage(number) => number > 10_000,
+            Place::Device(number) => number > MOST_DEVICES,
+            Place::Event(number) => number > MOST_EVENTS,
+            Place::Damage(number) => number > MOST_DAMAGES,
         }
     }
 }

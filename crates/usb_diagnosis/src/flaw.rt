@@ -1,6 +1,6 @@
 //! How a value fails what its key allows.
 
-use crate::key::{Kind, PlanKey};
+use crate::key::{IN, Kind, OUT, PlanKey};
 use toml::Value;
 
 /// How a value fails what its key allows.
@@ -66,12 +66,12 @@ fn hex_flaw(value: &Value, most: usize) -> Option<Flaw> {
     }
 }
 
-/// How a value fails to be the digits of eight bytes.
-fn setup_flaw(value: &Value) -> Option<Flaw> {
+/// How a value fails to be the digits of exactly so many bytes.
+fn whole_hex_flaw(value: &Value, count: usize) -> Option<Flaw> {
     match value.as_str() {
         None => Some(Flaw::Value),
         Some(digits) if !are_hex_digits(digits) => Some(Flaw::Digits),
-        Some(digits) => flaw_if(digits.len() != 16, Flaw::Value),
+        Some(digits) => flaw_if(digits.len() / 2 != count, Flaw::Value),
     }
 }
 
@@ -81,17 +81,17 @@ fn gives_no_digits(request: &Value) -> bool {
         None => false,
         Some(table) => match table.get("answer") {
             None => false,
-            Some(value) => hex_flaw(value, 65535) == Some(Flaw::Digits),
+            Some(value) => hex_flaw(value, usize::MAX) == Some(Flaw::Digits),
         },
     }
 }
 
-/// How a value fails to be at most 64 tables, each with digits of the bytes that it gives.
-fn requests_flaw(value: &Value) -> Option<Flaw> {
+/// How a value fails to be at most so many tables, each with digits of the bytes that it gives.
+fn requests_flaw(value: &Value, most: usize) -> Option<Flaw> {
     let Some(requests) = value.as_array() else {
         return Some(Flaw::Value);
     };
-    if requests.len() > 64 || !are_tables(value) {
+    if requests.len() > most || !are_tables(value) {
         return Some(Flaw::Value);
     }
     flaw_if(requests.iter().any(|it| gives_no_digits(it)), Flaw::Digits)
@@ -126,18 +126,19 @@ pub(crate) fn flaw_if(failed: bool, flaw: Flaw) -> Option<Flaw> {
 
 /// How a value fails what stands at the key, whatever else the entry has; of `endpoint` the tables alone.
 pub(crate) fn flaw_of(key: PlanKey, value: &Value) -> Option<Flaw> {
-    let fits = match key.kind() {
-        Kind::Number(low, high) => is_number_in(value, low, high),
+    let fits = match key.kind {
+        Kind::Number(low, high) | Kind::NumberAs(low, high, _) => is_number_in(value, low, high),
         Kind::Flag => value.as_bool().is_some(),
-        Kind::Text => value.as_str().is_some(),
-        Kind::Word => is_word(value, key.words()),
-        Kind::Words => are_words(value, key.words()),
-        Kind::Tables | Kind::Endpoints => are_tables(value),
-        Kind::Place => false,
-        Kind::Address => is_number_in(value, 1, 15) || is_number_in(value, 129, 143),
+        Kind::Text(_) => value.as_str().is_some(),
+        Kind::Word(words) => is_word(value, words),
+        Kind::Words(words) => are_words(value, words),
+        Kind::Tables | Kind::Endpoints(_) => are_tables(value),
+        Kind::Place(_) => false,
+        Kind::Address => is_number_in(value, OUT.0, OUT.1) || is_number_in(value, IN.0, IN.1),
+        Kind::AnyHex => return hex_flaw(value, usize::MAX),
         Kind::Hex(most) => return hex_flaw(value, most),
-        Kind::Setup => return setup_flaw(value),
-        Kind::Requests => return requests_flaw(value),
+        Kind::WholeHex(count) => return whole_hex_flaw(value, count),
+        Kind::Requests(most) => return requests_flaw(value, most),
         Kind::Hexes(count, most) => return hexes_flaw(value, count, most),
     };
     flaw_if(!fits, Flaw::Value)

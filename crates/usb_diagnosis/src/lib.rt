@@ -14,6 +14,7 @@
 //! is allowed.
 #![tactic(auto)]
 
+mod allowed;
 mod block;
 mod checking;
 mod details;

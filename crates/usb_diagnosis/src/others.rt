@@ -12,13 +12,16 @@ ghost use Rattle.usb_diagnosis.specs.Trouble.{IsTroubleOf};
 
 use crate::block::block_on;
 use crate::entry::{Entry, values_at};
-use crate::flaw::{Flaw, is_word};
-use crate::key::PlanKey;
+use crate::flaw::Flaw;
+use crate::key::{
+    ATTEMPT, BIT, BYTES, DEVICE, DO, HOW, HUB_DESCRIPTOR, NAME, PATH, PORTS, PlanKey, SETUP, SPEED,
+    WHEN, WIDE_PORTS,
+};
 use crate::marks::Layout;
 use crate::nearest::nearest;
 use crate::path_slip::is_no_path;
 use crate::trouble::{
-    Trouble, flaw_at, has_other_class, is_known, is_named, is_taken_name, last_attempt, number_at,
+    Trouble, flaw_at, has_other_class, has_taken_name, is_known, is_named, last_attempt, number_at,
     wrong_at,
 };
 use std::alloc::{AllocError, Global};
@@ -103,17 +106,17 @@ fn is_first(subject: &Subject<'_>, place: Place, trouble: Trouble<'_>) -> bool {
 
 /// Whether `setup` is good enough to say whether `bytes` is needed.
 fn has_setup(entry: &Entry<'_>) -> bool {
-    match entry.value(PlanKey::Setup) {
+    match entry.value(SETUP) {
         None => false,
-        Some(value) => flaw_at(PlanKey::Setup, value).is_none(),
+        Some(value) => flaw_at(SETUP, value).is_none(),
     }
 }
 
 /// Whether an entry that lacks the key has a fault for that: `when` stands in place of `attempt`.
 fn lacks(entry: &Entry<'_>, key: PlanKey) -> bool {
-    match (key, entry.text(PlanKey::Do)) {
-        (PlanKey::Bytes, Some("control")) => has_setup(entry) && entry.needs(key),
-        (PlanKey::Attempt, _) => entry.value(PlanKey::When).is_none(),
+    match (key, entry.text(DO)) {
+        (BYTES, Some("control")) => has_setup(entry) && entry.needs(key),
+        (ATTEMPT, _) => entry.value(WHEN).is_none(),
         _ => entry.needs(key),
     }
 }
@@ -134,25 +137,15 @@ fn is_bad_path(entry: &Entry<'_>, value: &Value) -> bool {
     }
 }
 
-/// Whether the value is an empty text, or the name of an earlier device.
-fn is_bad_name(entry: &Entry<'_>, value: &Value) -> bool {
-    match value.as_str() {
-        None => false,
-        Some(name) => is_taken_name(entry, name),
-    }
-}
-
 /// Whether a value that its key allows by itself is wrong beside the others of the entry, or beside
 /// those of other entries.
-fn is_wrong_beside(entry: &Entry<'_>, key: PlanKey, value: &Value) -> bool {
+fn is_wrong_beside(entry: &Entry<'_>, key: PlanKey) -> bool {
     match key {
-        PlanKey::Name => is_bad_name(entry, value),
-        PlanKey::HubDescriptor => entry.value(entry.ports_key()).is_none(),
-        PlanKey::Ports | PlanKey::WidePorts => {
-            entry.text(PlanKey::Speed) == Some("low") || has_other_class(entry)
-        }
-        PlanKey::Attempt => number_at(Some(entry.table()), "attempt") <= last_attempt(entry),
-        PlanKey::Bit => matches!(entry.text(PlanKey::How), Some("lose") | Some("pre")),
+        NAME => has_taken_name(entry),
+        HUB_DESCRIPTOR => entry.value(entry.ports_key()).is_none(),
+        PORTS | WIDE_PORTS => entry.text(SPEED) == Some("low") || has_other_class(entry),
+        ATTEMPT => number_at(Some(entry.table()), "attempt") <= last_attempt(entry),
+        BIT => matches!(entry.text(HOW), Some("lose") | Some("pre")),
         _ => false,
     }
 }
@@ -162,11 +155,9 @@ fn fault_beside(entry: &Entry<'_>, key: PlanKey, value: &Value) -> Option<PlanFa
     ensures { IfSome result (λ fault. place_of fault ≡ Some entry.now.place) }
 {
     match key {
-        PlanKey::Device if is_unknown_device(entry, value) => {
-            Some(PlanFault::UnknownDevice(entry.place()))
-        }
-        PlanKey::Path if is_bad_path(entry, value) => Some(PlanFault::BadPath(entry.place())),
-        _ if is_wrong_beside(entry, key, value) => Some(PlanFault::BadValue(entry.place())),
+        DEVICE if is_unknown_device(entry, value) => Some(PlanFault::UnknownDevice(entry.place())),
+        PATH if is_bad_path(entry, value) => Some(PlanFault::BadPath(entry.place())),
+        _ if is_wrong_beside(entry, key) => Some(PlanFault::BadValue(entry.place())),
         _ => None,
     }
 }
@@ -207,9 +198,9 @@ fn found_at<'a>(entry: &Entry<'a>, key: PlanKey) -> Option<Found<'a>>
 /// Whether the keys of an entry are known: those of an event are if its `do` is a word.
 fn has_known_keys(entry: &Entry<'_>) -> bool {
     match entry.place() {
-        Place::Event(_) => match entry.value(PlanKey::Do) {
+        Place::Event(_) => match entry.value(DO) {
             None => false,
-            Some(value) => is_word(value, PlanKey::Do.words()),
+            Some(value) => flaw_at(DO, value).is_none(),
         },
         _ => true,
     }
@@ -232,7 +223,7 @@ fn found_far<'a>(entry: &Entry<'a>) -> Option<Found<'a>>
     if !takes_when(entry) {
         return None;
     }
-    let trouble = wrong_at(entry, PlanKey::When)?;
+    let trouble = wrong_at(entry, WHEN)?;
     Some(Found {
         fault: PlanFault::OnlyFar(entry.place()),
         trouble,
@@ -320,14 +311,14 @@ fn push_far<'a>(
 
 /// Whether the key is `when`, where that has a fault of its own.
 fn is_when(entry: &Entry<'_>, name: &str) -> bool {
-    name == PlanKey::When.name() && takes_when(entry)
+    name == WHEN.name && takes_when(entry)
 }
 
 /// Whether the name is near to that of a key that the entry lacks.
 fn is_meant(alloc: Global, entry: &Entry<'_>, name: &str) -> Result<bool, AllocError> {
     for key in entry.keys() {
         if entry.value(*key).is_none() && lacks(entry, *key) {
-            if nearest(alloc, key.name(), &[name])?.is_some() {
+            if nearest(alloc, key.name, &[name])?.is_some() {
                 return Ok(true);
             }
         }

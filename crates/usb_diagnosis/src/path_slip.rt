@@ -10,6 +10,7 @@ use crate::entry::{Entry, text_at};
 use crate::shown::{push_number, push_shown};
 use std::alloc::{AllocError, Global};
 use toml::{Table, Value};
+use usb_plan::most_ports;
 use usb_port::PortPath;
 
 /// Why a text is a bad path.
@@ -106,7 +107,7 @@ fn with_digit(number: u8, digit: u8, most: u8) -> Option<u8> {
 
 /// Whether the text is numbers of ports, joined by dots, but too many.
 fn is_too_deep(wide: bool, text: &str) -> bool {
-    let most = if wide { 15 } else { 7 };
+    let most = most_ports(wide);
     let mut dots = 0usize;
     let mut number = 0;
     for byte in text.as_bytes() {
@@ -127,7 +128,7 @@ fn is_too_deep(wide: bool, text: &str) -> bool {
 fn has_numbers_of(wide: bool, path: &PortPath) -> bool
     ensures { result ≡ has_numbers_of wide path.now }
 {
-    let most = if wide { 15 } else { 7 };
+    let most = most_ports(wide);
     path.numbers().iter().all(|number| *number <= most)
 }
 
@@ -195,11 +196,7 @@ fn push_path(out: &mut String, path: &PortPath) -> Result<(), AllocError> {
 
 /// Adds that the text is no path, and which one was meant.
 fn push_no_path(alloc: Global, out: &mut String, wide: bool, text: &str) -> Result<(), AllocError> {
-    out.push_str(if wide {
-        "no path of ports, each 1 to 15"
-    } else {
-        "no path of ports, each 1 to 7"
-    })?;
+    write!(out, "no path of ports, each 1 to {}", most_ports(wide))?;
     let Some(path) = meant_path(alloc, wide, text)? else {
         return Ok(());
     };

@@ -12,7 +12,10 @@ ghost use Rattle.usb_diagnosis.specs.Trouble.{IsTroubleOf};
 use crate::endpoints::endpoints_flaw;
 use crate::entry::{Entry, text_at};
 use crate::flaw::{Flaw, are_hex_digits, flaw_of};
-use crate::key::{Kind, PlanKey};
+use crate::key::{
+    ATTEMPT, BIT, BYTES, DESCRIPTOR, DEVICE, DO, HUB_DESCRIPTOR, Kind, NAME, PATH, PlanKey,
+    REQUESTS, SPEED, WHEN,
+};
 use toml::{Table, Value};
 use usb_plan::{Place, PlanFault};
 
@@ -31,8 +34,8 @@ pub(crate) enum Trouble<'a> {
 
 /// How the value at a key of the entry fails what is allowed there.
 pub(crate) fn flaw_at(key: PlanKey, value: &Value) -> Option<Flaw> {
-    match key.kind() {
-        Kind::Endpoints => endpoints_flaw(value),
+    match key.kind {
+        Kind::Endpoints(most) => endpoints_flaw(value, most),
         _ => flaw_of(key, value),
     }
 }
@@ -63,7 +66,7 @@ pub(crate) fn wrong_at<'a>(entry: &Entry<'a>, key: PlanKey) -> Option<Trouble<'a
 fn has_name(key: PlanKey, name: &str) -> bool
     ensures { result ≡ bytes_eq name.now (key_name key) }
 {
-    name == key.name()
+    name == key.name
 }
 
 /// Whether one of the keys has this name.
@@ -116,7 +119,7 @@ pub(crate) fn is_named(value: &Value, name: &str) -> bool {
 }
 
 /// Whether the name is empty or one of an earlier device.
-pub(crate) fn is_taken_name(entry: &Entry<'_>, name: &str) -> bool {
+fn is_taken_name(entry: &Entry<'_>, name: &str) -> bool {
     name.is_empty() || entry.earlier().iter().any(|device| is_named(device, name))
 }
 
@@ -127,9 +130,17 @@ fn has_hub_class(digits: &str) -> bool {
 
 /// Whether the device's descriptor can be read, and has another class than that of hubs.
 pub(crate) fn has_other_class(entry: &Entry<'_>) -> bool {
-    match entry.text(PlanKey::Descriptor) {
+    match entry.text(DESCRIPTOR) {
         None => false,
         Some(digits) => are_hex_digits(digits) && !has_hub_class(digits),
+    }
+}
+
+/// Whether the entry's name is empty or one of an earlier device.
+pub(crate) fn has_taken_name(entry: &Entry<'_>) -> bool {
+    match entry.text(NAME) {
+        None => false,
+        Some(name) => is_taken_name(entry, name),
     }
 }
 
@@ -137,16 +148,14 @@ pub(crate) fn has_other_class(entry: &Entry<'_>) -> bool {
 fn device_trouble<'a>(entry: &Entry<'a>) -> Option<Trouble<'a>>
     ensures { IfSome result (IsTroubleOf entry.now.place (table_view entry.now.table.now)) }
 {
-    if let Some(name) = entry.text(PlanKey::Name) {
-        if is_taken_name(entry, name) {
-            return wrong_at(entry, PlanKey::Name);
-        }
+    if has_taken_name(entry) {
+        return wrong_at(entry, NAME);
     }
     let ports = entry.ports_key();
     if entry.value(ports).is_none() {
-        return wrong_at(entry, PlanKey::HubDescriptor);
+        return wrong_at(entry, HUB_DESCRIPTOR);
     }
-    if entry.text(PlanKey::Speed) == Some("low") || has_other_class(entry) {
+    if entry.text(SPEED) == Some("low") || has_other_class(entry) {
         return wrong_at(entry, ports);
     }
     None
@@ -176,10 +185,10 @@ fn damage_trouble<'a>(entry: &Entry<'a>) -> Option<Trouble<'a>>
     ensures { IfSome result (IsTroubleOf entry.now.place (table_view entry.now.table.now)) }
 {
     if number_at(Some(entry.table()), "attempt") <= last_attempt(entry) {
-        return wrong_at(entry, PlanKey::Attempt);
+        return wrong_at(entry, ATTEMPT);
     }
-    if !entry.needs(PlanKey::Bit) {
-        return wrong_at(entry, PlanKey::Bit);
+    if !entry.needs(BIT) {
+        return wrong_at(entry, BIT);
     }
     None
 }
@@ -189,8 +198,8 @@ fn damage_trouble<'a>(entry: &Entry<'a>) -> Option<Trouble<'a>>
 fn event_trouble<'a>(entry: &Entry<'a>) -> Option<Trouble<'a>>
     ensures { IfSome result (IsTroubleOf entry.now.place (table_view entry.now.table.now)) }
 {
-    if entry.text(PlanKey::Do) == Some("control") && !entry.is_one_too_many() {
-        return wrong_at(entry, PlanKey::Bytes);
+    if entry.text(DO) == Some("control") && !entry.is_one_too_many() {
+        return wrong_at(entry, BYTES);
     }
     None
 }
@@ -212,8 +221,8 @@ fn trouble_beside_others<'a>(entry: &Entry<'a>) -> Option<Trouble<'a>>
 fn inner_trouble<'a>(entry: &Entry<'a>) -> Option<Trouble<'a>>
     ensures { IfSome result (IsTroubleOf entry.now.place (table_view entry.now.table.now)) }
 {
-    match wrong_at(entry, PlanKey::HubDescriptor) {
-        None => wrong_at(entry, PlanKey::Requests),
+    match wrong_at(entry, HUB_DESCRIPTOR) {
+        None => wrong_at(entry, REQUESTS),
         trouble => trouble,
     }
 }
@@ -223,7 +232,7 @@ fn missing_within<'a>(entry: &Entry<'a>) -> Option<Trouble<'a>>
     ensures { IfSome result (IsTroubleOf entry.now.place (table_view entry.now.table.now)) }
 {
     match flawed(entry, Flaw::Key) {
-        None => wrong_at(entry, PlanKey::Requests),
+        None => wrong_at(entry, REQUESTS),
         trouble => trouble,
     }
 }
@@ -252,16 +261,16 @@ pub(crate) fn trouble_of<'a>(entry: &Entry<'a>, fault: PlanFault) -> Option<Trou
     ensures { IfSome result (IsTroubleOf entry.now.place (table_view entry.now.table.now)) }
 {
     match fault {
-        PlanFault::OnlyFar(_) => wrong_at(entry, PlanKey::When),
+        PlanFault::OnlyFar(_) => wrong_at(entry, WHEN),
         PlanFault::MissingKey(_) => match missing_key(entry) {
             None => missing_within(entry),
             Some(key) => Some(Trouble::Missing(key)),
         },
         PlanFault::BadValue(_) => bad_value(entry),
         PlanFault::BadHex(_) => flawed(entry, Flaw::Digits),
-        PlanFault::UnknownDevice(_) => wrong_at(entry, PlanKey::Device),
+        PlanFault::UnknownDevice(_) => wrong_at(entry, DEVICE),
         PlanFault::BadPath(_) | PlanFault::PortTaken(_) | PlanFault::PortEmpty(_) => {
-            wrong_at(entry, PlanKey::Path)
+            wrong_at(entry, PATH)
         }
         PlanFault::Syntax | PlanFault::Memory => None,
     }

@@ -1,4 +1,3 @@
-pub mod DrawnItems
 pub mod DrawingLaws
 pub mod OneLines
 pub mod Characters

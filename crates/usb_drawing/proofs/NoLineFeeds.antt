@@ -81,3 +81,6 @@ lower bytes = encoded lower_digits bytes refl
 
 pub upper : (bytes : List ℕ) → HasNoLineFeed (encode_with upper_digits bytes)
 upper bytes = encoded upper_digits bytes refl
+
+-- of a text that is joined of others, with what is chosen between two
+pub ruleset unbroken = (no_line_feed-append, choice, number, lower, upper)

@@ -20,8 +20,6 @@ pub use Rules.{is_stalled_config, rule_if, rule_of, rule_text}
 pub use Drawings.{columns, drawn_entries, finding_supply, gap, granted_at, heading_end}
 pub use Drawings.{hub_supply, is_unbroken, listed_supply, ruled_line, supply_from, widest}
 unfoldable pub use Drawings.{drawing_lines, entry_line, heading}
-pub use DrawnRuns.{Drawn, DrawnText, IsDrawn, MarksDrawing, RunDrawn, drawn_item, drawn_lines}
-pub use DrawnRuns.{of_plan, unread}
-unfoldable pub use DrawnRuns.{drawn_items}
+pub use DrawnRuns.{IsDrawn, MarksDrawing, RunDrawn, drawn_lines, of_plan, unread}
 pub use declared.art.Style.{Style}
 pub use declared.art.Style.TheVariants.{Ascii, Lines}

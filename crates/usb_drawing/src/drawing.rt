@@ -1,16 +1,15 @@
 //! A plan's text in, the drawings of its run out.
 ghost use Rattle.std.specs.Prelude.{◌≡◌, ◌≢◌, ◌+◌, ◌≤◌, ◌<◌, Ok, Err, true, length, IsErrOf, IfErr, IfOk, IfSome};
 ghost use Rattle.usb_bus.specs.Watch.{inner_of, has_failed, calls_of};
-ghost use Rattle.usb_serve.specs.ServeResults.{IsOfRun};
-ghost use Rattle.usb_drawing.specs.DrawnRuns.{IsDrawn, MarksDrawing, RunDrawn, drawn_lines};
+ghost use Rattle.usb_drawing.specs.DrawnRuns.{IsDrawn, MarksDrawing, drawn_lines};
 
 use crate::art::Style;
 use crate::listing::drawing_lines;
 use std::alloc::{AllocError, Global};
 use std::io::{Read, Write};
 use usb_bus::Watched;
-use usb_run::{Item, RunFault, Runner};
-use usb_serve::{ServeFault, item_lines, next_untraced, number_of, plan_of, write_lines};
+use usb_run::Item;
+use usb_serve::{ItemLines, ServeFault, item_lines, plan_of, write_items};
 use usb_sim::Plan;
 use usb_text::Lines;
 
@@ -44,50 +43,27 @@ pub fn draw<R: Read, W: Write>(
         (W.contents (inner_of writer.old)) result (W.contents (inner_of writer.new)) }
 {
     let plan = plan_of(alloc, reader)?;
-    draw_run(alloc, style, &plan, writer)
+    let drawings = Drawings { style, plan: &plan };
+    write_items(alloc, &plan, &drawings, writer)
 }
 
-/// Runs a plan, and writes the lines of each item when it is made.
-fn draw_run<W: Write>(
-    alloc: Global,
+/// Each item of a plan's run as it is drawn. What refused devices said is not drawn.
+#[derive(Drop)]
+struct Drawings<'a> {
     style: Style,
-    plan: &Plan,
-    writer: &mut Watched<W>,
-) -> Result<(), ServeFault>
-    ensures reader { IsOfRun result }
-    ensures writer { MarksDrawing result (has_failed writer.old) (has_failed writer.new) }
-    ensures drawn { RunDrawn style plan.now
-        (W.contents (inner_of writer.old)) result (W.contents (inner_of writer.new)) }
-{
-    let mut runner = match Runner::untraced(alloc, plan) {
-        Ok(runner) => runner,
-        Err(_) => return Err(ServeFault::Run(RunFault::Memory)),
-    };
-    let mut number = 0;
-    'items: while let Some(item) = next_untraced(&mut runner)? {
-        number = number_of(&item, number);
-        write_lines(
-            writer,
-            drawn_lines(alloc, style, plan, number, &item)?.as_slice(),
-        )?;
-    }
-    Ok(())
+    plan: &'a Plan,
 }
 
-/// The lines of an item of a plan's run; the number is that of a listing. What refused devices said is not drawn.
-fn drawn_lines(
-    alloc: Global,
-    style: Style,
-    plan: &Plan,
-    number: u64,
-    item: &Item,
-) -> Result<Lines, AllocError>
-    ensures { IfOk result (λ lines. lines ≡ drawn_lines style plan.now number item.now) }
-{
-    match item {
-        Item::Listing(tree, taken, _) => {
-            drawing_lines(alloc, style, number, plan, *taken, tree.entries())
+impl<'a> ItemLines for Drawings<'a> {
+    ghost lines = { λ drawings number item.
+        drawn_lines drawings.style drawings.plan.now number item };
+
+    fn lines_of(&self, alloc: Global, number: u64, item: &Item) -> Result<Lines, AllocError> {
+        match item {
+            Item::Listing(tree, taken, _) => {
+                drawing_lines(alloc, self.style, number, self.plan, *taken, tree.entries())
+            }
+            Item::News(_) | Item::Answer(_, _, _) => item_lines(alloc, number, item),
         }
-        Item::News(_) | Item::Answer(_, _, _) => item_lines(alloc, number, item),
     }
 }

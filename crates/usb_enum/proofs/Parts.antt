@@ -1,23 +1,32 @@
 -- How parts of an enumeration join.
-use Rattle.std.proofs.Common.{◌≡◌, ◌+◌, ◌*◌, ◌<◌, ◌≤◌, ℕ, false, List, Option, Result, Err, arith}
-use Rattle.std.proofs.Common.{IsErrAnd}
+use Rattle.std.proofs.Common.{◌≡◌, ◌+◌, ◌*◌, ◌<◌, ◌≤◌, ◌∙◌, ℕ, Bool, true, false, List, Option}
+use Rattle.std.proofs.Common.{None, Some, Result, Ok, Err, IfErr, IsErrAnd, arith, refl, subst}
+use Rattle.std.proofs.Math.Nat.{mul-le-mul_right, suc-mul}
 use Rattle.std.specs.Global.{Vec}
+use Rattle.std.specs.Prelude.{⊤}
 use Rattle.usb_request.specs.{Setup, set_address, set_configuration}
 use Rattle.usb_device.specs.{Spec}
-use Rattle.usb_world.specs.{EachWas, World}
-use Rattle.usb_bus.specs.{StepRun}
-use Rattle.usb_bus.proofs.Interface.{went_none, went_then, went_wider}
+use Rattle.usb_world.specs.{BusFault, EachWas, World}
+use Rattle.usb_bus.specs.{StepRun, Steps}
+use Rattle.usb_bus.proofs.Interface.{went_none, went_wider}
 use Rattle.usb_transaction.specs.{Target}
 use Rattle.usb_address.specs.{KeepsAddresses}
-use Rattle.usb_pipe.specs.{PipeFault, control_bound}
+use Rattle.usb_pipe.specs.{BusToldIt, FaultAfter, PipeFault, UsesBus, control_bound}
+use Rattle.usb_pipe.proofs.Interface.{bound_wide}
 use Rattle.usb_hub.specs.{HubPort, GivesAddress, TextAsked, Queried, Commanded, AddressAsked}
-use Rattle.usb_hub.specs.{ConfigurationAsked, HasText}
-use Rattle.usb_enum.specs.{AtPort, read_bound, OnlyAsks, OnlySets, OnlyTells, Ending, KeepingSteps}
-use Rattle.usb_enum.proofs.courses.Counts.{read_went, went_again, went_times}
+use Rattle.usb_hub.specs.{ConfigurationAsked, EndsAfter, WorksAfter}
+use Rattle.usb_hub.proofs.Interface.{ended_works}
+use Rattle.usb_enum.specs.{AtPort, read_bound, OnlyAsks, OnlySets, OnlyTells, FailsAt, Gone, Cause}
+use Rattle.usb_enum.specs.{EnumFault, IsReportedStop, Part, Stop, StopNotOfBus, answered_or}
+use Rattle.usb_enum.specs.{as_stop, at_port, stop_in}
+use Rattle.usb_enum.proofs.courses.Counts.{went_on_more}
 use Rattle.usb_enum.proofs.devices.Frames.{asks_none, asks_then, at_addressed, at_port_none}
 use Rattle.usb_enum.proofs.devices.Frames.{at_port_then, configuration_sets, sets_asked, sets_then}
 use Rattle.usb_enum.proofs.devices.Frames.{tells_none, tells_then, answer_asks}
-use Rattle.usb_enum.proofs.refusals.Refusals.{handed_match}
+use Rattle.usb_enum.proofs.ports.WorkingBuses.{answer_works, at_port_works}
+use Rattle.usb_enum.proofs.refusals.Refusals.{failed as handed}
+use Rattle.usb_enum.proofs.stops.Reasons.{AtPortFails, call_ends}
+use Rattle.usb_enum.proofs.stops.ReportedFaults.{answers_reported, port_reported}
 
 -- What is kept where nothing went, and from one part to the next
 
@@ -59,113 +68,253 @@ enumerating port address = record {
   joined = at_port_joined port address;
 }
 
--- Steps
+module _ {S : Type 0} {modelled : Bool} {world : S → World} {trace : S → Option (List ℕ)}
+    {spent ports : S → ℕ} {failed : S → Option BusFault} where
+  -- What went, and went on
 
-pub steps_none : {K : World → World → Type 0} (n : ℕ) (w : World) {a : Option (List ℕ)} → Keeping K
-    → KeepingSteps K n w a w a
-steps_none n w keeping = record {
-  went = went_wider 0 n went_none (omega arith);
-  keeps = keeping.none w;
-}
+  pub gone_none : {K : World → World → Type 0} (n : ℕ) {old : S} → Keeping K
+      → Gone modelled world trace spent ports failed K n old None old
+  gone_none n {old} keeping = record {
+    spends = (omega arith, refl);
+    told = tt;
+    steps = λ known. record {
+      went = went_wider 0 n went_none (omega arith);
+      keeps = keeping.none (world old);
+    };
+    works = λ known sound none. none;
+  }
 
-pub steps_joined : {K : World → World → Type 0} {m n : ℕ} {old mid new : World}
-    {a b c : Option (List ℕ)} → Keeping K → KeepingSteps K m old a mid b
-    → KeepingSteps K n mid b new c → KeepingSteps K (m + n) old a new c
-steps_joined {K} {m} {n} {old} {mid} {new} keeping first next = record {
-  went = went_then m n first.went next.went;
-  keeps = keeping.joined m n old mid new first.keeps first.went next.went next.keeps;
-}
+  -- where what was kept in both joins to this
+  pub gone_behind : {K L M : World → World → Type 0} {m n k : ℕ} {old mid new : S}
+      {stop : Option Stop} → Gone modelled world trace spent ports failed K m old None mid
+      → Gone modelled world trace spent ports failed L n mid stop new
+      → (modelled ≡ true → M (world old) (world new)) → m + n ≤ k
+      → Gone modelled world trace spent ports failed M k old stop new
+  gone_behind {m} {n} {k} {old} {mid} {new} first next keeps le =
+      record {
+        spends = (omega (arith, first.spends.0, next.spends.0, le), next.spends.1 ∙ first.spends.1);
+        told = next.told;
+        steps = λ known. record {
+          went = went_on_more k m n (world old) (world mid) (world new) (first.steps known).went
+              (next.steps known).went le;
+          keeps = keeps known;
+        };
+        works = λ known sound none. next.works known sound (first.works known tt none);
+      }
 
-pub steps_wider : {K : World → World → Type 0} {m n : ℕ} {old new : World} {a b : Option (List ℕ)}
-    → KeepingSteps K m old a new b → m ≤ n → KeepingSteps K n old a new b
-steps_wider {K} {m} {n} steps le =
-    record { went = went_wider m n steps.went le; keeps = steps.keeps }
+  pub gone_then : {K : World → World → Type 0} {m n k : ℕ} {old mid new : S} {stop : Option Stop}
+      → Keeping K → Gone modelled world trace spent ports failed K m old None mid
+      → Gone modelled world trace spent ports failed K n mid stop new → m + n ≤ k
+      → Gone modelled world trace spent ports failed K k old stop new
+  gone_then {m} {n} {old} {mid} {new} keeping first next =
+      gone_behind first next (λ known.
+      let a = first.steps known in
+      let b = next.steps known in
+      keeping.joined m n (world old) (world mid) (world new) a.keeps a.went b.went b.keeps)
 
-pub steps_then : {K : World → World → Type 0} {m n k : ℕ} {old mid new : World}
-    {a b c : Option (List ℕ)} → Keeping K → KeepingSteps K m old a mid b
-    → KeepingSteps K n mid b new c → m + n ≤ k → KeepingSteps K k old a new c
-steps_then keeping first next le = steps_wider (steps_joined keeping first next) le
+  pub gone_joined : {K : World → World → Type 0} {m n : ℕ} {old mid new : S} {stop : Option Stop}
+      → Keeping K → Gone modelled world trace spent ports failed K m old None mid
+      → Gone modelled world trace spent ports failed K n mid stop new
+      → Gone modelled world trace spent ports failed K (m + n) old stop new
+  gone_joined keeping first next = gone_then keeping first next (omega arith)
 
--- so many times the same, once more, and no more than there may be
-pub steps_again : {K : World → World → Type 0} (k n : ℕ) {old mid new : World}
-    {a b c : Option (List ℕ)} → Keeping K → KeepingSteps K (k * n) old a mid b
-    → KeepingSteps K n mid b new c → KeepingSteps K ((k + 1) * n) old a new c
-steps_again {K} k n {old} {mid} {new} keeping first next = record {
-  went = went_again k n old mid new first.went next.went;
-  keeps = keeping.joined (k * n) n old mid new first.keeps first.went next.went next.keeps;
-}
+  pub gone_wider : {K : World → World → Type 0} {m n : ℕ} {old new : S} {stop : Option Stop}
+      → Gone modelled world trace spent ports failed K m old stop new → m ≤ n
+      → Gone modelled world trace spent ports failed K n old stop new
+  gone_wider {m} {n} gone le = record {
+    spends = (omega (arith, gone.spends.0, le), gone.spends.1);
+    told = gone.told;
+    steps = λ known. record {
+      went = went_wider m n (gone.steps known).went le;
+      keeps = (gone.steps known).keeps;
+    };
+    works = gone.works;
+  }
 
-pub steps_times : {K : World → World → Type 0} (k m n : ℕ) {old new : World} {a b : Option (List ℕ)}
-    → KeepingSteps K (k * n) old a new b → k ≤ m → KeepingSteps K (m * n) old a new b
-steps_times {K} k m n {old} {new} steps le = record {
-  went = went_times k m n old new steps.went le;
-  keeps = steps.keeps;
-}
+  -- so many times the same, once more, and no more than there may be
+  pub gone_again : {K : World → World → Type 0} (k n : ℕ) {old mid new : S} {stop : Option Stop}
+      → Keeping K → Gone modelled world trace spent ports failed K (k * n) old None mid
+      → Gone modelled world trace spent ports failed K n mid stop new
+      → Gone modelled world trace spent ports failed K ((k + 1) * n) old stop new
+  gone_again k n keeping first next = gone_then keeping first next (omega (arith, suc-mul k n))
 
-pub steps_more : {K : World → World → Type 0} (k m n : ℕ) {old mid new : World}
-    {a b c : Option (List ℕ)} → Keeping K → KeepingSteps K (k * n) old a mid b
-    → KeepingSteps K n mid b new c → k < m → KeepingSteps K (m * n) old a new c
-steps_more k m n keeping first next less =
-    steps_times (k + 1) m n (steps_again k n keeping first next) (omega (arith, less))
+  pub gone_times : {K : World → World → Type 0} (k m n : ℕ) {old new : S} {stop : Option Stop}
+      → Gone modelled world trace spent ports failed K (k * n) old stop new → k ≤ m
+      → Gone modelled world trace spent ports failed K (m * n) old stop new
+  gone_times k m n gone le = gone_wider gone (mul-le-mul_right n le)
 
--- what is kept keeps something else
-pub steps_as : {K L : World → World → Type 0} {n : ℕ} {old new : World} {a b : Option (List ℕ)}
-    → ((v w : World) → K v w → L v w) → KeepingSteps K n old a new b → KeepingSteps L n old a new b
-steps_as {K} {L} {n} {old} {new} f steps =
-    record { went = steps.went; keeps = f old new steps.keeps }
+  pub gone_more : {K : World → World → Type 0} (k m n : ℕ) {old mid new : S} {stop : Option Stop}
+      → Keeping K → Gone modelled world trace spent ports failed K (k * n) old None mid
+      → Gone modelled world trace spent ports failed K n mid stop new → k < m
+      → Gone modelled world trace spent ports failed K (m * n) old stop new
+  gone_more k m n keeping first next less =
+      gone_times (k + 1) m n (gone_again k n keeping first next) (omega (arith, less))
 
--- a request for data, at a maximum packet of 8 or more
-pub steps_asked : (given : Spec → Option (List ℕ)) {t : Target} {request : Setup} {wanted : ℕ}
-    (bytes : ℕ) {outcome : Result (Vec ℕ) PipeFault} {old new : World} {a b : Option (List ℕ)}
-    → 8 ≤ t.max → StepRun (control_bound t.max bytes) old a new b
-    → Queried t request old outcome new
-    → (new.shared ≡ false → EachWas (TextAsked given t wanted outcome) old new)
-    → KeepsAddresses old new → KeepingSteps OnlyAsks (read_bound bytes) old a new b
-steps_asked given {t} {request} {wanted} bytes {outcome} {old} {new} wide went asked what keeps =
-    record {
-      went = read_went t.max bytes old new wide went;
-      keeps = answer_asks given (λ s b. HasText (given s.spec) t wanted s b.items) t request outcome
-          outcome old new asked what keeps;
-    }
+  -- what is kept keeps something else
+  pub gone_as : {K L : World → World → Type 0} {n : ℕ} {old new : S} {stop : Option Stop}
+      → ((v w : World) → K v w → L v w)
+      → Gone modelled world trace spent ports failed K n old stop new
+      → Gone modelled world trace spent ports failed L n old stop new
+  gone_as {old} {new} f gone = record {
+    spends = gone.spends;
+    told = gone.told;
+    steps = λ known. record {
+      went = (gone.steps known).went;
+      keeps = f (world old) (world new) (gone.steps known).keeps;
+    };
+    works = gone.works;
+  }
 
--- SET_ADDRESS, at address 0
-pub steps_addressed : {p : HubPort} {a m n : ℕ} {t : Target} {r : Result (Unit {0}) PipeFault}
-    {old mid new : World} {x y z : Option (List ℕ)} → KeepingSteps (AtPort p a) m old x mid y
-    → t.addr ≡ 0 → 1 ≤ a → StepRun n mid y new z → Commanded t (set_address a) mid r new
-    → (new.shared ≡ false → EachWas (AddressAsked t a r mid new) mid new)
-    → GivesAddress t.addr a mid new → KeepingSteps (AtPort p a) (m + n) old x new z
-steps_addressed {p} {a} {m} {n} {t} {r} {old} {mid} {new} first zero least went made what gives =
-    record {
-      went = went_then m n first.went went;
-      keeps = at_addressed p a n t r old mid new first.keeps zero least went made what gives;
-    }
+  -- then something stopped it
+  pub gone_stopped : {K : World → World → Type 0} {n : ℕ} {old new : S} {stop : Stop}
+      → Gone modelled world trace spent ports failed K n old None new
+      → IsReportedStop stop (failed new)
+      → Gone modelled world trace spent ports failed K n old (Some stop) new
+  gone_stopped gone told = record {
+    spends = gone.spends;
+    told = told;
+    steps = gone.steps;
+    works = λ known sound. gone.works known tt;
+  }
 
--- SET_CONFIGURATION
-pub steps_set : {n value : ℕ} {t : Target} {result : Result (Unit {0}) PipeFault} {old new : World}
-    {a b : Option (List ℕ)} → StepRun n old a new b
-    → Commanded t (set_configuration value) old result new
-    → (new.shared ≡ false → EachWas (ConfigurationAsked t value result new) old new)
-    → KeepsAddresses old new → KeepingSteps (OnlySets t.addr) n old a new b
-steps_set {n} {value} {t} {result} {old} {new} went ordered what keeps = record {
-  went = went;
-  keeps = configuration_sets t value result old new ordered what keeps;
-}
+  -- what is an end of a request need not stop what goes on
+  pub gone_on : {K : World → World → Type 0} {n : ℕ} {old new : S} {stop : Stop}
+      → Gone modelled world trace spent ports failed K n old (Some stop) new → StopNotOfBus stop
+      → Gone modelled world trace spent ports failed K n old None new
+  gone_on gone sound = record {
+    spends = gone.spends;
+    told = tt;
+    steps = gone.steps;
+    works = λ known allowed. gone.works known sound;
+  }
 
--- Parts
+  -- or perhaps nothing
+  pub gone_ended : {A : Type 0} {K : World → World → Type 0} {n : ℕ} {old new : S}
+      (result : Result A Stop) → Gone modelled world trace spent ports failed K n old None new
+      → IfErr result (λ stop. IsReportedStop stop (failed new))
+      → Gone modelled world trace spent ports failed K n old (stop_in result) new
+  gone_ended (Ok done) gone told = gone
+  gone_ended (Err stop) gone told = gone_stopped gone told
 
--- an error that is handed on
-pub part_fails : {A E : Type 0} {K : World → World → Type 0} {n : ℕ}
-    {Gives : World → World → A → Type 0} {Stops : World → World → E → Type 0} {old new : World}
-    {a b : Option (List ℕ)} (result : Result A E) (why : E) → IsErrAnd result (λ e. e ≡ why)
-    → KeepingSteps K n old a new b → Stops old new why → Ending K n Gives Stops old a result new b
-part_fails result why same steps stops = record {
-  steps = steps;
-  ends = handed_match result _ _ why same stops;
-}
+  -- Requests
 
-pub part_handed : {A B E : Type 0} {K : World → World → Type 0} {n : ℕ}
-    {Gives : World → World → A → Type 0} {Gave : World → World → B → Type 0}
-    {Stops : World → World → E → Type 0} {old new : World} {a b : Option (List ℕ)}
-    (result : Result A E) (why : E) → IsErrAnd result (λ e. e ≡ why)
-    → Ending K n Gave Stops old a (Err why) new b → Ending K n Gives Stops old a result new b
-part_handed result why same part = part_fails result why same part.steps part.ends
+  pub gone_answered : {A : Type 0} {K : World → World → Type 0} {n : ℕ} (least : ℕ)
+      (stalled : Cause) (outcome : Result A PipeFault) {result : Result A Stop} {old new : S}
+      → result ≡ answered_or stalled outcome
+      → UsesBus modelled (Steps world trace) spent ports failed n (BusToldIt outcome) old new
+      → (modelled ≡ true → EndsAfter least (world old) outcome (world new))
+      → (modelled ≡ true → K (world old) (world new))
+      → Gone modelled world trace spent ports failed K n old (stop_in result) new
+  gone_answered least stalled outcome {old} {new} is uses ends keeps = rw is (record {
+    spends = uses.spends;
+    told = answers_reported (failed new) stalled outcome uses.told;
+    steps = λ known. record { went = uses.steps known; keeps = keeps known };
+    works = λ known. answer_works stalled outcome (world old) (world new)
+        (ended_works least outcome (world old) (world new) (ends known));
+  })
+
+  -- at a maximum packet of 8 or more
+  pub uses_read : {Told : Option BusFault → Type 0} (max bytes : ℕ) {old new : S} → 8 ≤ max
+      → UsesBus modelled (Steps world trace) spent ports failed (control_bound max bytes) Told old
+      new
+      → UsesBus modelled (Steps world trace) spent ports failed (read_bound bytes) Told old new
+  uses_read {Told} max bytes {old} {new} wide = subst
+      (λ n. UsesBus modelled (Steps world trace) spent ports failed n Told old new)
+      (bound_wide max bytes wide)
+
+  -- for data
+  pub gone_asked : (given : Spec → Option (List ℕ)) {t : Target} {request : Setup} {wanted : ℕ}
+      (bytes : ℕ) (stalled : Cause) {outcome : Result (Vec ℕ) PipeFault}
+      {result : Result (Vec ℕ) Stop} {old new : S} → 8 ≤ t.max
+      → result ≡ answered_or stalled outcome
+      → UsesBus modelled (Steps world trace) spent ports failed (control_bound t.max bytes)
+      (BusToldIt outcome) old new
+      → (modelled ≡ true → Queried t request (world old) outcome (world new))
+      → (modelled ≡ true → (world new).shared ≡ false
+      → EachWas (TextAsked given t wanted outcome) (world old) (world new))
+      → (modelled ≡ true → KeepsAddresses (world old) (world new))
+      → Gone modelled world trace spent ports failed OnlyAsks (read_bound bytes) old
+      (stop_in result) new
+  gone_asked given {t} bytes stalled {outcome} wide is uses asked what keeps =
+      gone_answered 3 stalled outcome is (uses_read t.max bytes wide uses)
+      (λ known. (asked known).ends) (λ known. answer_asks (asked known) (what known) (keeps known))
+
+  -- SET_ADDRESS, at address 0
+  pub gone_addressed : {p : HubPort} {a m n : ℕ} {t : Target} (stalled : Cause)
+      {outcome : Result (Unit {0}) PipeFault} {result : Result (Unit {0}) Stop} {old mid new : S}
+      → Gone modelled world trace spent ports failed (AtPort p a) m old None mid → t.addr ≡ 0
+      → 1 ≤ a → result ≡ answered_or stalled outcome
+      → UsesBus modelled (Steps world trace) spent ports failed n (BusToldIt outcome) mid new
+      → (modelled ≡ true → Commanded t (set_address a) (world mid) outcome (world new))
+      → (modelled ≡ true → (world new).shared ≡ false
+      → EachWas (AddressAsked t a outcome (world mid) (world new)) (world mid) (world new))
+      → (modelled ≡ true → GivesAddress t.addr a (world mid) (world new))
+      → Gone modelled world trace spent ports failed (AtPort p a) (m + n) old (stop_in result) new
+  gone_addressed {p} {a} {n} {t} stalled {outcome} {old} {mid} {new} first zero least is uses
+      ordered what gives =
+      gone_behind first (gone_answered {K = λ v w. ⊤} 2 stalled outcome is uses
+      (λ known. (ordered known).ends) (λ known. tt)) (λ known. at_addressed p a n t outcome
+      (world old) (world mid) (world new) (first.steps known).keeps zero least (uses.steps known)
+      (ordered known) (what known) (gives known)) (omega arith)
+
+  -- SET_CONFIGURATION
+  pub gone_set : {n value : ℕ} {t : Target} (stalled : Cause)
+      {outcome : Result (Unit {0}) PipeFault} {result : Result (Unit {0}) Stop} {old new : S}
+      → result ≡ answered_or stalled outcome
+      → UsesBus modelled (Steps world trace) spent ports failed n (BusToldIt outcome) old new
+      → (modelled ≡ true → Commanded t (set_configuration value) (world old) outcome (world new))
+      → (modelled ≡ true → (world new).shared ≡ false
+      → EachWas (ConfigurationAsked t value outcome (world new)) (world old) (world new))
+      → (modelled ≡ true → KeepsAddresses (world old) (world new))
+      → Gone modelled world trace spent ports failed (OnlySets t.addr) n old (stop_in result) new
+  gone_set {value} {t} stalled {outcome} {old} {new} is uses ordered what keeps =
+      gone_answered 2 stalled outcome is uses (λ known. (ordered known).ends)
+      (λ known. configuration_sets t value outcome (world old) (world new) (ordered known)
+      (what known) (keeps known))
+
+  -- Parts
+
+  -- an error that is handed on
+  pub part_failed : {A : Type 0} {K : World → World → Type 0} {n : ℕ}
+      {Gives : World → World → A → Type 0} {Stops : World → World → Stop → Type 0} {old new : S}
+      {result : Result A Stop} {why : Stop} → IsErrAnd result (λ e. e ≡ why)
+      → Gone modelled world trace spent ports failed K n old (Some why) new
+      → (modelled ≡ true → Stops (world old) (world new) why)
+      → Part modelled world trace spent ports failed K n Gives Stops old result new
+  part_failed {result} same gone stops =
+      rw (handed result same) (record { gone = gone; ends = stops })
+
+  -- a call at the port
+  pub part_called : {A : Type 0} (port : HubPort) {K : World → World → Type 0} {n : ℕ} {old new : S}
+      (result : Result A EnumFault) (outcome : Result A PipeFault) → result ≡ at_port outcome
+      → UsesBus modelled (Steps world trace) spent ports failed n (BusToldIt outcome) old new
+      → (modelled ≡ true → IfErr outcome (λ why. FaultAfter 1 (world old) why (world new)))
+      → (modelled ≡ true → (why : PipeFault) → outcome ≡ Err why
+      → AtPortFails port why (world old) (world new))
+      → (modelled ≡ true → WorksAfter outcome (world old) (world new))
+      → (modelled ≡ true → K (world old) (world new))
+      → Part modelled world trace spent ports failed K n (λ v w x. ⊤) (FailsAt port) old
+      (as_stop result) new
+  part_called port {old} {new} (Ok done) outcome is uses ends fails works keeps =
+      record {
+        gone = record {
+          spends = uses.spends;
+          told = tt;
+          steps = λ known. record { went = uses.steps known; keeps = keeps known };
+          works = λ known sound.
+              at_port_works (Ok done) outcome (world old) (world new) is (works known);
+        };
+        ends = λ known. tt;
+      }
+  part_called port {old} {new} (Err fault) outcome is uses ends fails works keeps =
+      record {
+        gone = record {
+          spends = uses.spends;
+          told = port_reported (failed new) outcome fault uses.told is;
+          steps = λ known. record { went = uses.steps known; keeps = keeps known };
+          works = λ known.
+              at_port_works (Err fault) outcome (world old) (world new) is (works known);
+        };
+        ends = λ known. call_ends port (Err fault) outcome (world old) (world new) is (ends known)
+            (fails known);
+      }

@@ -1,5 +1,5 @@
 -- What an enumeration finds, and what it leaves.
-use Rattle.std.specs.Prelude.{◌≡◌, ◌⊎◌, ◌≤◌, ℕ, ◌+◌, ◌*◌, List, Bool, true, false, Option}
+use Rattle.std.specs.Prelude.{◌≡◌, ◌⊎◌, ◌≤◌, ℕ, ◌+◌, ◌*◌, List, true, false, Option}
 use Rattle.std.specs.Prelude.{None, Some, Result, Ok, Err, IfOk, IfSome, MatchResult, length}
 use Rattle.usb_request.specs.{PORT_ENABLE, clear_port_feature}
 use Rattle.usb_device.specs.{state_there, State}

@@ -44,7 +44,7 @@ pub use Hub.{CountTold, IsPowered, Powered, Started, SupplyTold}
 pub use LastRequests.{Leads}
 pub use LearnedFacts.{DeviceFact, Explained, ExplainsSet, FailureReason, Hears, HearsSet, Learned}
 pub use Losses.{FewLosses, NoNewStretch}
-pub use Parts.{Answered, Both, Ending, FailsAt, IsDone, KeepingSteps, Part, Read, StopsAt}
+pub use Parts.{Answered, Both, FailsAt, Gone, IsDone, KeepingSteps, Part, Read, StopsAt}
 pub use Parts.{StopsConfiguring, StopsDescriptor, StopsExamining, StopsHead, StopsHub, StopsPower}
 pub use Parts.{EndsWithout, StopsRead, StopsStart, StopsText, StopsTexts, StopsWithout}
 pub use Parts.{TakesAddressed}
@@ -76,7 +76,7 @@ pub use Stops.{ComesEarly, IsEarly, IsEarlyRequest, IsEarlyStop}
 pub use Stops.{CanFail, CauseAllowedIn, CauseAllowedOfDevice, CauseAllowedWithout, FaultAllowed}
 pub use Stops.{FaultAllowedAt, FitsStop, FitsTier, IsHubStop, IsPlain, IsPlainStop, IsReported}
 pub use Stops.{IsReportedStop, IsStopWithout, StopFaults, answered_or, at_port, fault_at_port}
-pub use Stops.{stop_of, EnumWorks, IsNotOfBus, StopNotOfBus, StopWorks}
+pub use Stops.{stop_of, EnumWorks, IsNotOfBus, NotOfBus, StopNotOfBus, as_stop, stop_in}
 pub use StringRequests.{AsksLanguage, AsksString, AsksStrings, EndsWithStrings, NamesNone, ReadsBy}
 pub use StringRequests.{ReadsIn, ReadsString, ReadsStrings, asked, given, named, refused, unnamed}
 pub use Text.{ValuesDiffer, any_has_value, choice_of, config_text_of, first_language_of, first_unit}

@@ -1,16 +1,16 @@
 -- What a part of an enumeration says: how many attempts it makes, what it keeps of all else, and
 -- what it gives or why it stops.
-use Rattle.std.specs.Prelude.{ℕ, Bool, List, Option, Result, MatchResult, ⊤}
+use Rattle.std.specs.Prelude.{◌≡◌, ℕ, Bool, true, List, Option, Result, IfSome, MatchResult, ⊤}
 use Rattle.usb_device.specs.{Spec}
-use Rattle.usb_world.specs.{World}
-use Rattle.usb_bus.specs.{StepRun}
+use Rattle.usb_world.specs.{BusFault, World}
+use Rattle.usb_bus.specs.{Spends, StepRun}
 use Rattle.usb_transaction.specs.{Target}
-use Rattle.usb_hub.specs.{HubPort}
+use Rattle.usb_hub.specs.{HubPort, StillWorks}
 use Rattle.usb_enum.specs.declared.addressed.Addressed.{Addressed}
 use Rattle.usb_enum.specs.declared.cause.Cause.{Cause}
-use Rattle.usb_enum.specs.declared.fault.EnumFault.{EnumFault}
 use Rattle.usb_enum.specs.declared.options.HostOptions.{HostOptions}
 use Rattle.usb_enum.specs.declared.stop.Stop.{Stop}
+use Rattle.usb_enum.specs.declared.stop.Stop.TheVariants.{Refused, Fault}
 use Rattle.usb_enum.specs.FairEnumerations.{StopsFairly}
 use Rattle.usb_enum.specs.Frames.{OnlyAsks}
 use Rattle.usb_enum.specs.LearnedFacts.{FailureReason, ExplainsSet, DeviceFact}
@@ -24,6 +24,7 @@ use Rattle.usb_enum.specs.Refusals.{configured_fault, head_fault, hub_fault, sta
 use Rattle.usb_enum.specs.Verdicts.{config_fault, first_fault}
 use Rattle.usb_enum.specs.Refusals.{unaddressed_fault, whole_fault}
 use Rattle.usb_enum.specs.Said.{Says}
+use Rattle.usb_enum.specs.Stops.{IsReportedStop, NotOfBus, stop_in}
 
 -- at most so many attempts were made, and this was kept
 pub record KeepingSteps (Keeps : World → World → Type 0) (most : ℕ) (old : World)
@@ -31,24 +32,34 @@ pub record KeepingSteps (Keeps : World → World → Type 0) (most : ℕ) (old :
   pub went : StepRun most old before new now
   pub keeps : Keeps old new
 
--- besides, this is so of what was given, or of why it stopped
-pub record Ending {A E : Type 0} (Keeps : World → World → Type 0) (most : ℕ)
-    (Gives : World → World → A → Type 0) (Stops : World → World → E → Type 0) (old : World)
-    (before : Option (List ℕ)) (result : Result A E) (new : World)
-    (now : Option (List ℕ)) : Type 0 where
-  pub steps : KeepingSteps Keeps most old before new now
-  pub ends : MatchResult result (Gives old new) (Stops old new)
+-- What went over a bus until something stopped it, or nothing did. Of one that does what its world
+-- does, this was kept, and it works if it did, unless a fault of the bus stopped it.
+pub record Gone {S : Type 0} (modelled : Bool) (world : S → World) (trace : S → Option (List ℕ))
+    (spent ports : S → ℕ) (failed : S → Option BusFault) (Keeps : World → World → Type 0) (most : ℕ)
+    (old : S) (stop : Option Stop) (new : S) : Type 0 where
+  pub spends : Spends spent ports most old new
+  -- a fault of the bus is the one that it reported last
+  pub told : IfSome stop (λ why. IsReportedStop why (failed new))
+  pub steps : modelled ≡ true
+      → KeepingSteps Keeps most (world old) (trace old) (world new) (trace new)
+  pub works : modelled ≡ true → NotOfBus stop → StillWorks (world old) (world new)
 
--- a part of an enumeration over a bus
-abbrev pub Part : {S A E : Type 0} → (S → World) → (S → Option (List ℕ)) → (World → World → Type 0)
-    → ℕ → (World → World → A → Type 0) → (World → World → E → Type 0) → S → Result A E → S → Type 0
-Part world trace Keeps most Gives Stops old result new =
-    Ending Keeps most Gives Stops (world old) (trace old) result (world new) (trace new)
+-- A part of an enumeration over a bus: what went, and of one that does what its world does, what is
+-- so of what was given, or of why it stopped.
+pub record Part {S A : Type 0} (modelled : Bool) (world : S → World) (trace : S → Option (List ℕ))
+    (spent ports : S → ℕ) (failed : S → Option BusFault) (Keeps : World → World → Type 0) (most : ℕ)
+    (Gives : World → World → A → Type 0) (Stops : World → World → Stop → Type 0) (old : S)
+    (result : Result A Stop) (new : S) : Type 0 where
+  pub gone : Gone modelled world trace spent ports failed Keeps most old (stop_in result) new
+  pub ends : modelled ≡ true
+      → MatchResult result (Gives (world old) (world new)) (Stops (world old) (world new))
 
 -- one that reads a device
-abbrev pub Read : {S A E : Type 0} → (S → World) → (S → Option (List ℕ)) → ℕ
-    → (World → World → A → Type 0) → (World → World → E → Type 0) → S → Result A E → S → Type 0
-Read world trace = Part world trace OnlyAsks
+abbrev pub Read : {S A : Type 0} → Bool → (S → World) → (S → Option (List ℕ)) → (S → ℕ) → (S → ℕ)
+    → (S → Option BusFault) → ℕ → (World → World → A → Type 0) → (World → World → Stop → Type 0)
+    → S → Result A Stop → S → Type 0
+Read modelled world trace spent ports failed =
+    Part modelled world trace spent ports failed OnlyAsks
 
 -- this was told, and for it this is so
 pub record Both {A : Type 0} (Told So : World → World → A → Type 0) (old new : World)
@@ -140,5 +151,6 @@ StopsExamining port address options tier supply =
 abbrev pub IsDone : World → World → Unit {0} → Type 0
 IsDone old new done = ⊤
 
-abbrev pub FailsAt : HubPort → World → World → EnumFault → Type 0
-FailsAt port old new fault = FaultBy port fault old new
+abbrev pub FailsAt : HubPort → World → World → Stop → Type 0
+FailsAt port old new (Refused cause) = ⊥
+FailsAt port old new (Fault fault) = FaultBy port fault old new

@@ -56,9 +56,20 @@ abbrev pub EnumWorks : {X : Type 0} → Result X EnumFault → World → World �
 EnumWorks result old new = MatchResult result (λ done. StillWorks old new)
     (λ f. IsNotOfBus f → StillWorks old new)
 
-abbrev pub StopWorks : {X : Type 0} → Result X Stop → World → World → Type 0
-StopWorks result old new = MatchResult result (λ done. StillWorks old new)
-    (λ stop. StopNotOfBus stop → StillWorks old new)
+-- what stopped a part of an enumeration, if something did
+abbrev pub stop_in : {X : Type 0} → Result X Stop → Option Stop
+stop_in (Ok done) = None
+stop_in (Err stop) = Some stop
+
+-- that was no fault of the bus
+abbrev pub NotOfBus : Option Stop → Type 0
+NotOfBus None = ⊤
+NotOfBus (Some stop) = StopNotOfBus stop
+
+-- a call at a port as a part of an enumeration
+abbrev pub as_stop : {X : Type 0} → Result X EnumFault → Result X Stop
+as_stop (Ok done) = Ok done
+as_stop (Err fault) = Err (Fault fault)
 
 -- a request to a hub's port may fail; a root port is a register
 abbrev pub CanFail : HubPort → Type 0

@@ -1,5 +1,5 @@
 //! The configurations of a device: each is read, and one is chosen.
-ghost use Rattle.std.specs.Prelude.{◌≡◌, ◌≤◌, ◌<◌, ◌*◌, ℕ, Option, length, false, true, IfOk, IfErr, IfSome, MatchResult};
+ghost use Rattle.std.specs.Prelude.{◌≡◌, ◌≤◌, ◌<◌, ◌*◌, ℕ, Option, length, false, true, IfSome, MatchResult};
 ghost use Rattle.usb_request.specs.Codes.{CONFIGURATION_LENGTH};
 ghost use Rattle.usb_transaction.specs.Transactions.{IsTarget};
 ghost use Rattle.usb_enum.specs.Bounds.{read_bound, configuration_bound, texts_bound};
@@ -9,8 +9,7 @@ ghost use Rattle.usb_enum.specs.Readings.{HasTotal, HasConfiguration, HasConfigu
 ghost use Rattle.usb_enum.specs.Reasons.{HeadRead, TextRead, TextsAsked};
 ghost use Rattle.usb_enum.specs.Text.{ValuesDiffer, choice_of, texts_length};
 ghost use Rattle.usb_enum.specs.TextLengths.{IsAnswered, ReadsText, FewFor};
-ghost use Rattle.usb_bus.specs.Traces.{Spends};
-ghost use Rattle.usb_enum.specs.Stops.{IsPlainStop, IsReportedStop, StopWorks};
+ghost use Rattle.usb_enum.specs.Stops.{IsPlainStop};
 
 use crate::options::{is_over, left_of};
 use crate::stop::{Stop, answered_or};
@@ -30,16 +29,13 @@ const HEAD: u16 = CONFIGURATION_LENGTH as u16;
 fn total_length<B: Bus>(alloc: Global, bus: &mut B, target: Target, index: u8) -> Result<u16, Stop>
     requires target { IsTarget target }
     requires max { 8 ≤ target.max }
-    ensures any_bus { Spends B.spent B.ports (read_bound CONFIGURATION_LENGTH) bus.old bus.new
-        × IfErr result (λ stop. IsReportedStop stop (B.failed bus.new)) }
     ensures fits { MatchResult result
         (λ total. (CONFIGURATION_LENGTH ≤ total) × (total ≤ 65535)) IsPlainStop }
-    ensures read { B.modelled ≡ true → (room : Option ℕ)
-        → Read B.world B.trace (read_bound CONFIGURATION_LENGTH)
+    ensures read { (room : Option ℕ) → Read B.modelled B.world B.trace B.spent B.ports B.failed
+        (read_bound CONFIGURATION_LENGTH)
         (Answered target (λ old new total. HeadRead target index total old new
         × IsAnswered target new) (HasTotal index))
         (StopsRead target (λ spec. config_fault room spec index)) bus.old result bus.new }
-    ensures works { B.modelled ≡ true → StopWorks result (B.world bus.old) (B.world bus.new) }
 {
     let stalled = Cause::Stalled(Request::Config);
     let head = answered_or(stalled, get_config(alloc, bus, target, index, HEAD))?;
@@ -60,16 +56,12 @@ fn read_text<B: Bus>(
 ) -> Result<ConfigText, Stop>
     requires target { IsTarget target }
     requires max { 8 ≤ target.max }
-    ensures any_bus { Spends B.spent B.ports configuration_bound bus.old bus.new
-        × IfErr result (λ stop. IsReportedStop stop (B.failed bus.new)) }
     ensures fits { MatchResult result (λ text. is_over room (length text) ≡ false) IsPlainStop }
-    ensures read { B.modelled ≡ true → Read B.world B.trace configuration_bound
-        (Answered target (λ old new text. TextRead target index text old new)
-        (HasConfiguration room index))
-        (StopsText room target index) bus.old result bus.new }
+    ensures read { Read B.modelled B.world B.trace B.spent B.ports B.failed
+        configuration_bound (Answered target (λ old new text. TextRead target index text old new)
+        (HasConfiguration room index)) (StopsText room target index) bus.old result bus.new }
     ensures count { B.modelled ≡ true
         → ReadsText target index (B.world bus.old) result (B.world bus.new) }
-    ensures works { B.modelled ≡ true → StopWorks result (B.world bus.old) (B.world bus.new) }
 {
     let total = total_length(alloc, bus, target, index)?;
     if is_over(room, total) {
@@ -94,18 +86,15 @@ pub(crate) fn read_configurations<B: Bus>(
 ) -> Result<ConfigTexts, Stop>
     requires target { IsTarget target }
     requires max { 8 ≤ target.max }
-    ensures any_bus { Spends B.spent B.ports (255 * configuration_bound) bus.old bus.new
-        × IfErr result (λ stop. IsReportedStop stop (B.failed bus.new)) }
     ensures all { MatchResult result
         (λ texts. (length texts ≡ count) × ValuesDiffer texts
         × (is_over budget (texts_length texts) ≡ false)) IsPlainStop }
-    ensures read { B.modelled ≡ true → Read B.world B.trace (255 * configuration_bound)
+    ensures read { Read B.modelled B.world B.trace B.spent B.ports B.failed
+        (255 * configuration_bound)
         (Answered target (λ old new texts. TextsAsked target old texts new)
-        (HasConfigurations budget count))
-        (StopsTexts budget target count) bus.old result bus.new }
+        (HasConfigurations budget count)) (StopsTexts budget target count) bus.old result bus.new }
     ensures few { B.modelled ≡ true
         → FewFor texts_bound target (B.world bus.old) (B.world bus.new) }
-    ensures works { B.modelled ≡ true → StopWorks result (B.world bus.old) (B.world bus.new) }
 {
     let mut texts = ConfigTexts::new(alloc);
     let mut room = budget;

@@ -1,18 +1,17 @@
 //! The whole enumeration.
-ghost use Rattle.std.specs.Prelude.{◌≡◌, IfOk, IfErr, MatchResult, true};
-ghost use Rattle.usb_bus.specs.Traces.{Spends, Steps};
+ghost use Rattle.std.specs.Prelude.{◌≡◌, IfOk, IfErr, MatchResult, true, Err};
+ghost use Rattle.usb_bus.specs.Traces.{Steps};
 ghost use Rattle.usb_pipe.specs.Uses.{UsesBus};
 ghost use Rattle.usb_hub.specs.Port.{IsAsked, order_bound};
-ghost use Rattle.usb_hub.specs.Requests.{StillWorks};
 ghost use Rattle.usb_enum.specs.Addresses.{AtPort};
 ghost use Rattle.usb_enum.specs.Bounds.{unaddressed_bound, examination_bound, enumeration_bound, configured_bound, configured_by, hub_bound};
 ghost use Rattle.usb_enum.specs.Device.{HasFittingFacts, fits_tier, is_hub_device};
 ghost use Rattle.usb_enum.specs.Findings.{Enumerates, ExaminesAt, GivenUp, HandsOn, IsAccepted, IsFound, IsListed, IsWhole, TakesFor};
 ghost use Rattle.usb_enum.specs.Frames.{OnlySets, OnlyTells};
-ghost use Rattle.usb_enum.specs.Parts.{EndsWithout, Part, KeepingSteps, StopsConfiguring, StopsExamining, StopsStart};
+ghost use Rattle.usb_enum.specs.Parts.{EndsWithout, Part, StopsConfiguring, StopsExamining, StopsStart, IsDone};
 ghost use Rattle.usb_enum.specs.PresentDevices.{LearnsPorts};
 ghost use Rattle.usb_enum.specs.Said.{IsSaid, IsSaidAt};
-ghost use Rattle.usb_enum.specs.Stops.{FaultAllowedAt, FitsStop, IsHubStop, IsReported, IsReportedStop, IsStopWithout, EnumWorks, StopNotOfBus, StopWorks};
+ghost use Rattle.usb_enum.specs.Stops.{FaultAllowedAt, FitsStop, IsHubStop, IsReported, IsReportedStop, IsStopWithout, EnumWorks};
 ghost use Rattle.usb_enum.specs.TextLengths.{FewFor};
 
 use crate::addressed::Addressed;
@@ -106,16 +105,10 @@ fn without_address<B: Bus>(
     said: &mut ArrayVec<u8, 18>,
 ) -> Stop
     requires { IsAsked B.modelled (B.world bus.old) port }
-    ensures any_bus { Spends B.spent B.ports (unaddressed_bound port) bus.old bus.new
-        × IsReportedStop result (B.failed bus.new) }
     ensures without { IsStopWithout result }
-    ensures steps { B.modelled ≡ true → KeepingSteps (AtPort port 0) (unaddressed_bound port)
-        (B.world bus.old) (B.trace bus.old) (B.world bus.new) (B.trace bus.new) }
-    ensures stops { B.modelled ≡ true
-        → EndsWithout port said.old.items said.new.items (B.world bus.old) (B.world bus.new)
-        result }
-    ensures works { B.modelled ≡ true
-        → StopNotOfBus result → StillWorks (B.world bus.old) (B.world bus.new) }
+    ensures part { Part B.modelled B.world B.trace B.spent B.ports B.failed
+        (AtPort port 0) (unaddressed_bound port) IsDone
+        (EndsWithout port said.old.items said.new.items) bus.old (Err result) bus.new }
 {
     match unaddressed(alloc, bus, port, said) {
         Ok(_) => Stop::Refused(Cause::NoAddress),
@@ -153,19 +146,17 @@ fn examine<B: Bus>(
     said: &mut ArrayVec<u8, 18>,
 ) -> Result<Accepted, Stop>
     requires port { IsAsked B.modelled (B.world bus.old) port }
-    ensures any_bus { Spends B.spent B.ports (examination_bound port) bus.old bus.new
-        × IfErr result (λ stop. IsReportedStop stop (B.failed bus.new)) }
     ensures whole { MatchResult result
         (λ device. (device.address ≡ address) × IsWhole place.options place.supply device
         × (said.new.items ≡ device.bytes))
         (λ stop. FitsStop place.tier stop × IsSaidAt stop said.new.items) }
-    ensures part { B.modelled ≡ true → Part B.world B.trace (AtPort port address)
-        (examination_bound port) (IsAccepted port address place.options place.tier place.supply)
+    ensures part { Part B.modelled B.world B.trace B.spent B.ports B.failed
+        (AtPort port address) (examination_bound port)
+        (IsAccepted port address place.options place.tier place.supply)
         (StopsExamining port address place.options place.tier place.supply)
         bus.old result bus.new }
     ensures made { B.modelled ≡ true → ExaminesAt port address said.old.items said.new.items
         (B.world bus.old) (B.world bus.new) }
-    ensures works { B.modelled ≡ true → StopWorks result (B.world bus.old) (B.world bus.new) }
 {
     let device = passes(alloc, bus, port, address.number(), said)?;
     configure(alloc, bus, address, device, place)
@@ -180,18 +171,15 @@ fn configure<B: Bus>(
     place: Place,
 ) -> Result<Accepted, Stop>
     requires { device.target.addr ≡ address }
-    ensures any_bus { Spends B.spent B.ports configured_bound bus.old bus.new
-        × IfErr result (λ stop. IsReportedStop stop (B.failed bus.new)) }
     ensures whole { MatchResult result
         (λ found. (found.address ≡ address) × IsWhole place.options place.supply found
         × (found.bytes ≡ device.bytes)) (FitsStop place.tier) }
-    ensures part { B.modelled ≡ true → Part B.world B.trace (OnlySets address)
-        configured_bound (IsListed device place.options place.tier)
+    ensures part { Part B.modelled B.world B.trace B.spent B.ports B.failed
+        (OnlySets address) configured_bound (IsListed device place.options place.tier)
         (StopsConfiguring device.target device.bytes place.options place.tier place.supply)
         bus.old result bus.new }
     ensures few { B.modelled ≡ true
         → FewFor configured_by device.target (B.world bus.old) (B.world bus.new) }
-    ensures works { B.modelled ≡ true → StopWorks result (B.world bus.old) (B.world bus.new) }
 {
     let target = device.target;
     fits_tier(&device, place.tier)?;
@@ -235,15 +223,11 @@ fn hub_facts<B: Bus>(
     text: &ConfigText,
     wide: bool,
 ) -> Result<Option<HubFacts>, Stop>
-    ensures any_bus { Spends B.spent B.ports hub_bound bus.old bus.new
-        × IfErr result (λ stop. IsReportedStop stop (B.failed bus.new)) }
     ensures hub { MatchResult result (HasFittingFacts wide device.now.bytes text.now)
         (λ stop. (is_hub_device device.now.bytes ≡ true) × IsHubStop stop) }
-    ensures part { B.modelled ≡ true
-        → Part B.world B.trace (OnlyTells device.now.target.addr) hub_bound
-        (LearnsPorts wide device.now text.now) (StopsStart wide device.now.target text.now)
-        bus.old result bus.new }
-    ensures works { B.modelled ≡ true → StopWorks result (B.world bus.old) (B.world bus.new) }
+    ensures part { Part B.modelled B.world B.trace B.spent B.ports B.failed
+        (OnlyTells device.now.target.addr) hub_bound (LearnsPorts wide device.now text.now)
+        (StopsStart wide device.now.target text.now) bus.old result bus.new }
 {
     if !device.is_hub() {
         return Ok(None);

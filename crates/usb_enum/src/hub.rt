@@ -1,5 +1,5 @@
 //! What the host asks of a hub once it is configured, and the power of its ports (11.23, 11.24).
-ghost use Rattle.std.specs.Prelude.{◌≡◌, ◌⊎◌, ◌≤◌, ◌*◌, Bool, true, IfErr, MatchResult};
+ghost use Rattle.std.specs.Prelude.{◌≡◌, ◌⊎◌, ◌≤◌, ◌*◌, Bool, IfErr, MatchResult};
 ghost use Rattle.usb_request.specs.Codes.{HUB_LENGTH};
 ghost use Rattle.usb_port.specs.Path.{IsPortNumber};
 ghost use Rattle.usb_descriptor.specs.Hub.{most_ports};
@@ -13,8 +13,7 @@ ghost use Rattle.usb_enum.specs.Readings.{Ruled, HasPorts, HasSupply, IsGoodHub}
 ghost use Rattle.usb_enum.specs.Device.{CanServe};
 ghost use Rattle.usb_enum.specs.Hub.{CountTold, SupplyTold, IsPowered, Powered, Started};
 ghost use Rattle.usb_enum.specs.Frames.{OnlyTells};
-ghost use Rattle.usb_bus.specs.Traces.{Spends};
-ghost use Rattle.usb_enum.specs.Stops.{IsHubStop, IsReportedStop, StopWorks};
+ghost use Rattle.usb_enum.specs.Stops.{IsHubStop};
 
 use crate::stop::{Stop, answered_or};
 use crate::{Cause, ConfigText};
@@ -46,13 +45,11 @@ pub(crate) fn start_hub<B: Bus>(
 ) -> Result<HubFacts, Stop>
     requires target { IsTarget target }
     requires max { 8 ≤ target.max }
-    ensures any_bus { Spends B.spent B.ports hub_bound bus.old bus.new
-        × IfErr result (λ stop. IsReportedStop stop (B.failed bus.new)) }
     ensures facts { MatchResult result (CanServe wide text.now) IsHubStop }
-    ensures part { B.modelled ≡ true → Part B.world B.trace (OnlyTells target.addr) hub_bound
+    ensures part { Part B.modelled B.world B.trace B.spent B.ports B.failed
+        (OnlyTells target.addr) hub_bound
         (Answered target (Started target) (λ facts. Ruled (IsGoodHub wide text.now facts)))
         (StopsStart wide target text.now) bus.old result bus.new }
-    ensures works { B.modelled ≡ true → StopWorks result (B.world bus.old) (B.world bus.new) }
 {
     let Some((_, max)) = text.status_endpoint(wide) else {
         return Err(Stop::Refused(Cause::BadHub));
@@ -71,14 +68,11 @@ pub(crate) fn start_hub<B: Bus>(
 fn port_count<B: Bus>(alloc: Global, bus: &mut B, target: Target, wide: bool) -> Result<u8, Stop>
     requires target { IsTarget target }
     requires max { 8 ≤ target.max }
-    ensures any_bus { Spends B.spent B.ports (read_bound HUB_LENGTH) bus.old bus.new
-        × IfErr result (λ stop. IsReportedStop stop (B.failed bus.new)) }
     ensures count { MatchResult result
         (λ ports. IsPortNumber ports × (ports ≤ most_ports wide)) IsHubStop }
-    ensures read { B.modelled ≡ true → Read B.world B.trace (read_bound HUB_LENGTH)
-        (Answered target (CountTold target) (HasPorts wide)) (StopsHub wide target)
-        bus.old result bus.new }
-    ensures works { B.modelled ≡ true → StopWorks result (B.world bus.old) (B.world bus.new) }
+    ensures read { Read B.modelled B.world B.trace B.spent B.ports B.failed
+        (read_bound HUB_LENGTH) (Answered target (CountTold target) (HasPorts wide))
+        (StopsHub wide target) bus.old result bus.new }
 {
     let bytes = answered_or(Cause::BadHub, hub_descriptor(alloc, bus, target))?;
     match read_hub(bytes.as_slice(), wide) {
@@ -99,13 +93,11 @@ fn status_length(ports: u8) -> u8
 fn port_supply<B: Bus>(alloc: Global, bus: &mut B, target: Target) -> Result<u16, Stop>
     requires target { IsTarget target }
     requires max { 8 ≤ target.max }
-    ensures any_bus { Spends B.spent B.ports (read_bound 2) bus.old bus.new
-        × IfErr result (λ stop. IsReportedStop stop (B.failed bus.new)) }
     ensures said { MatchResult result (λ supply. (supply ≡ 500) ⊎ (supply ≡ 100)) IsHubStop }
-    ensures read { B.modelled ≡ true → (wide : Bool) → Read B.world B.trace (read_bound 2)
+    ensures read { (wide : Bool) → Read B.modelled B.world B.trace B.spent B.ports B.failed
+        (read_bound 2)
         (Both (SupplyTold target) (λ old new supply. DeviceFact (HasSupply supply) target old new))
         (StopsHub wide target) bus.old result bus.new }
-    ensures works { B.modelled ≡ true → StopWorks result (B.world bus.old) (B.world bus.new) }
 {
     let status = answered_or(Cause::BadHub, get_status(alloc, bus, target))?;
     Ok(supply(false, status.self_powered))
@@ -114,14 +106,10 @@ fn port_supply<B: Bus>(alloc: Global, bus: &mut B, target: Target) -> Result<u16
 /// Gives power to the ports of a hub up to this number.
 fn power_ports<B: Bus>(bus: &mut B, target: Target, ports: u8) -> Result<(), Stop>
     requires { IsTarget target }
-    ensures any_bus { Spends B.spent B.ports (ports * write_bound) bus.old bus.new
-        × IfErr result (λ stop. IsReportedStop stop (B.failed bus.new)) }
     ensures stops { IfErr result IsHubStop }
-    ensures part { B.modelled ≡ true → (wide : Bool) → Part B.world B.trace
-        (OnlyTells target.addr) (ports * write_bound)
-        (λ old new _. Powered target ports old new)
+    ensures part { (wide : Bool) → Part B.modelled B.world B.trace B.spent B.ports B.failed
+        (OnlyTells target.addr) (ports * write_bound) (λ old new _. Powered target ports old new)
         (StopsPower wide target ports) bus.old result bus.new }
-    ensures works { B.modelled ≡ true → StopWorks result (B.world bus.old) (B.world bus.new) }
 {
     'ports: for before in 0..ports {
         power_port(bus, target, before + 1)?;
@@ -132,13 +120,10 @@ fn power_ports<B: Bus>(bus: &mut B, target: Target, ports: u8) -> Result<(), Sto
 /// Gives power to a port of a hub.
 fn power_port<B: Bus>(bus: &mut B, target: Target, port: u8) -> Result<(), Stop>
     requires { IsTarget target }
-    ensures any_bus { Spends B.spent B.ports write_bound bus.old bus.new
-        × IfErr result (λ stop. IsReportedStop stop (B.failed bus.new)) }
     ensures stops { IfErr result IsHubStop }
-    ensures part { B.modelled ≡ true → (wide : Bool) → Part B.world B.trace
+    ensures part { (wide : Bool) → Part B.modelled B.world B.trace B.spent B.ports B.failed
         (OnlyTells target.addr) write_bound (λ old new _. IsPowered target port old new)
         (StopsPower wide target port) bus.old result bus.new }
-    ensures works { B.modelled ≡ true → StopWorks result (B.world bus.old) (B.world bus.new) }
 {
     answered_or(Cause::BadHub, set_hub_port(bus, target, port, PORT_POWER))
 }

@@ -15,10 +15,9 @@ ghost use Rattle.usb_enum.specs.Parts.{Both, FailsAt, IsDone, Part, Read, StopsA
 ghost use Rattle.usb_enum.specs.PresentDevices.{Awaits, WasReset};
 ghost use Rattle.usb_enum.specs.Reasons.{DescriptorTold, PassTold};
 ghost use Rattle.usb_enum.specs.Refusals.{FindsHead, FindsDescriptor, no_fault, early_fault, addressed_fault};
-ghost use Rattle.usb_bus.specs.Traces.{Spends};
 ghost use Rattle.usb_enum.specs.Readings.{AtMaximum};
 ghost use Rattle.usb_enum.specs.Said.{Answers, BeginsWith, Says};
-ghost use Rattle.usb_enum.specs.Stops.{IsEarlyStop, IsReported, IsReportedStop, EnumWorks, StopWorks};
+ghost use Rattle.usb_enum.specs.Stops.{IsEarlyStop, as_stop};
 
 use crate::addressed::Addressed;
 use crate::said::keep;
@@ -49,14 +48,11 @@ const WHOLE: u16 = DEVICE_LENGTH as u16;
 /// Sets PORT_RESET.
 fn begin_reset<B: Bus>(bus: &mut B, port: HubPort) -> Result<(), EnumFault>
     requires { IsAsked B.modelled (B.world bus.old) port }
-    ensures any_bus { Spends B.spent B.ports (order_bound port) bus.old bus.new
-        × IfErr result (λ fault. IsReported fault (B.failed bus.new)) }
-    ensures part { B.modelled ≡ true → (a : ℕ) → Part B.world B.trace (AtPort port a)
-        (order_bound port) IsDone (FailsAt port) bus.old result bus.new }
+    ensures part { (a : ℕ) → Part B.modelled B.world B.trace B.spent B.ports B.failed
+        (AtPort port a) (order_bound port) IsDone (FailsAt port) bus.old (as_stop result) bus.new }
     ensures resets { B.modelled ≡ true → Resets port (B.world bus.old) (B.world bus.new) }
     ensures calls { B.modelled ≡ true
         → CalledAt port (set_call PORT_RESET) (B.world bus.old) result (B.world bus.new) }
-    ensures works { B.modelled ≡ true → EnumWorks result (B.world bus.old) (B.world bus.new) }
 {
     at_port(set_port(bus, port, PORT_RESET))
 }
@@ -64,12 +60,9 @@ fn begin_reset<B: Bus>(bus: &mut B, port: HubPort) -> Result<(), EnumFault>
 /// The status of the port.
 fn read_status<B: Bus>(alloc: Global, bus: &mut B, port: HubPort) -> Result<PortStatus, EnumFault>
     requires { IsAsked B.modelled (B.world bus.old) port }
-    ensures any_bus { Spends B.spent B.ports (status_bound port) bus.old bus.new
-        × IfErr result (λ fault. IsReported fault (B.failed bus.new)) }
-    ensures read { B.modelled ≡ true → Read B.world B.trace (status_bound port)
-        (λ _ _ _. ⊤) (FailsAt port) bus.old result bus.new }
+    ensures read { Read B.modelled B.world B.trace B.spent B.ports B.failed (status_bound port)
+        (λ _ _ _. ⊤) (FailsAt port) bus.old (as_stop result) bus.new }
     ensures status { B.modelled ≡ true → StatusAt port (B.world bus.old) result (B.world bus.new) }
-    ensures works { B.modelled ≡ true → EnumWorks result (B.world bus.old) (B.world bus.new) }
 {
     at_port(port_status(alloc, bus, port))
 }
@@ -77,13 +70,10 @@ fn read_status<B: Bus>(alloc: Global, bus: &mut B, port: HubPort) -> Result<Port
 /// Resets the port (11.5.1.5), and returns whether a low-speed device is there.
 fn reset<B: Bus>(alloc: Global, bus: &mut B, port: HubPort) -> Result<bool, Stop>
     requires port { IsAsked B.modelled (B.world bus.old) port }
-    ensures any_bus { Spends B.spent B.ports (reset_bound port) bus.old bus.new
-        × IfErr result (λ stop. IsReportedStop stop (B.failed bus.new)) }
     ensures plain { IfErr result IsEarlyStop }
-    ensures part { B.modelled ≡ true → (a : ℕ) → Part B.world B.trace (AtPort port a)
-        (reset_bound port) (λ old new low. WasReset low port a old new)
+    ensures part { (a : ℕ) → Part B.modelled B.world B.trace B.spent B.ports B.failed
+        (AtPort port a) (reset_bound port) (λ old new low. WasReset low port a old new)
         (StopsAt port a no_fault) bus.old result bus.new }
-    ensures works { B.modelled ≡ true → StopWorks result (B.world bus.old) (B.world bus.new) }
 {
     begin_reset(bus, port)?;
     let status = read_status(alloc, bus, port)?;
@@ -97,14 +87,11 @@ fn reset<B: Bus>(alloc: Global, bus: &mut B, port: HubPort) -> Result<bool, Stop
 /// Clears C_PORT_RESET where it is set.
 fn settle<B: Bus>(bus: &mut B, port: HubPort, changed: bool) -> Result<(), EnumFault>
     requires { IsAsked B.modelled (B.world bus.old) port }
-    ensures any_bus { Spends B.spent B.ports (order_bound port) bus.old bus.new
-        × IfErr result (λ fault. IsReported fault (B.failed bus.new)) }
-    ensures part { B.modelled ≡ true → (a : ℕ) → Part B.world B.trace (AtPort port a)
-        (order_bound port) IsDone (FailsAt port) bus.old result bus.new }
+    ensures part { (a : ℕ) → Part B.modelled B.world B.trace B.spent B.ports B.failed
+        (AtPort port a) (order_bound port) IsDone (FailsAt port) bus.old (as_stop result) bus.new }
     ensures devices { B.modelled ≡ true → KeepsDevices (B.world bus.old) (B.world bus.new) }
     ensures calls { B.modelled ≡ true
         → SettlesReset port changed (B.world bus.old) result (B.world bus.new) }
-    ensures works { B.modelled ≡ true → EnumWorks result (B.world bus.old) (B.world bus.new) }
 {
     if !changed {
         return Ok(());
@@ -132,14 +119,12 @@ fn first_maximum<B: Bus>(
 ) -> Result<u8, Stop>
     requires target { IsTarget unaddressed }
     requires max { unaddressed.max ≡ 8 }
-    ensures any_bus { Spends B.spent B.ports (read_bound DEVICE_HEAD_LENGTH) bus.old bus.new
-        × IfErr result (λ stop. IsReportedStop stop (B.failed bus.new)) }
     ensures fits { MatchResult result (λ max. (8 ≤ max) × (max ≤ 64)) IsEarlyStop }
-    ensures read { B.modelled ≡ true → Read B.world B.trace (read_bound DEVICE_HEAD_LENGTH)
-        (FindsHead unaddressed) (StopsHead unaddressed) bus.old result bus.new }
+    ensures read { Read B.modelled B.world B.trace B.spent B.ports B.failed
+        (read_bound DEVICE_HEAD_LENGTH) (FindsHead unaddressed) (StopsHead unaddressed)
+        bus.old result bus.new }
     ensures said { B.modelled ≡ true → Answers (BeginsWith said.new.items) unaddressed
         DEVICE_HEAD_LENGTH said.old.items said.new.items (B.world bus.old) (B.world bus.new) }
-    ensures works { B.modelled ≡ true → StopWorks result (B.world bus.old) (B.world bus.new) }
 {
     let stalled = Cause::Stalled(Request::Device);
     let bytes = answered_or(stalled, get_device(alloc, bus, unaddressed, HEAD))?;
@@ -160,17 +145,14 @@ fn descriptor<B: Bus>(
 ) -> Result<Option<[u8; 18]>, Stop>
     requires target { IsTarget target }
     requires max { 8 ≤ target.max }
-    ensures any_bus { Spends B.spent B.ports (read_bound DEVICE_LENGTH) bus.old bus.new
-        × IfErr result (λ stop. IsReportedStop stop (B.failed bus.new)) }
     ensures device { MatchResult result
         (λ found. IfSome found (λ bytes. (is_device target.low bytes ≡ true)
         × (said.new.items ≡ bytes))) IsEarlyStop }
-    ensures read { B.modelled ≡ true → Read B.world B.trace (read_bound DEVICE_LENGTH)
-        (Both (DescriptorTold target) (FindsDescriptor target)) (StopsDescriptor target)
-        bus.old result bus.new }
+    ensures read { Read B.modelled B.world B.trace B.spent B.ports B.failed
+        (read_bound DEVICE_LENGTH) (Both (DescriptorTold target) (FindsDescriptor target))
+        (StopsDescriptor target) bus.old result bus.new }
     ensures said { B.modelled ≡ true → Answers (AtMaximum target (BeginsWith said.new.items))
         target DEVICE_LENGTH said.old.items said.new.items (B.world bus.old) (B.world bus.new) }
-    ensures works { B.modelled ≡ true → StopWorks result (B.world bus.old) (B.world bus.new) }
 {
     let outcome = get_device(alloc, bus, target, WHOLE);
     if outcome == Err(PipeFault::NoAnswer) {
@@ -203,15 +185,12 @@ pub(crate) fn unaddressed<B: Bus>(
     said: &mut ArrayVec<u8, 18>,
 ) -> Result<Target, Stop>
     requires port { IsAsked B.modelled (B.world bus.old) port }
-    ensures any_bus { Spends B.spent B.ports (unaddressed_bound port) bus.old bus.new
-        × IfErr result (λ stop. IsReportedStop stop (B.failed bus.new)) }
     ensures target { MatchResult result (IsUnaddressed port) IsEarlyStop }
-    ensures part { B.modelled ≡ true → (a : ℕ) → Part B.world B.trace (AtPort port a)
-        (unaddressed_bound port) (λ old new target. Awaits target port a old new)
+    ensures part { (a : ℕ) → Part B.modelled B.world B.trace B.spent B.ports B.failed
+        (AtPort port a) (unaddressed_bound port) (λ old new target. Awaits target port a old new)
         (StopsAt port a early_fault) bus.old result bus.new }
     ensures said { B.modelled ≡ true → (a : ℕ)
         → Says port a said.old.items said.new.items (B.world bus.old) (B.world bus.new) }
-    ensures works { B.modelled ≡ true → StopWorks result (B.world bus.old) (B.world bus.new) }
 {
     let low = reset(alloc, bus, port)?;
     let pre = low && needs_pre(port);
@@ -247,17 +226,15 @@ fn pass<B: Bus>(
     requires port { IsAsked B.modelled (B.world bus.old) port }
     requires least { 1 ≤ address }
     requires most { address < 128 }
-    ensures any_bus { Spends B.spent B.ports (pass_bound port) bus.old bus.new
-        × IfErr result (λ stop. IsReportedStop stop (B.failed bus.new)) }
     ensures addressed { MatchResult result
         (λ found. IfSome found (λ device. (device.target.addr ≡ address)
         × (said.new.items ≡ device.bytes))) IsEarlyStop }
-    ensures part { B.modelled ≡ true → Part B.world B.trace (AtPort port address)
-        (pass_bound port) (Both (PassTold port address) (PassEnds port address))
+    ensures part { Part B.modelled B.world B.trace B.spent B.ports B.failed
+        (AtPort port address) (pass_bound port)
+        (Both (PassTold port address) (PassEnds port address))
         (StopsAt port address addressed_fault) bus.old result bus.new }
     ensures said { B.modelled ≡ true
         → Says port address said.old.items said.new.items (B.world bus.old) (B.world bus.new) }
-    ensures works { B.modelled ≡ true → StopWorks result (B.world bus.old) (B.world bus.new) }
 {
     let target = unaddressed(alloc, bus, port, said)?;
     let stalled = Cause::Stalled(Request::Address);
@@ -284,16 +261,13 @@ pub(crate) fn passes<B: Bus>(
     requires port { IsAsked B.modelled (B.world bus.old) port }
     requires least { 1 ≤ address }
     requires most { address < 128 }
-    ensures any_bus { Spends B.spent B.ports (PASSES * pass_bound port) bus.old bus.new
-        × IfErr result (λ stop. IsReportedStop stop (B.failed bus.new)) }
     ensures addressed { MatchResult result (λ device. (device.target.addr ≡ address)
         × (said.new.items ≡ device.bytes)) IsEarlyStop }
-    ensures part { B.modelled ≡ true → Part B.world B.trace (AtPort port address)
-        (PASSES * pass_bound port) (TakesAddressed port address)
+    ensures part { Part B.modelled B.world B.trace B.spent B.ports B.failed
+        (AtPort port address) (PASSES * pass_bound port) (TakesAddressed port address)
         (StopsAt port address addressed_fault) bus.old result bus.new }
     ensures said { B.modelled ≡ true
         → Says port address said.old.items said.new.items (B.world bus.old) (B.world bus.new) }
-    ensures works { B.modelled ≡ true → StopWorks result (B.world bus.old) (B.world bus.new) }
 {
     for _pass in 0..PASSES {
         if let Some(device) = pass(alloc, bus, port, address, said)? {

@@ -1,5 +1,5 @@
 //! The strings of a device (9.6.7).
-ghost use Rattle.std.specs.Prelude.{◌≡◌, ◌≤◌, true, IfOk, IfErr};
+ghost use Rattle.std.specs.Prelude.{◌≡◌, ◌≤◌, IfOk, IfErr};
 ghost use Rattle.usb_transaction.specs.Transactions.{IsTarget};
 ghost use Rattle.usb_enum.specs.Bounds.{read_bound, strings_bound};
 ghost use Rattle.usb_enum.specs.Verdicts.{strings_by};
@@ -8,8 +8,7 @@ ghost use Rattle.usb_enum.specs.Readings.{HasString, language_of, string_in, no_
 ghost use Rattle.usb_enum.specs.Refusals.{no_fault};
 ghost use Rattle.usb_enum.specs.StringRequests.{AsksString, AsksLanguage, ReadsString, ReadsStrings};
 ghost use Rattle.usb_enum.specs.Text.{first_language_of, string_units};
-ghost use Rattle.usb_bus.specs.Traces.{Spends};
-ghost use Rattle.usb_enum.specs.Stops.{IsPlainStop, IsReportedStop, StopWorks};
+ghost use Rattle.usb_enum.specs.Stops.{IsPlainStop};
 
 use crate::StringUnits;
 use crate::stop::{Stop, stop_of};
@@ -101,13 +100,10 @@ fn string_bytes<B: Bus>(
 ) -> Result<Option<Vec<u8>>, Stop>
     requires target { IsTarget target }
     requires max { 8 ≤ target.max }
-    ensures any_bus { Spends B.spent B.ports (read_bound 255) bus.old bus.new
-        × IfErr result (λ stop. IsReportedStop stop (B.failed bus.new)) }
     ensures plain { IfErr result IsPlainStop }
-    ensures read { B.modelled ≡ true → Read B.world B.trace (read_bound 255)
+    ensures read { Read B.modelled B.world B.trace B.spent B.ports B.failed (read_bound 255)
         (Answered target (AsksString target index language) (HasString index))
         (StopsRead target no_fault) bus.old result bus.new }
-    ensures works { B.modelled ≡ true → StopWorks result (B.world bus.old) (B.world bus.new) }
 {
     match get_string(alloc, bus, target, index, language) {
         Ok(bytes) => Ok(Some(bytes)),
@@ -128,14 +124,11 @@ fn read_one<B: Bus>(
 ) -> Result<Option<StringUnits>, Stop>
     requires target { IsTarget target }
     requires max { 8 ≤ target.max }
-    ensures any_bus { Spends B.spent B.ports (read_bound 255) bus.old bus.new
-        × IfErr result (λ stop. IsReportedStop stop (B.failed bus.new)) }
     ensures plain { IfErr result IsPlainStop }
-    ensures read { B.modelled ≡ true → Read B.world B.trace (read_bound 255)
+    ensures read { Read B.modelled B.world B.trace B.spent B.ports B.failed (read_bound 255)
         (Answered target (ReadsString target index language)
         (λ string spec. string ≡ string_in spec index))
         (StopsRead target no_fault) bus.old result bus.new }
-    ensures works { B.modelled ≡ true → StopWorks result (B.world bus.old) (B.world bus.new) }
 {
     if index == 0 {
         return Ok(None);
@@ -150,13 +143,10 @@ fn read_one<B: Bus>(
 fn language<B: Bus>(alloc: Global, bus: &mut B, target: Target) -> Result<Option<u16>, Stop>
     requires target { IsTarget target }
     requires max { 8 ≤ target.max }
-    ensures any_bus { Spends B.spent B.ports (read_bound 255) bus.old bus.new
-        × IfErr result (λ stop. IsReportedStop stop (B.failed bus.new)) }
     ensures plain { IfErr result IsPlainStop }
-    ensures read { B.modelled ≡ true → Read B.world B.trace (read_bound 255)
+    ensures read { Read B.modelled B.world B.trace B.spent B.ports B.failed (read_bound 255)
         (Answered target (AsksLanguage target) (λ language spec. language ≡ language_of spec))
         (StopsRead target no_fault) bus.old result bus.new }
-    ensures works { B.modelled ≡ true → StopWorks result (B.world bus.old) (B.world bus.new) }
 {
     match string_bytes(alloc, bus, target, 0, 0)? {
         Some(bytes) => Ok(first_language(bytes.as_slice())),
@@ -173,14 +163,11 @@ pub(crate) fn read_strings<B: Bus>(
 ) -> Result<Strings, Stop>
     requires target { IsTarget target }
     requires max { 8 ≤ target.max }
-    ensures any_bus { Spends B.spent B.ports strings_bound bus.old bus.new
-        × IfErr result (λ stop. IsReportedStop stop (B.failed bus.new)) }
     ensures plain { IfErr result IsPlainStop }
-    ensures read { B.modelled ≡ true → Read B.world B.trace strings_bound
+    ensures read { Read B.modelled B.world B.trace B.spent B.ports B.failed strings_bound
         (Answered target (ReadsStrings target indexes)
         (λ strings spec. strings ≡ strings_by spec indexes))
         (StopsRead target no_fault) bus.old result bus.new }
-    ensures works { B.modelled ≡ true → StopWorks result (B.world bus.old) (B.world bus.new) }
 {
     if indexes.manufacturer == 0 && indexes.product == 0 && indexes.serial_number == 0 {
         return Ok(no_strings());

@@ -1,6 +1,6 @@
 -- What a bus counts and reports, as its host has it.
-use Rattle.std.proofs.Common.{◌≡◌, ◌+◌, ◌≤◌, ap, arith, ℕ, Bool, true, false, Option, Some}
-use Rattle.std.proofs.Common.{refl, List, Result, Ok, Err, IfErr}
+use Rattle.std.proofs.Common.{◌≡◌, ◌+◌, ◌≤◌, ap, arith, ℕ, Bool, true, false, Option, Some, refl}
+use Rattle.std.proofs.Common.{List, Result, Ok, Err, IfErr}
 use Rattle.usb_world.specs.{BusFault}
 use Rattle.usb_enum.specs.{EnumFault, IsReported}
 use Rattle.usb_table.specs.{TableFault, TransferTold}
@@ -9,12 +9,15 @@ use Rattle.usb_host.specs.{HostFault, HostState, Forgets, IsReportedLast, LeftSt
 use Rattle.usb_host.specs.{PartFaultAllowed, counts_of, host_told, no_counts}
 use Rattle.usb_host.specs.declared.fault.HostFault.TheVariants as host
 
-module _ (m : Bool) (s t : ℕ) (f e : Option BusFault) (l : LeftStatuses) where
-  pub counts_spend : {n : ℕ} (k : ℕ) → t ≤ s + n → n ≤ k
-      → (counts_of m t e l).spent ≤ (counts_of m s f l).spent + k
+module _ {W : Type 0} (m : Bool) (spent : W → ℕ) (failed : W → Option BusFault)
+    (left : LeftStatuses) (bus after : W) where
+  pub counts_spend : {n : ℕ} (k : ℕ) → spent after ≤ spent bus + n → n ≤ k
+      → (counts_of m (spent after) (failed after) left).spent
+      ≤ (counts_of m (spent bus) (failed bus) left).spent + k
   counts_spend {n} k most le = by m
     where
-      by : (m : Bool) → (counts_of m t e l).spent ≤ (counts_of m s f l).spent + k
+      by : (m : Bool) → (counts_of m (spent after) (failed after) left).spent
+          ≤ (counts_of m (spent bus) (failed bus) left).spent + k
       by true = omega arith
       by false = omega (arith, most, le)
 

@@ -1,6 +1,5 @@
 -- A root port of a world tells of no change right behind its clearing.
-use Rattle.std.proofs.Common.{◌≡◌, ◌∙◌, ◌-◌, ◌≤◌, ap, arith, length, false, refl}
-use Rattle.std.proofs.Common.{Ok, Result, ℕ}
+use Rattle.std.proofs.Common.{◌≡◌, ◌∙◌, ◌-◌, ◌≤◌, ap, arith, length, false, refl, Ok, Result, ℕ}
 use Rattle.std.proofs.lemmas.List.{get_or-set_same}
 use Rattle.usb_request.specs.{C_PORT_CONNECTION, PORT_ENABLE}
 use Rattle.usb_port.specs.{PortState, PortStatus, clear_call, off, port_by}

@@ -9,12 +9,12 @@ use Rattle.usb_enum.specs.declared.cause.Cause.TheVariants as cause
 use Rattle.usb_enum.specs.{EnumFault, Bus, Memory, Finding}
 use Rattle.usb_enum.specs.declared.finding.Finding.TheVariants.{Refused}
 use Rattle.usb_table.specs.{Entries, Replaced, without, is_waiting}
-use Rattle.usb_host.specs.{HostState, work, HostFault, Waits, Gained, ProgressOrLost, EndsAs}
-use Rattle.usb_host.specs.{EntersOne, HostRuns, OnlyBusSteps, AddsNoWork, HostProgress, waiting}
+use Rattle.usb_host.specs.{Forgets, HostState, work, HostFault, Waits, Gained, ProgressOrLost}
+use Rattle.usb_host.specs.{EndsAs, EntersOne, HostRuns, OnlyBusSteps, AddsNoWork, HostProgress}
+use Rattle.usb_host.specs.{waiting}
 use Rattle.usb_host.proofs.StepSums.{advances_then}
 use Rattle.usb_host.proofs.entries.KindCounts.{of_kind-entered, of_kind-without}
-use Rattle.usb_host.proofs.entries.KindCounts.{of_kind-without_one}
-use Rattle.usb_host.proofs.entries.WaitingDevices.{waiting-entered_other}
+use Rattle.usb_host.proofs.entries.KindCounts.{of_kind-without_one, waiting-entered_other}
 
 waiting_is : (f : Finding) → is_waiting f ≡ true → f ≡ Refused cause.NoAddress
 waiting_is (Refused cause.NoAddress) h = refl
@@ -37,21 +37,16 @@ pub enters_few : (path : List ℕ) (c d : HostState) → EntersOne path c d
 enters_few path c d e =
     omega (arith, ap waiting e.entries, of_kind-entered is_waiting path e.finding c.entries)
 
-module _ (path : List ℕ) (m : ℕ) {n : ℕ} (a b : HostState) {c d : HostState} (g : HostRuns m a b)
-    (r : OnlyBusSteps a b)
-    (others : c ≡ record b { entries = c.entries; pipes = c.pipes; addresses = c.addresses })
-    (rest : c.entries ≡ without path b.entries) (h : HostRuns n c d) where
-  world_is : c.world ≡ b.world
-  world_is = ap (λ (x : HostState). x.world) others
-
+module _ {path : List ℕ} {m n : ℕ} {a b c d : HostState} (g : HostRuns m a b)
+    (r : OnlyBusSteps a b) (f : Forgets path b c) (h : HostRuns n c d) where
   looks_due : Gained a.world b.world → waiting d.entries ≤ waiting c.entries + 1 → HostProgress a d
   looks_due gained few =
       let same : waiting b.entries ≡ waiting a.entries =
       ap (λ (x : HostState). waiting x.entries) r in
-      let left : waiting c.entries ≡ waiting (without path b.entries) = ap waiting rest in
-      let done : work c.world ≡ work b.world = ap work world_is in
+      let left : waiting c.entries ≡ waiting (without path b.entries) = ap waiting f.rest in
+      let done : work c.world ≡ work b.world = ap (λ (x : HostState). work x.world) f.others in
       let made : c.world.attempts ≡ b.world.attempts =
-      ap (λ (x : HostState). x.world.attempts) others in
+      ap (λ (x : HostState). x.world.attempts) f.others in
       omega (
         arith,
         of_kind-without is_waiting path b.entries,
@@ -64,10 +59,10 @@ module _ (path : List ℕ) (m : ℕ) {n : ℕ} (a b : HostState) {c d : HostStat
       let same : waiting b.entries ≡ waiting a.entries =
       ap (λ (x : HostState). waiting x.entries) r in
       let found = rw (← (ap (λ (x : HostState). x.entries) r)) at w.entry in
-      let left : waiting c.entries ≡ waiting (without path b.entries) = ap waiting rest in
-      let done : work c.world ≡ work b.world = ap work world_is in
+      let left : waiting c.entries ≡ waiting (without path b.entries) = ap waiting f.rest in
+      let done : work c.world ≡ work b.world = ap (λ (x : HostState). work x.world) f.others in
       let made : c.world.attempts ≡ b.world.attempts =
-      ap (λ (x : HostState). x.world.attempts) others in
+      ap (λ (x : HostState). x.world.attempts) f.others in
       omega (
         arith,
         of_kind-without_one is_waiting path path _ b.entries (way_itself path) refl found,
@@ -79,12 +74,12 @@ module _ (path : List ℕ) (m : ℕ) {n : ℕ} (a b : HostState) {c d : HostStat
 
   -- a change was to be served, or a device waits for an address and one is free
   pub looks : {Due : Type 0} → (Due → Gained a.world b.world)
-      → (IsFull c.addresses → IsFull b.addresses) → waiting d.entries ≤ waiting c.entries + 1
+      → waiting d.entries ≤ waiting c.entries + 1
       → ((IsFull c.addresses → ⊥) → waiting d.entries ≤ waiting c.entries) → Due ⊎ Waits path a
       → HostProgress a d
-  looks gains freed few other (inl due) = looks_due (gains due) few
-  looks gains freed few other (inr w) =
-      looks_waits w (other (λ full. w.free (rw r at (freed full))))
+  looks gains few other (inl due) = looks_due (gains due) few
+  looks gains few other (inr w) =
+      looks_waits w (other (λ full. w.free (rw r at (f.full full))))
 
 pub served_any : (result : Result (Unit {0}) EnumFault) (a d : HostState) → HostProgress a d
     → ProgressOrLost result a d
@@ -107,15 +102,14 @@ handled (Ok done) served a b c ends holds s =
 handled (Err fault) served a b c ends holds s = tt
 
 -- what stood at the port and below it is forgotten
-pub without_rests : (path : List ℕ) (a : HostState) {b : HostState} (c : HostState)
-    → OnlyBusSteps a b → c.entries ≡ without path b.entries → c.entries ≡ without path a.entries
-without_rests path a c r rest = rest ∙ ap (λ (x : HostState). without path x.entries) r
+pub without_rests : {path : List ℕ} (a : HostState) {b c : HostState} → OnlyBusSteps a b
+    → Forgets path b c → c.entries ≡ without path a.entries
+without_rests {path = path} a r f = f.rest ∙ ap (λ (x : HostState). without path x.entries) r
 
-pub renews : (path : List ℕ) (a b c d : HostState) → OnlyBusSteps a b
-    → c.entries ≡ without path b.entries → EntersOne path c d
-    → Replaced path (without path a.entries) d.entries
-renews path a b c d r rest one = inr (
+pub renews : {path : List ℕ} (a : HostState) {b c d : HostState} → OnlyBusSteps a b
+    → Forgets path b c → EntersOne path c d → Replaced path (without path a.entries) d.entries
+renews {path = path} a r f one = inr (
   one.finding,
   one.entries ∙ ap (λ (es : Entries). insert_entry path_cmp es path one.finding)
-      (without_rests path a c r rest),
+      (without_rests a r f),
 )

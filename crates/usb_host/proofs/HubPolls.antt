@@ -1,180 +1,491 @@
 -- What the poll of a hub leaves, and what follows it.
-use Rattle.std.proofs.Common.{◌≡◌, ◌+◌, ◌≤◌, ap, arith, refl, ℕ, List, Option, None, Some, Result}
-use Rattle.std.proofs.Common.{Ok}
-use Rattle.std.proofs.Common.{Err, IsErr, IsSome, ◌≢◌}
+use Rattle.std.proofs.Common.{◌≡◌, ◌∙◌, ◌+◌, ◌≤◌, ◌≢◌, ◌⊎◌, ap, arith, inl, inr, refl, subst, sym}
+use Rattle.std.proofs.Common.{ℕ, List, Option, None, Some, Result, Ok, Err, IsErr, IsOk, IsSome}
+use Rattle.std.proofs.Common.{is_some, true}
 use Rattle.arrayvec.specs.ArrayVec.{ArrayVec}
-use Rattle.usb_device.specs.{told_bits}
-use Rattle.usb_world.specs.{BusFault}
-use Rattle.usb_pipe.specs.{PipeFault}
-use Rattle.usb_pipe.specs.declared.fault.PipeFault.TheVariants.{Bus}
+use Rattle.usb_tree.proofs.Interface.{decided}
+use Rattle.usb_tree.specs.{pending}
+use Rattle.usb_device.specs.{hub_ports, row_of, told_bits}
+use Rattle.usb_world.specs.{BusFault, PlanData, World}
+use Rattle.usb_bus.specs.{StepRun}
+use Rattle.usb_transaction.specs.{NoThreeDamaged}
+use Rattle.usb_backlog.specs.{KeepsAll, KeepsBy, unmarked}
+use Rattle.usb_backlog.proofs.Interface.{few-none}
+use Rattle.usb_pipe.specs.{ByteTold, PipeFault}
+use Rattle.usb_pipe.specs.declared.fault.PipeFault.TheVariants.{Bus, Memory}
 use Rattle.usb_hub.specs.{NoHubFailed}
-use Rattle.usb_table.specs.{KeepsPolled, finding_at, hub_facts_at, GoesThrough, pipes_at}
-use Rattle.usb_table.specs.{PipesPolled}
-use Rattle.usb_host.specs.{Agrees, hub_poll_bound, told_bound, HubPaid, HostState, StaysOwned}
-use Rattle.usb_host.specs.{HostRuns, HostSteps, DropsOne, HubFails, ServesHub, ServesTold}
-use Rattle.usb_host.specs.{HostInvariant, table_in, HostFault, Round, Quiet, Worked, claims}
+use Rattle.usb_enum.specs.{Accepted, Finding, HubFacts}
+use Rattle.usb_enum.specs.declared.finding.Finding.TheVariants.{Device}
+use Rattle.usb_table.specs.{Absent, BitsOf, Function, GoesThrough, Hub as HubPipe, HubTold}
+use Rattle.usb_table.specs.{KeepsPolled, Pipes, PipesPolled, accepted_device_of, finding_at}
+use Rattle.usb_table.specs.{hub_facts_at, hub_facts_in, pipes_at}
+use Rattle.usb_host.specs.{NoneHears, ServesPorts, AddsNoWork, Agrees, Costs, DropsOne, HostFault}
+use Rattle.usb_host.specs.{HostInvariant, HostProgress, HostRuns, HostState, HostSteps, HubFails}
+use Rattle.usb_host.specs.{HubPaid, IsDroppable, KeepsBulk, KeepsInvariant, PartStays, Pays}
+use Rattle.usb_host.specs.{PaysPart, PolledOnce, Quiet, Round, ServesHub, ServesTold, ShowsTold}
+use Rattle.usb_host.specs.{StaysOwned, StaysWhere, StopsWithin, ToldPaid, Weights, Worked, WorksOn}
+use Rattle.usb_host.specs.{asked_failed, asked_none, asked_some, by_rest, drop_bound, drop_failed}
+use Rattle.usb_host.specs.{hub_poll_bound, hubs, not_heard, poll_failed, poll_most, port_failed}
+use Rattle.usb_host.specs.{table_in, told_most, told_none, told_some, waiting}
 use Rattle.usb_host.proofs.OwnedPorts.{dropped_hub_owned}
-use Rattle.usb_host.proofs.payments.HubPayments.{drop_paid_fails, drop_pays, poll_fails, poll_none}
-use Rattle.usb_host.proofs.payments.HubPayments.{tells_shows, told_fails, told_pays}
+use Rattle.usb_host.proofs.RoundParts.{hub_fails, part-fails}
+use Rattle.usb_host.proofs.StepSums.{goes_wider, host_goes_then, went_before}
+use Rattle.usb_host.proofs.devices.BulkPipes.{bulk_stays, where_polled, where_stays}
+use Rattle.usb_host.proofs.devices.Owners.{single_then, stays_owned_then}
+use Rattle.usb_host.proofs.devices.Plugs.{plugs_kept}
+use Rattle.usb_host.proofs.entries.Roots.{accounted}
+use Rattle.usb_host.proofs.knowledge.ChangeWords.{none_own}
+use Rattle.usb_host.proofs.knowledge.Soundness.{PipeCall, but_under, caused_under, in_sync-sets}
+use Rattle.usb_host.proofs.knowledge.Soundness.{known_under, occupied_under, part_then}
+use Rattle.usb_host.proofs.knowledge.Soundness.{sound_dropped, sound_under, stays_under}
+use Rattle.usb_host.proofs.knowledge.Soundness.{truthful_under}
+use Rattle.usb_host.proofs.knowledge.SettledListings.{reached_there}
+use Rattle.usb_host.proofs.knowledge.ToldBits.{poll_shows}
+use Rattle.usb_host.proofs.payments.Payments.{costs_pays, few_stop, is_err-if_ok, pays_costs}
+use Rattle.usb_host.proofs.payments.Payments.{pays_where, plain_costs, plain_pays, ports_after}
+use Rattle.usb_host.proofs.payments.Payments.{stops_after, works_on, works_on-ports}
+use Rattle.usb_host.proofs.rests.Polls.{HubThere, heard_at, hub_there, poll_silent, reached_at}
 use Rattle.usb_host.proofs.services.CutPorts.{on_errors}
-use Rattle.usb_host.proofs.services.HubServices.{hub_tells, polls_cut, polls_failed, polls_lost}
-use Rattle.usb_host.proofs.services.HubServices.{polls_quiet, polls_told, polls_undropped}
-use Rattle.usb_host.proofs.services.HubServices.{LeavesRest, told_of_ports}
-use Rattle.usb_host.proofs.StepSums.{host_goes_then, goes_wider}
-use Rattle.usb_host.proofs.devices.Owners.{single_then, stays_kept}
-use Rattle.usb_host.proofs.RoundParts.{hub_bulk, hub_droppable, hub_fails, hub_gone, hub_listed}
-use Rattle.usb_host.proofs.RoundParts.{hub_quiet, hub_stays, hub_told}
-use Rattle.usb_host.proofs.RoundParts.{part-fails, polled_hub_not_failed}
-use Rattle.usb_host.proofs.payments.Payments.{is_err-if_ok, pays_where}
-use Rattle.usb_host.proofs.knowledge.Soundness.{sound_kept}
 
-module _ {hub : List ℕ} (a b : HostState) (agrees : Agrees a.options a.entries a.addresses)
-    (same : b.entries ≡ a.entries) (pool : b.addresses ≡ a.addresses)
-    (stopped : b.stopped ≡ a.stopped) (rest : LeavesRest a b) (went : HostSteps 768 a b)
-    (through : GoesThrough hub (table_in a) (table_in b))
-    (listed : IsSome (hub_facts_at hub a.entries)) where
-  width : b.options ≡ a.options
-  width = ap (λ (h : HostState). h.options) rest
+-- a hub that is listed was polled, as the table tells it
+pub record HubPoll (hub : List ℕ) (a : HostState)
+    (answer : Result (Option (ArrayVec ℕ)) PipeFault) (b : HostState) : Type 0 where
+  pub agrees : Agrees a.options a.entries a.addresses
+  pub listed : IsSome (hub_facts_at hub a.entries)
+  pub once : PolledOnce hub a answer b
+  pub went : HostSteps 768 a b
+  pub through : GoesThrough hub (table_in a) (table_in b)
+  pub keeps : KeepsPolled hub (table_in a) a.world answer (table_in b) b.world
 
-  poll_goes : HostRuns 768 a b
-  poll_goes = record { went = went; going = stopped; options = width }
+-- where the pipes are new, nothing else is
+pub polled_by : {hub : List ℕ} {a b : HostState}
+    {answer told : Result (Option (ArrayVec ℕ)) PipeFault} → answer ≡ told
+    → Agrees a.options a.entries a.addresses → IsSome (hub_facts_at hub a.entries) → record b {
+      entries = a.entries;
+    } ≡ record a {
+      world = b.world;
+      trace = b.trace;
+      counts = b.counts;
+      pipes = b.pipes;
+    } → HostSteps 768 a b → GoesThrough hub (table_in a) (table_in b)
+    → PipesPolled (pipes_at hub (table_in a)) a.world answer (pipes_at hub (table_in b)) b.world
+    → KeepsPolled hub (table_in a) a.world answer (table_in b) b.world → HubPoll hub a told b
+polled_by {b = b} is agrees listed rest went through polled keeps = record {
+  agrees = agrees;
+  listed = listed;
+  once = record {
+    through = rw is at polled;
+    remains = ap (λ es. record b { entries = es }) through.entries ∙ rest;
+  };
+  went = went;
+  through = through;
+  keeps = rw is at keeps;
+}
 
-  -- the bus made no more steps
-  pub poll_cut : (why : BusFault) → PipesPolled (pipes_at hub (table_in a)) a.world (Err (Bus why))
-      (pipes_at hub (table_in b)) b.world
-      → KeepsPolled hub (table_in a) a.world (Err (Bus why)) (table_in b) b.world
-      → (fault : HostFault) → ServesHub hub a (Err fault) b
-  poll_cut why asks keeps fault = record {
-    keeps = hub_fails refl (record {
-      goes = goes_wider poll_goes (omega arith);
-      owned = record {
-        single = λ o. (keeps.levels.worlds.addresses.kept (claims a.entries) o).single;
-      };
-      sound = tt;
-    });
-    polls = tt;
-    fails = λ i before. polls_failed hub a b same pool rest went listed why asks
-        (hub_stays a b agrees same pool stopped width went keeps through asks i before);
-    pays = poll_fails hub a b agrees same pool width went (Err fault) refl;
+-- where the bus is at work, a poll that failed was not answered
+not_failed : (pipes left : Pipes) (fault : PipeFault) (old new : World)
+    → PipesPolled pipes old (Err fault) left new → new.fault ≡ None
+    → NoHubFailed {A = Option (ArrayVec ℕ)} (Err fault) → ⊥
+not_failed (HubPipe pipe) left (Bus fault) old new x still served = cc
+    (x.2.polls.ends.told, still)
+not_failed (Function pipes) left (Bus fault) old new x still served = cc (x.0)
+not_failed (Absent said) left (Bus fault) old new x still served = cc (x.0)
+not_failed (HubPipe pipe) left Memory old new x still served = x.2.polls.room refl
+not_failed (Function pipes) left Memory old new x still served = cc (x.0)
+not_failed (Absent said) left Memory old new x still served = cc (x.0)
+not_failed pipes left _ old new x still served = served
+
+hub_listed : (o : Option Finding) → IsSome (hub_facts_in o) → IsSome o
+hub_listed None some = absurd (cc some)
+hub_listed (Some f) some = refl
+
+some_facts : (o : Option HubFacts) → IsSome o → (facts : HubFacts) × (o ≡ Some facts)
+some_facts None some = absurd (cc some)
+some_facts (Some facts) some = (facts, refl)
+
+part_where : (a c : HostState) → c.options ≡ a.options → (HostInvariant a → PartStays a c)
+    → PartStays a c
+part_where a c options f = record {
+  sound = record {
+    options = options;
+    sound = λ s. (f s).sound.sound s;
+    caused = λ s fair q. (f s).sound.caused s fair q;
+  };
+  bulk = λ s still. (f s).bulk s still;
+  plugs = λ s still. (f s).plugs s still;
+}
+
+drop_stop : (c : Weights) {w : World} {t : Option (List ℕ)} (a d : HostState)
+    → StepRun 768 a.world a.trace w t → StepRun drop_bound w t d.world d.trace
+    → StopsWithin c (poll_most c) a d
+drop_stop c a d first second =
+    few_stop c (poll_most c) a d (omega (arith, first.spends.most, second.spends.most))
+    (omega (arith, first.spends.onward, second.spends.onward))
+
+module _ {hub : List ℕ} {answer : Result (Option (ArrayVec ℕ)) PipeFault} {a b : HostState}
+    (poll : HubPoll hub a answer b) where
+  same : b.entries ≡ a.entries
+  same = ap (λ (h : HostState). h.entries) poll.once.remains
+
+  agrees_on : Agrees b.options b.entries b.addresses
+  agrees_on = subst (λ (h : HostState). Agrees h.options h.entries h.addresses)
+      (sym poll.once.remains) poll.agrees
+
+  before : b.world.fault ≡ None → a.world.fault ≡ None
+  before = went_before poll.went
+
+  goes : HostRuns 768 a b
+  goes = record {
+    went = poll.went;
+    going = ap (λ (h : HostState). h.stopped) poll.once.remains;
+    options = ap (λ (h : HostState). h.options) poll.once.remains;
   }
 
-  module _ {got : Option (ArrayVec ℕ)}
-      (asks : PipesPolled (pipes_at hub (table_in a)) a.world (Ok got) (pipes_at hub (table_in b))
-      b.world)
-      (keeps : KeepsPolled hub (table_in a) a.world (Ok got) (table_in b) b.world) where
-    told_owned : StaysOwned a b
-    told_owned = stays_kept a b same went.spends.roots keeps.levels.worlds.addresses
+  -- What it keeps
 
-    -- it told nothing
-    pub poll_quiet : got ≡ None → ServesHub hub a (Ok Quiet) b
-    poll_quiet none = record {
-      keeps = hub_quiet a b agrees same pool stopped width went keeps through asks
-          (pipes_at hub (table_in a)) refl through.fits
-          (rw none at asks);
-      polls = polls_quiet hub a b same pool rest went listed asks keeps none;
+  called : PipeCall 768 hub (IsOk answer) a b
+  called = record {
+    agrees = poll.agrees;
+    same = same;
+    width = goes.options;
+    went = poll.went;
+    levels = in_sync-sets poll.keeps.levels;
+  }
+
+  owned : StaysOwned a b
+  owned = stays_under called
+
+  stays : HostInvariant a → a.world.fault ≡ None → StaysWhere (Unit {0}) a b
+  stays s still = where_polled hub a b answer poll.through poll.once.through
+      (poll.keeps.spares (s.owned.so still) (s.level still hub))
+
+  bulk : HostInvariant a → b.world.fault ≡ None → KeepsBulk a b
+  bulk s still =
+      bulk_stays a b (where_stays a b tt (stays s (before still)))
+      (by_rest (poll.keeps.levels.worlds.rests still)
+      (poll.keeps.spares (s.owned.so (before still)) (s.level (before still) hub)))
+
+  sound : IsOk answer → KeepsInvariant a b
+  sound ok = sound_under called (λ still. ok)
+
+  part : IsOk answer → PartStays a b
+  part ok = record {
+    sound = sound ok;
+    bulk = bulk;
+    plugs = λ s still. plugs_kept a b poll.went.spends.onward same;
+  }
+
+  facts : (facts : HubFacts) × (hub_facts_at hub a.entries ≡ Some facts)
+  facts = some_facts (hub_facts_at hub a.entries) poll.listed
+
+  there : HubThere hub a.entries facts.0
+  there = hub_there hub a.entries facts.0 facts.1
+
+  still_listed : IsSome (finding_at hub b.entries)
+  still_listed = rw same (hub_listed (finding_at hub a.entries) poll.listed)
+
+  droppable : HostInvariant a → IsDroppable hub b
+  droppable s = record {
+    listed = still_listed;
+    but = but_under called s;
+    there = λ still. occupied_under called s still_listed still agrees_on;
+  }
+
+  -- a hub that does not answer is not reached, or a change is pending on the way to it
+  pends : (b.world.fault ≡ None → NoHubFailed answer → ⊥) → HostInvariant a
+      → b.world.fault ≡ None → NoThreeDamaged a.world → pending b.world.roots hub ≡ true
+  pends failed s still few = elim (decided (pending b.world.roots hub)) [
+    | inl is ↦ is
+    | inr none ↦
+        let fits = accounted b agrees_on (owned.rooted s.rooted) in
+        let known = known_under called s still in
+        let truthful = truthful_under called s still in
+        let found : finding_at hub b.entries ≡ Some (Device there.device) =
+        ap (finding_at hub) same ∙ there.found in
+        let on = reached_at b.world fits known truthful hub found none in
+        absurd (failed still (poll.keeps.why (s.owned.so (before still))
+        (s.level (before still) hub) few there.device (ap accepted_device_of there.found)
+        (ap is_some there.told) (heard_at b.world fits known truthful hub found on)))
+  ]
+
+  -- What was done
+
+  -- an attempt was made, and what came after it took nothing back
+  on_by : (c : HostState) → a.world.attempts + 1 ≤ b.world.attempts → AddsNoWork b c
+      → HostProgress a c
+  on_by c more holds =
+      let listed = ap waiting same in
+      omega (arith, poll.went.spends.served, poll.went.spends.later)
+
+  tells : IsOk answer → HostInvariant a → b.world.fault ≡ None
+      → HubTold hub a.world answer b.world
+  tells ok s still = poll.keeps.told (s.owned.so (before still)) (s.level (before still) hub)
+      there.device (ap accepted_device_of there.found) (ap is_some there.told) ok
+
+  none_hears : (b.world.fault ≡ None → NoHubFailed answer → ⊥) → HostInvariant a
+      → b.world.fault ≡ None → NoneHears hub a b.world
+  none_hears failed s still few device at heard =
+      let is : there.device ≡ device = cc (sym (ap accepted_device_of there.found) ∙ at) in
+      failed still (poll.keeps.why (s.owned.so (before still)) (s.level (before still) hub) few
+      device at (ap (λ (d : Accepted). is_some d.hub) (sym is) ∙ ap is_some there.told) heard)
+
+  -- What it costs
+
+  poll_stop : (c : Weights) (n : ℕ) → 768 ≤ n → StopsWithin c n a b
+  poll_stop c n le = few_stop c n a b (omega (arith, poll.went.spends.most)) poll.went.spends.onward
+
+  module _ {c : Weights} {plan : PlanData} (w : WorksOn c plan a) (still : b.world.fault ≡ None)
+    where
+      all : KeepsBy unmarked unmarked unmarked a.world b.world
+      all = (poll.keeps.levels.worlds.backlog still).all (works_on-ports w) unmarked unmarked
+          unmarked
+          few-none
+
+      no_more : hubs b.entries ≡ hubs a.entries
+      no_more = ap hubs same
+
+      -- it adds nothing but events
+      costs : Costs c 768 a b
+      costs = plain_costs c 768 a b (omega (arith, poll.went.spends.most)) all.looks all.strays
+          (omega (arith, no_more)) all.onward
+
+      -- an event came
+      paid : a.world.taken + 1 ≤ b.world.taken → Pays c (c.polls + 32768) a b
+      paid came =
+          plain_pays c 768 (c.polls + 32768) 0 0 0 1 a b (omega (arith, poll.went.spends.most))
+          (omega (arith, all.looks)) (omega (arith, all.strays)) (omega (arith, no_more)) came
+          (omega arith)
+
+      -- the hub did not answer, and was dropped
+      drop_paid : (d : HostState) → HostSteps drop_bound b d → KeepsAll b.world d.world
+          → hubs d.entries + 1 ≤ hubs b.entries → Pays c c.polls a d
+      drop_paid d second drops fewer =
+          let then : KeepsBy unmarked unmarked unmarked b.world d.world =
+          drops.all (ports_after plan a b poll.went w still) unmarked unmarked unmarked few-none in
+          plain_pays c 11968 c.polls 0 0 1 0 a d
+          (omega (arith, poll.went.spends.most, second.spends.most))
+          (omega (arith, all.looks, then.looks)) (omega (arith, all.strays, then.strays))
+          (omega (arith, no_more)) (omega (arith, all.onward, then.onward)) (omega arith)
+
+  -- it told of changes
+  module _ (ok : IsOk answer) (d : HostState) {n : ℕ} (second : HostSteps n b d) where
+    works : {c : Weights} {plan : PlanData} → WorksOn c plan a → b.world.fault ≡ None
+        → WorksOn c plan b
+    works w still = works_on poll.went w ((sound ok).sound w.sound) still
+
+    told_stop : {bits : ℕ} {result : Result (Unit {0}) HostFault}
+        → PaysPart told_most (λ c done. ToldPaid hub bits c) b result d
+        → (c : Weights) (plan : PlanData) → WorksOn c plan a → StopsWithin c (poll_most c) a d
+    told_stop x c plan w =
+        stops_after c a b d 768 (told_most c) (poll_most c) second
+        (poll_stop c (poll_most c) (omega arith)) (costs w)
+        (λ still. x.stops c plan (works w still)) (omega arith)
+
+    told_paid : {bits : ℕ} (c : Weights) {plan : PlanData} → WorksOn c plan a → b.world.fault ≡ None
+        → ToldPaid hub bits c b d → ShowsTold hub bits b ⊎ (a.world.taken + 1 ≤ b.world.taken)
+        → Pays c c.polls a d
+    told_paid c w still x (inl shows) =
+        costs_pays c a b d 768 (c.polls + 768) c.polls (costs w still) (x.shown shows) (omega arith)
+    told_paid c w still x (inr came) =
+        pays_costs c a b d (c.polls + 32768) 32000 c.polls (paid w still came) x.costs (omega arith)
+
+-- It told nothing
+
+pub poll_quiet : {hub : List ℕ} {a b : HostState} → HubPoll hub a (Ok None) b
+    → ServesHub hub a (Ok Quiet) b
+poll_quiet {hub = hub} {a = a} {b = b} poll = record {
+  keeps = record {
+    part = record {
+      goes = goes_wider (goes poll) (omega arith);
+      owned = owned poll;
+      sound = part poll refl;
+    };
+    calm = λ is still. poll.keeps.levels.worlds.rests still;
+    silent = λ s is still none.
+        poll_silent b (agrees_on poll) ((sound poll refl).sound s) still hub
+        (pipes_at hub (table_in a)) a.world (rw (same poll) poll.through.fits) poll.once.through
+        none;
+  };
+  polls = record {
+    did = poll.once.remains;
+    polled = λ s still. told_none poll.once (tells poll refl s still).tells;
+    order = asked_none poll.once;
+  };
+  fails = tt;
+  pays = record {
+    stops = λ c plan w. poll_stop poll c (poll_most c) (omega arith);
+    pays = λ c plan w still.
+        let there = reached_there b.world.roots hub (tells poll refl w.sound still).reached in
+        (costs poll w still, ap is_some there.1);
+  };
+}
+
+-- It told of changes
+
+module _ {hub : List ℕ} {packet : ArrayVec ℕ} {byte : ℕ} {a b : HostState}
+    (poll : HubPoll hub a (Ok (Some packet)) b) (read : byte ≡ told_bits packet.items)
+    (still : b.world.fault ≡ None) where
+  told : HostInvariant a → ByteTold (BitsOf hub a.world b.world) packet.items
+  told s = (tells poll refl s still).tells
+
+  -- they are of ports: the hub itself has no change
+  of_ports : HostInvariant a → byte ≢ 1
+  of_ports s one =
+      let t = told s in
+      none_own (hub_ports t.so.state.spec.hub) (row_of t.so.ports) (sym t.so.told ∙ sym (read
+      ∙ t.is) ∙ one)
+
+  -- the ports of which it told show their changes, or an event came
+  shows : HostInvariant a → ShowsTold hub byte b ⊎ (a.world.taken + 1 ≤ b.world.taken)
+  shows s =
+      let t = told s in
+      let facts = some_facts (hub_facts_at hub b.entries) (rw (same poll) poll.listed) in
+      rw (read ∙ t.is) (poll_shows hub a b (agrees_on poll) s ((sound poll refl).sound s)
+      (before poll still) still facts.0 (hub_there hub b.entries facts.0 facts.1)
+      (tells poll refl s still).reached t.bits t.so t.so.came t.some)
+
+-- the ports were served
+pub poll_served : {hub : List ℕ} {packet : ArrayVec ℕ} {byte : ℕ} {a b d : HostState}
+    → ServesTold hub byte b (Ok tt) d → HubPoll hub a (Ok (Some packet)) b
+    → byte ≡ told_bits packet.items → b.world.fault ≡ None
+    → a.world.attempts + 1 ≤ b.world.attempts → ServesHub hub a (Ok Worked) d
+poll_served {hub = hub} {packet = packet} {byte = byte} {a = a} {b = b} {d = d} y poll read still
+    more = record {
+      keeps = record {
+        part = record {
+          goes = host_goes_then (goes poll) y.goes (omega arith);
+          owned = stays_owned_then (owned poll) y.owned;
+          sound = part_where a d (y.goes.options ∙ (goes poll).options) (λ s. part_then 768 a b d
+              poll.went y.goes.went (part poll refl) (ports s).part.sound);
+        };
+        calm = λ is. absurd (cc is);
+        silent = λ s is. absurd (cc is);
+      };
+      polls = record {
+        did = on_by poll d more y.holds;
+        polled = λ s on.
+            let t = told poll read still s in
+            told_some packet b poll.once t (rw (read ∙ t.is) at
+            ((ports s).served ((sound poll refl).sound s)));
+        order = asked_some packet b poll.once (rw read at y.order);
+      };
       fails = tt;
-      pays = poll_none hub a b agrees same pool width went keeps
-          (hub_tells hub a b same pool rest went listed asks keeps);
+      pays = pays_where (HubPaid hub) (λ s. record {
+        stops = told_stop poll refl d y.goes.went (ports s).pays;
+        pays = λ c plan w on. told_paid poll refl d y.goes.went c w still
+            ((ports s).pays.pays c plan (works poll refl d y.goes.went w still) on)
+            (shows poll read still s);
+      });
     }
+  where
+    ports : HostInvariant a → ServesPorts hub byte b (Ok tt) d
+    ports s = y.ports (of_ports poll read still s)
 
-    -- it told of changes, which were served
-    module _ {packet : ArrayVec ℕ} {byte : ℕ} (is : got ≡ Some packet)
-        (read : byte ≡ told_bits packet.items) (still : b.world.fault ≡ None)
-        (d : HostState) where
-      told_sound : HostInvariant a → HostInvariant b
-      told_sound s = (sound_kept 768 hub _ a b agrees same width went keeps.levels (λ _.
-          refl)).sound s
-
-      of_ports : HostInvariant a → byte ≢ 1
-      of_ports s =
-          told_of_ports hub a b same pool rest went listed asks keeps packet is read
-          still s
-
-      pub poll_served : a.world.attempts + 1 ≤ b.world.attempts → ServesTold hub byte b (Ok tt) d
-          → ServesHub hub a (Ok Worked) d
-      poll_served more y = record {
-        keeps = hub_told a b agrees same pool stopped width went keeps through asks d refl y.goes
-            y.owned
-            (λ s. (y.ports (of_ports s)).part.sound);
-        polls = polls_told hub a b same pool rest went listed asks keeps packet byte d is read
-            y.goes more y.holds y.order
-            (λ s. (y.ports (of_ports s)).served (told_sound s));
-        fails = tt;
-        pays = pays_where (HubPaid hub)
-            (λ s. told_pays hub a b agrees same pool width went d told_bound y.goes.went byte (Ok
-            got)
-            refl keeps (y.ports (of_ports s)).pays
-            (tells_shows hub a b agrees same pool rest went listed got asks keeps packet byte is
-            read));
-      }
-
-      -- and could not be
-      pub poll_unserved : {fault : HostFault} (other : Result Round HostFault) → IsErr other
-          → ServesTold hub byte b (Err fault) d → ServesHub hub a other d
-      poll_unserved {fault = fault} other e y = record {
-        keeps = hub_fails e (part-fails {A = Unit {0}} {k = hub_poll_bound} {m = hub_poll_bound}
-            {a = a} {b = d} {fault = fault} other (record {
-              goes = host_goes_then poll_goes y.goes (omega arith);
-              owned = single_then told_owned y.owned;
-              sound = tt;
-            }) e (omega arith));
-        polls = is_err-if_ok other _ e;
-        fails = on_errors other (HostInvariant a → a.world.fault ≡ None → HubFails hub a d)
-            (λ s before. polls_cut hub a b same pool rest went listed asks keeps packet byte is
-            read still (hub_bulk a b agrees same pool stopped width went keeps through asks s still)
-            ((y.ports (of_ports s)).fails (told_sound s) still) s);
-        pays = pays_where (HubPaid hub)
-            (λ s. told_fails hub a b agrees same pool width went d told_bound y.goes.went byte (Ok
-            got)
-            refl keeps (y.ports (of_ports s)).pays other e);
-      }
-
-  -- it did not answer
-  module _ {why : PipeFault} (asks : PipesPolled (pipes_at hub (table_in a)) a.world (Err why)
-      (pipes_at hub (table_in b)) b.world)
-      (keeps : KeepsPolled hub (table_in a) a.world (Err why) (table_in b) b.world)
-      (d : HostState) where
-    not_served : b.world.fault ≡ None → NoHubFailed {A = Option (ArrayVec ℕ)} (Err why) → ⊥
-    not_served =
-        polled_hub_not_failed (pipes_at hub (table_in a)) (pipes_at hub (table_in b)) why a.world
-        b.world asks
-
-    -- and was dropped
-    pub poll_lost : a.world.attempts + 1 ≤ b.world.attempts → DropsOne hub b (Ok tt) d
-        → ServesHub hub a (Ok Worked) d
-    poll_lost more y = record {
-      keeps = hub_gone a b agrees same pool stopped width went keeps through asks d not_served
-          listed
-          y.goes y.owned y.sound;
-      polls = polls_lost hub a b same pool rest went listed why asks keeps d not_served y.goes
-          more y.holds y.owned.lost;
-      fails = tt;
-      pays = drop_pays hub a b agrees same pool width went d y.goes.went keeps listed y.sound
-          y.hubs;
+-- the host stopped at one of them
+pub poll_unserved : {hub : List ℕ} {packet : ArrayVec ℕ} {byte : ℕ} {a b d : HostState}
+    {fault : HostFault} {other : Result Round HostFault} → IsErr other
+    → ServesTold hub byte b (Err fault) d → HubPoll hub a (Ok (Some packet)) b
+    → byte ≡ told_bits packet.items → b.world.fault ≡ None → ServesHub hub a other d
+poll_unserved {hub = hub} {packet = packet} {byte = byte} {a = a} {b = b} {d = d} {fault = fault}
+    {other = other} e y poll read still = record {
+      keeps = hub_fails e (part-fails {A = Unit {0}} {k = hub_poll_bound} {m = hub_poll_bound}
+          {a = a} {b = d} {fault = fault} other (record {
+            goes = host_goes_then (goes poll) y.goes (omega arith);
+            owned = single_then (owned poll) y.owned;
+            sound = tt;
+          }) e (omega arith));
+      polls = is_err-if_ok other _ e;
+      fails = on_errors other (HostInvariant a → a.world.fault ≡ None → HubFails hub a d)
+          (λ s none.
+          let t = told poll read still s in
+          port_failed packet b poll.once t (bulk poll s still) (rw (read ∙ t.is) at
+          ((ports s).fails ((sound poll refl).sound s) still)));
+      pays = pays_where (HubPaid hub) (λ s. record {
+        stops = told_stop poll refl d y.goes.went (ports s).pays;
+        pays = λ c plan w on. is_err-if_ok other (λ y. HubPaid hub c y a d) e;
+      });
     }
+  where
+    ports : HostInvariant a → ServesPorts hub byte b (Err fault) d
+    ports s = y.ports (of_ports poll read still s)
 
-    pub poll_undropped : (a.world.fault ≡ None → b.world.fault ≡ None) → {fault : HostFault}
-        (other : Result Round HostFault) → IsErr other
-        → DropsOne hub b (Err fault) d → ServesHub hub a other d
-    poll_undropped works {fault = fault} other e y =
-        let there = rw (← same) at (hub_listed (finding_at hub a.entries) listed) in
-        let polled = stays_kept a b same went.spends.roots keeps.levels.worlds.addresses in
-        record {
-          keeps = hub_fails e (part-fails {A = Unit {0}} {k = hub_poll_bound} {m = hub_poll_bound}
-              {a = a} {b = d} {fault = fault} other (record {
-                goes = host_goes_then poll_goes y.goes (omega arith);
-                owned = dropped_hub_owned hub a d there polled y.owned;
-                sound = tt;
-              }) e (omega arith));
-          polls = is_err-if_ok other _ e;
-          fails = on_errors other (HostInvariant a → a.world.fault ≡ None → HubFails hub a d)
-              (λ i none. polls_undropped hub a b same pool rest went listed why asks
-              (hub_bulk a b agrees same pool stopped width went keeps through asks i (works none))
-              (record {
-                entries = y.cut;
-                bulk = y.bulk (hub_droppable a b agrees same pool stopped width went keeps through
-                    asks
-                    listed i);
-              }));
-          pays = drop_paid_fails hub a d went y.goes.went other e;
-        }
+-- It did not answer
+
+-- the bus made no more steps
+pub poll_cut : {hub : List ℕ} {why : BusFault} {a b : HostState} → HubPoll hub a (Err (Bus why)) b
+    → {fault : HostFault} → ServesHub hub a (Err fault) b
+poll_cut {hub = hub} {why = why} poll = record {
+  keeps = hub_fails refl (record {
+    goes = goes_wider (goes poll) (omega arith);
+    owned = record { single = λ o. ((owned poll).stays o).single };
+    sound = tt;
+  });
+  polls = tt;
+  fails = λ s none. poll_failed why poll.once (stays poll s none);
+  pays = record {
+    stops = λ c plan w. poll_stop poll c (poll_most c) (omega arith);
+    pays = λ c plan w still. tt;
+  };
+}
+
+module _ {hub : List ℕ} {why : PipeFault} {a b : HostState} (poll : HubPoll hub a (Err why) b)
+  where
+    failed : b.world.fault ≡ None → NoHubFailed {A = Option (ArrayVec ℕ)} (Err why) → ⊥
+    failed = not_failed (pipes_at hub (table_in a)) (pipes_at hub (table_in b)) why a.world b.world
+        poll.once.through
+
+-- it was dropped
+pub poll_lost : {hub : List ℕ} {why : PipeFault} {a b d : HostState} → DropsOne hub b (Ok tt) d
+    → HubPoll hub a (Err why) b → a.world.attempts + 1 ≤ b.world.attempts
+    → ServesHub hub a (Ok Worked) d
+poll_lost {hub = hub} {why = why} {a = a} {b = b} {d = d} y poll more = record {
+  keeps = record {
+    part = record {
+      goes = host_goes_then (goes poll) y.goes (omega arith);
+      owned = dropped_hub_owned hub a d (still_listed poll) (owned poll) y.owned;
+      sound = sound_dropped (Ok tt) 768 a b d (goes poll) y.goes (droppable poll)
+          (caused_under (called poll)) (bulk poll)
+          (plugs_kept a b poll.went.spends.onward (same poll)) y.sound (pends poll (failed poll));
+    };
+    calm = λ is. absurd (cc is);
+    silent = λ s is. absurd (cc is);
+  };
+  polls = record {
+    did = on_by poll d more y.holds;
+    polled = λ s still. not_heard why b poll.once (none_hears poll (failed poll) s
+        (went_before y.goes.went still)) y.owned.lost;
+    order = asked_failed why b poll.once y.owned.lost;
+  };
+  fails = tt;
+  pays = record {
+    stops = λ c plan w. drop_stop c a d poll.went y.goes.went;
+    pays = λ c plan w still. drop_paid poll w
+        (went_before y.goes.went still) d y.goes.went
+        (y.sound.backlog (droppable poll w.sound) still) (y.hubs (rw (same poll) poll.listed));
+  };
+}
+
+-- the host stopped as it was to be dropped
+pub poll_undropped : {hub : List ℕ} {why : PipeFault} {a b d : HostState} {fault : HostFault}
+    {other : Result Round HostFault} → IsErr other → DropsOne hub b (Err fault) d
+    → HubPoll hub a (Err why) b → (a.world.fault ≡ None → b.world.fault ≡ None)
+    → ServesHub hub a other d
+poll_undropped {hub = hub} {why = why} {a = a} {b = b} {d = d} {fault = fault} {other = other} e y
+    poll works = record {
+      keeps = hub_fails e (part-fails {A = Unit {0}} {k = hub_poll_bound} {m = hub_poll_bound}
+          {a = a} {b = d} {fault = fault} other (record {
+            goes = host_goes_then (goes poll) y.goes (omega arith);
+            owned = dropped_hub_owned hub a d (still_listed poll) (owned poll) y.owned;
+            sound = tt;
+          }) e (omega arith));
+      polls = is_err-if_ok other _ e;
+      fails = on_errors other (HostInvariant a → a.world.fault ≡ None → HubFails hub a d)
+          (λ s none. drop_failed why b poll.once (bulk poll s (works none)) (record {
+            entries = y.cut;
+            bulk = y.bulk (droppable poll s);
+          }));
+      pays = record {
+        stops = λ c plan w. drop_stop c a d poll.went y.goes.went;
+        pays = λ c plan w still. is_err-if_ok other (λ y. HubPaid hub c y a d) e;
+      };
+    }

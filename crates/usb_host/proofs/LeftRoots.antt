@@ -32,11 +32,13 @@ no_more_then {k} {l} {r} x y = record { each = λ n. by n (x.each n) (y.each n) 
     by n (inr before) (inr same) = inr (same ∙ before)
 
 -- of the same root ports they tell, whatever was counted and reported
-pub counts_keep : (m : Bool) (s t : ℕ) (f e : Option BusFault) (l : LeftStatuses)
-    → LeavesNoMore (counts_of m s f l).left (counts_of m t e l).left
-counts_keep m s t f e l = record {
+pub counts_keep : {W : Type 0} (m : Bool) (spent : W → ℕ) (failed : W → Option BusFault)
+    (left : LeftStatuses) (bus after : W)
+    → LeavesNoMore (counts_of m (spent bus) (failed bus) left).left
+    (counts_of m (spent after) (failed after) left).left
+counts_keep m spent failed left bus after = record {
   each = λ n. inr (ap (λ k. slice_index_or k n None)
-      (left_same m s t f e l));
+      (left_same m (spent bus) (spent after) (failed bus) (failed after) left));
 }
 
 -- Quiet

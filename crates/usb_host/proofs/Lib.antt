@@ -21,10 +21,11 @@ pub mod PortLocations
 pub mod PortRequests
 pub mod PortLooks
 pub mod PortServes
+pub mod PartCalls
+pub mod PortParts
 pub mod PortDrops
 pub mod RoundLoops
 pub mod HubPolls
 pub mod WorkingBuses
-pub mod ControlWorks
 pub mod Refusals
 pub mod TransferCalls

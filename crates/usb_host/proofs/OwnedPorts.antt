@@ -7,25 +7,25 @@ use Rattle.usb_request.specs.{PORT_ENABLE}
 use Rattle.usb_tree.specs.{is_way}
 use Rattle.usb_world.specs.{World, roots_of}
 use Rattle.usb_world.proofs.Interface.{way_itself}
-use Rattle.usb_resources.specs.{Addresses}
 use Rattle.usb_address.specs.{AddressMap, map_without, MapHolds, MapHoldsExcept, WhileBusWorks}
 use Rattle.usb_address.specs.{KeepsAddresses}
 use Rattle.usb_address.proofs.Interface.{keeps_none}
 use Rattle.usb_pipe.specs.{PipeFault}
 use Rattle.usb_hub.specs.{Isolates, KeepsCleared, PortCleared, HubPort}
-use Rattle.usb_enum.specs.{EndsOwned, KeepsEnumerated, Lost, EnumFault, ParentLost, Bus, Memory}
-use Rattle.usb_enum.specs.{Finding}
+use Rattle.usb_enum.specs.{EndsOwned, Lost, EnumFault, ParentLost, Bus, Memory, Finding}
 use Rattle.usb_enum.specs.declared.finding.Finding.TheVariants.{Device, Refused}
-use Rattle.usb_table.specs.{KnownPort, Entries, has_at, without, root_port, port_below, finding_at}
-use Rattle.usb_host.specs.Accounts.{Accounts}
-use Rattle.usb_host.specs.{HostState, claims, IsOwned, IsOwnedBut, IsIsolated, IsRooted, root_of}
-use Rattle.usb_host.specs.{StaysOwned, KeepsOwned, PortOwned, KeepsPort, LeavesOwned, FinishesPort}
-use Rattle.usb_host.specs.{HasLost, DropsHub, BaresAbove, KeepsDisabled, StandsAt, StandsNowhere}
-use Rattle.usb_host.specs.{OnlyBusSteps, HostFault}
-use Rattle.usb_host.proofs.entries.EntryClaims.{claims_free, claims_taken, claims-device}
+use Rattle.arrayvec.specs.ArrayVec.{ArrayVec}
+use Rattle.usb_table.specs.{Table, entered, KnownPort, Entries, has_at, without, root_port}
+use Rattle.usb_table.specs.{port_below, finding_at}
+use Rattle.usb_host.specs.{Forgets, table_in, HostState, claims, IsOwned, IsIsolated, IsRooted}
+use Rattle.usb_host.specs.{root_of, StaysOwned, KeepsOwned, PortOwned, KeepsPort, LeavesOwned}
+use Rattle.usb_host.specs.{FinishesPort, HasLost, DropsHub, BaresAbove, KeepsDisabled, StandsAt}
+use Rattle.usb_host.specs.{StandsNowhere, OnlyBusSteps, HostFault}
+use Rattle.usb_host.proofs.entries.Balances.{claims_free, claims_taken, claims-device}
 use Rattle.usb_host.proofs.devices.Owners.{till_as, but_all, but_kept, but_above, bare_port}
 use Rattle.usb_host.proofs.devices.Owners.{bare_none, forgotten, refused}
 use Rattle.usb_host.proofs.PortLocations.{stands_at-claim, nowhere_reached}
+use Rattle.usb_host.proofs.devices.Enumerations.{EnumerationAt}
 use Rattle.usb_host.proofs.entries.Roots.{rooted_kept, rooted_dropped, rooted_came, rooted_stands}
 use Rattle.usb_host.proofs.entries.Roots.{root_way, on_failed}
 
@@ -83,32 +83,26 @@ pub bares_after : {port : HubPort} {a b c : World} → KeepsAddresses a b → Is
     → Isolates port a c
 bares_after k x = record { bares = λ f p at o. x.bares f p at (k.kept f o) }
 
-pub stays_bare : (path : List ℕ) {port : KnownPort} (a b c : HostState) → StandsAt path port a
+pub stays_bare : {path : List ℕ} {port : KnownPort} {a b c : HostState} → StandsAt path port a
     → OnlyBusSteps a b → roots_of b.world ≡ roots_of a.world → Isolates port.port a.world b.world
-    → c ≡ record b { entries = c.entries; pipes = c.pipes; addresses = c.addresses }
-    → c.entries ≡ without path b.entries → StaysOwned a c
-stays_bare path a b c s r roots bares others rest = record {
-  stays = stays;
-  rooted = rooted_dropped path a c (rest ∙ ap (λ (h : HostState). without path h.entries) r)
-      (ap (λ (h : HostState). roots_of h.world) others ∙ roots);
+    → Forgets path b c → StaysOwned a c
+stays_bare {path = path} {a = a} {b = b} {c = c} s r roots bares f = record {
+  stays = λ o.
+      let bare : WhileBusWorks (MapHolds (map_without (claims a.entries) path)) b.world =
+      bares.bares (claims a.entries) path (stands_at-claim s) o in
+      forgotten f (rw (ap (λ (h : HostState). h.entries) r) bare);
+  rooted = rooted_dropped path a c (f.rest ∙ ap (λ (h : HostState). without path h.entries) r)
+      (ap (λ (h : HostState). roots_of h.world) f.others ∙ roots);
 }
-  where
-    stays : IsOwned a → IsOwned c
-    stays o =
-        let bare : WhileBusWorks (MapHolds (map_without (claims a.entries) path)) b.world =
-        bares.bares (claims a.entries) path (stands_at-claim s) o in
-        forgotten path b c others rest (rw (ap (λ (h : HostState). h.entries) r) bare)
 
 -- What an enumeration leaves, and what is entered
 
-enumerated_owned : {path : List ℕ} {port : KnownPort} (h : HostState) {pool : Addresses}
-    {result : Result Finding EnumFault} {w : World}
-    → KeepsEnumerated port.port pool h.world result w → StandsAt path port h
-    → has_at path h.entries ≡ false → Accounts h.entries pool → IsOwned h
-    → EndsOwned (claims h.entries) path result w
-enumerated_owned {path = path} h k s away accounts o =
-    k.ends (claims h.entries) path (stands_at-claim s) (claims_free path h.entries away)
-    (claims_taken accounts) o
+enumerated_owned : {n : ℕ} {path : List ℕ} {port : KnownPort} {result : Result Finding EnumFault}
+    {a b : HostState} → EnumerationAt n path port result a b → IsOwned a
+    → EndsOwned (claims a.entries) path result b.world
+enumerated_owned {path = path} {a = a} e o =
+    e.gives.addresses.ends (claims a.entries) path (stands_at-claim e.stands)
+    (claims_free path a.entries e.away) (claims_taken e.accounts) o
 
 found_single : (f : AddressMap) (p : List ℕ) (finding : Finding) (w : World)
     → EndsOwned f p (Ok finding) w → w.shared ≡ false
@@ -128,40 +122,31 @@ port_owned_none path ParentLost h ends = ends
 port_owned_none path (Bus fault) h ends = ends
 port_owned_none path Memory h ends = ends
 
-module _ {path : List ℕ} {port : KnownPort} {a : HostState} (b : HostState) where
-  pub found_ends : (finding : Finding) {pool : Addresses}
-      → KeepsEnumerated port.port pool a.world (Ok finding) b.world → StandsAt path port a
-      → has_at path a.entries ≡ false → Accounts a.entries pool
-      → b.entries ≡ insert_entry path_cmp a.entries path finding
-      → roots_of b.world ≡ roots_of a.world → KeepsPort path a (Ok tt) b
-  found_ends finding k s away accounts is roots = record {
-    ends = λ o. found_entered path finding a.entries b.world away is
-        (enumerated_owned a k s away accounts o);
-    rooted = λ r. rooted_came path finding a b is roots (rooted_stands path port a s r) r;
+module _ {n : ℕ} {path : List ℕ} {port : KnownPort} {a b : HostState} where
+  pub found_ends : {finding : Finding} → EnumerationAt n path port (Ok finding) a b
+      → b.entries ≡ insert_entry path_cmp a.entries path finding → KeepsPort path a (Ok tt) b
+  found_ends {finding = finding} e is = record {
+    ends = λ o. found_entered path finding a.entries b.world e.away is (enumerated_owned e o);
+    rooted = λ r. rooted_came path finding a b is e.went.spends.roots
+        (rooted_stands path port a e.stands r) r;
   }
 
   -- for what is found there is no memory
-  pub found_lost : (finding : Finding) {pool : Addresses}
-      → KeepsEnumerated port.port pool a.world (Ok finding) b.world → StandsAt path port a
-      → has_at path a.entries ≡ false → Accounts a.entries pool → b.entries ≡ a.entries
-      → roots_of b.world ≡ roots_of a.world → KeepsPort path a (Err Memory) b
-  found_lost finding k s away accounts same roots = record {
-    ends = λ o. found_single (claims a.entries) path finding b.world
-        (enumerated_owned a k s away accounts o);
-    rooted = rooted_kept a b same roots;
+  pub found_lost : {finding : Finding} → EnumerationAt n path port (Ok finding) a b
+      → b.entries ≡ a.entries → KeepsPort path a (Err Memory) b
+  found_lost {finding = finding} e same = record {
+    ends = λ o. found_single (claims a.entries) path finding b.world (enumerated_owned e o);
+    rooted = rooted_kept a b same e.went.spends.roots;
   }
 
-  pub found_fails : (fault : EnumFault) {pool : Addresses}
-      → KeepsEnumerated port.port pool a.world (Err fault) b.world → StandsAt path port a
-      → has_at path a.entries ≡ false → Accounts a.entries pool → b.entries ≡ a.entries
-      → roots_of b.world ≡ roots_of a.world → KeepsPort path a (Err fault) b
-  found_fails fault k s away accounts same roots =
-      record { ends = ends; rooted = rooted_kept a b same roots }
-    where
-      ends : IsOwned a → PortOwned path (Err fault) b
-      ends o = port_owned_none path fault b
-          (subst (λ (es : Entries). EndsOwned (claims es) path (Err fault) b.world) (sym same)
-          (enumerated_owned a k s away accounts o))
+  pub found_fails : {fault : EnumFault} → EnumerationAt n path port (Err fault) a b
+      → b.entries ≡ a.entries → KeepsPort path a (Err fault) b
+  found_fails {fault = fault} e same = record {
+    ends = λ o. port_owned_none path fault b
+        (subst (λ (es : Entries). EndsOwned (claims es) path (Err fault) b.world) (sym same)
+        (enumerated_owned e o));
+    rooted = rooted_kept a b same e.went.spends.roots;
+  }
 
 -- A port was served; where its hub is lost, that is dropped
 
@@ -252,36 +237,59 @@ drop_not_done hub a result b e k = record {
   rooted = λ r at. on_failed result (IsRooted b) e;
 }
 
+-- what was at a path and below it is forgotten, and a lost hub is listed there
+pub record LostListed (lost : List ℕ) (b d : HostState) : Type 0 where
+  pub path : IsPath lost
+  pub left : HostState
+  pub forgot : Forgets lost b left
+  pub others : d ≡ record left {
+    entries = d.entries;
+    pipes = d.pipes;
+    addresses = d.addresses;
+  }
+  pub said : ArrayVec ℕ
+  pub table : table_in d ≡ entered lost (Refused Lost) said (table_in left)
+
+module _ {lost : List ℕ} {b d : HostState} (x : LostListed lost b d) where
+  pub lost_world : d.world ≡ b.world
+  lost_world = ap (λ (h : HostState). h.world) x.others
+      ∙ ap (λ (h : HostState). h.world) x.forgot.others
+
+  pub lost_options : d.options ≡ b.options
+  lost_options = ap (λ (h : HostState). h.options) x.others
+      ∙ ap (λ (h : HostState). h.options) x.forgot.others
+
+  pub lost_entries : d.entries ≡ insert_entry path_cmp x.left.entries lost (Refused Lost)
+  lost_entries = ap (λ (t : Table). t.entries) x.table
+
 -- what is entered for it has no address
-pub drop_ends : (hub lost : List ℕ) (a b c d : HostState) → IsPath lost → OnlyBusSteps a b
-    → roots_of b.world ≡ roots_of a.world → BaresAbove hub lost a b
-    → c ≡ record b { entries = c.entries; pipes = c.pipes; addresses = c.addresses }
-    → c.entries ≡ without lost b.entries → has_at lost c.entries ≡ false → d.world ≡ c.world
-    → d.entries ≡ insert_entry path_cmp c.entries lost (Refused Lost) → DropsHub hub a (Ok tt) d
-drop_ends hub lost a b c d path r roots x others rest away same is = record {
+pub drop_ends : {hub lost : List ℕ} {a b d : HostState} → LostListed lost b d → OnlyBusSteps a b
+    → roots_of b.world ≡ roots_of a.world → BaresAbove hub lost a b → DropsHub hub a (Ok tt) d
+drop_ends {hub = hub} {lost = lost} {a = a} {b = b} {d = d} l r roots x = record {
   lost = record {
     path = lost;
     above = x.on;
-    entries = is ∙ ap (λ (es : Entries). insert_entry path_cmp es lost (Refused Lost)) (rest ∙ ap
-        (λ (h : HostState). without lost h.entries) r);
+    entries = lost_entries l
+        ∙ ap (λ (es : Entries). insert_entry path_cmp es lost (Refused Lost)) left;
   };
-  ends = ends;
+  ends = λ o. rw (ap (λ (h : HostState). h.world) l.others) (refused lost Lost l.left.entries
+      l.forgot.gone (lost_entries l) (forgotten l.forgot (x.bares o)));
   rooted = rooted;
 }
   where
-    still : roots_of c.world ≡ roots_of a.world
-    still = ap (λ (h : HostState). roots_of h.world) others ∙ roots
+    left : l.left.entries ≡ without lost a.entries
+    left = l.forgot.rest ∙ ap (λ (h : HostState). without lost h.entries) r
+
+    still : roots_of l.left.world ≡ roots_of a.world
+    still = ap (λ (h : HostState). roots_of h.world) l.forgot.others ∙ roots
 
     rooted : IsRooted a → root_of hub ≤ roots_of a.world → IsRooted d
     rooted q at =
         let here : root_of lost ≤ roots_of a.world =
-        subst (λ n. n ≤ roots_of a.world) (root_way lost hub path.0 x.on) at in
-        rooted_came lost (Refused Lost) c d is (ap (λ (w : World). roots_of w) same) (rw still here)
-        (rooted_dropped lost a c (rest ∙ ap (λ (h : HostState). without lost h.entries) r) still q)
-
-    ends : IsOwnedBut hub a → IsOwned d
-    ends o = rw same (refused lost Lost c.entries away is
-        (forgotten lost b c others rest (x.bares o)))
+        subst (λ n. n ≤ roots_of a.world) (root_way lost hub l.path.0 x.on) at in
+        rooted_came lost (Refused Lost) l.left d (lost_entries l)
+        (ap (λ (h : HostState). roots_of h.world) l.others) (rw still here)
+        (rooted_dropped lost a l.left left still q)
 
 -- a hub that is known does not answer
 

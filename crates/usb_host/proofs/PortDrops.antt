@@ -1,11 +1,9 @@
 -- What is left where a hub is dropped.
-use Rattle.std.proofs.Common.{◌≡◌, ◌∙◌, ◌-◌, ◌*◌, ◌≤◌, arith, inl, inr, refl, sym, ap, subst, true}
-use Rattle.std.proofs.Common.{false, Bool, ℕ}
-use Rattle.std.proofs.Common.{List, length, Option, None, Some, Result, Ok, Err, IsErr, IsSome}
-use Rattle.std.proofs.Common.{IsSomeAnd}
-use Rattle.std.specs.BTreeMap.{insert_entry}
+use Rattle.std.proofs.Common.{◌≡◌, ◌∙◌, ◌-◌, ◌*◌, ◌≤◌, arith, inl, inr, refl, ap, subst, true}
+use Rattle.std.proofs.Common.{false, Bool, ℕ, List, length, Option, None, Some, Result, Ok, Err}
+use Rattle.std.proofs.Common.{IsErr, IsSome, IsSomeAnd}
 use Rattle.arrayvec.specs.ArrayVec.{ArrayVec}
-use Rattle.usb_port.specs.{parent_of, path_cmp, IsPath}
+use Rattle.usb_port.specs.{parent_of, IsPath}
 use Rattle.usb_tree.specs.{is_way, pending}
 use Rattle.usb_world.specs.{World, here}
 use Rattle.usb_address.specs.{KeepsAddresses}
@@ -17,12 +15,12 @@ use Rattle.usb_backlog.specs.{KeepsAll}
 use Rattle.usb_backlog.proofs.Interface.{all_none, all_then}
 use Rattle.usb_enum.specs.{Lost, ParentLost}
 use Rattle.usb_enum.specs.declared.finding.Finding.TheVariants.{Refused}
-use Rattle.usb_enum.proofs.Interface.{devices_then, went_sound}
-use Rattle.usb_table.specs.{without, Table, entered, has_at, is_waiting, pipes_at}
+use Rattle.usb_enum.proofs.Interface.{devices_then}
+use Rattle.usb_table.specs.{without, entered, is_waiting}
 use Rattle.usb_host.specs.{drop_bound, DropsHub, HostState, IsOwnedBut, Climbs, DisablesOnWay}
-use Rattle.usb_host.specs.{Forgets, AddsNoWork}
-use Rattle.usb_host.specs.{HostRuns, OnlyBusSteps, waiting, DropsOne, FinishesAt, CausesBut}
-use Rattle.usb_host.specs.{DropsSound, IsDroppable, IsFairTo, table_in, HostFault}
+use Rattle.usb_host.specs.{Forgets, AddsNoWork, HostRuns, OnlyBusSteps, waiting, DropsOne}
+use Rattle.usb_host.specs.{FinishesAt, CausesBut, DropsSound, IsDroppable, IsFairTo, table_in}
+use Rattle.usb_host.specs.{HostFault}
 use Rattle.usb_host.proofs.devices.BulkPipes.{bulk_none, stay_forgotten, stay_joined, stay_rests}
 use Rattle.usb_host.proofs.devices.BulkPipes.{stays_where}
 use Rattle.usb_host.proofs.devices.Causes.{lost_drops}
@@ -30,9 +28,10 @@ use Rattle.usb_host.proofs.ParentPaths.{parent_length}
 use Rattle.usb_host.proofs.knowledge.DroppedHubs.{climb_caused, climb_sound, done_caused, if_err}
 use Rattle.usb_host.proofs.knowledge.DroppedHubs.{top_absurd}
 use Rattle.usb_host.proofs.payments.HandlingPayments.{hubs_dropped}
-use Rattle.usb_host.proofs.OwnedPorts.{bares_above, drop_ends, drop_not_done, match_err}
-use Rattle.usb_host.proofs.entries.HubCounts.{hubs-dropped}
-use Rattle.usb_host.proofs.StepSums.{goes_forgotten, host_goes_none, host_goes_then}
+use Rattle.usb_host.proofs.OwnedPorts.{LostListed, bares_above, drop_ends, drop_not_done}
+use Rattle.usb_host.proofs.OwnedPorts.{lost_entries, match_err}
+use Rattle.usb_host.proofs.entries.KindCounts.{hubs-dropped, of_kind-without, waiting-entered_other}
+use Rattle.usb_host.proofs.StepSums.{goes_forgotten, host_goes_none, host_goes_then, went_before}
 use Rattle.usb_host.proofs.devices.Plugs.{plugs_none}
 use Rattle.usb_host.proofs.services.ServedWork.{rests_holds}
 use Rattle.usb_host.proofs.services.CutPorts.{forgets_there}
@@ -40,8 +39,6 @@ use Rattle.usb_host.proofs.services.Services.{loses_parent}
 use Rattle.usb_world.proofs.Interface.{course_joined, way_parent}
 use Rattle.usb_host.proofs.devices.Owners.{but_above}
 use Rattle.usb_host.proofs.entries.Roots.{root_parent}
-use Rattle.usb_host.proofs.entries.KindCounts.{of_kind-without}
-use Rattle.usb_host.proofs.entries.WaitingDevices.{waiting-entered_other}
 
 -- The way up
 
@@ -79,7 +76,7 @@ module _ {first path : List ℕ} {a b c : HostState} (x : ClimbedTo first path a
 
   climb_control : c.world.fault ≡ None → ControlCourse a.world c.world
   climb_control still =
-      course_joined (x.control (went_sound write_bound b.world c.world y.goes.went still))
+      course_joined (x.control (went_before y.goes.went still))
       (y.control still)
 
   climb_keeps : KeepsAddresses a.world c.world
@@ -87,7 +84,7 @@ module _ {first path : List ℕ} {a b c : HostState} (x : ClimbedTo first path a
 
   climb_backlog : IsDroppable first a → c.world.fault ≡ None → KeepsAll a.world c.world
   climb_backlog d still =
-      all_then (x.backlog d (went_sound write_bound b.world c.world y.goes.went still))
+      all_then (x.backlog d (went_before y.goes.went still))
       (y.backlog (x.sound d) still)
 
   pub climbed_on : {above : List ℕ} → result ≡ Ok false → parent_of path ≡ Some above
@@ -171,25 +168,17 @@ drop_untold hub {fault = fault} {a = a} {b = b} r x = record {
     owned : DropsHub hub a (Err fault) b
     owned = drop_not_done hub a (Err fault) b refl x.bares
 
-module _ {hub lost : List ℕ} {a b c : HostState} (d : HostState) (r : OnlyBusSteps a b)
-    (x : Climbs hub a (Ok lost) b) (f : Forgets lost b c)
-    (others : d ≡ record c { entries = d.entries; pipes = d.pipes; addresses = d.addresses }) where
-  drop_world : d.world ≡ c.world
-  drop_world = ap (λ (h : HostState). h.world) others
+module _ {hub lost : List ℕ} {a b c : HostState} (r : OnlyBusSteps a b)
+    (x : Climbs hub a (Ok lost) b) (f : Forgets lost b c) where
+  forgot_goes : HostRuns drop_bound a c
+  forgot_goes = goes_forgotten a x.goes f.others
 
-  drop_wide : d.options ≡ c.options
-  drop_wide = ap (λ (h : HostState). h.options) others
-
-  drop_goes : HostRuns drop_bound a d
-  drop_goes = goes_forgotten a (goes_forgotten a x.goes f.others) others
-
-  drop_holds : waiting d.entries ≤ waiting c.entries → AddsNoWork a d
-  drop_holds fewer =
-      let there = drop_world ∙ ap (λ (h : HostState). h.world) f.others in
+  forgot_holds : AddsNoWork a c
+  forgot_holds =
       let before : waiting b.entries ≡ waiting a.entries =
       ap (λ (h : HostState). waiting h.entries) r in
       let left : waiting c.entries ≡ waiting (without lost b.entries) = ap waiting f.rest in
-      rw there (omega (
+      rw (ap (λ (h : HostState). h.world) f.others) (omega (
         arith,
         of_kind-without is_waiting lost b.entries,
         x.goes.went.spends.served,
@@ -197,51 +186,58 @@ module _ {hub lost : List ℕ} {a b c : HostState} (d : HostState) (r : OnlyBusS
       ))
 
   -- there is no memory to list it as lost
-  pub drop_unlisted : (fault : HostFault) → table_in d ≡ table_in c → DropsOne hub a (Err fault) d
-  drop_unlisted fault table =
-      let same = ap (λ (t : Table). t.entries) table in
-      let world = drop_world ∙ ap (λ (h : HostState). h.world) f.others in
-      let single = λ (o : IsOwnedBut hub a). ap (λ (w : World). w.shared) world
-      ∙ (x.bares.bares o).single in
+  pub drop_unlisted : {fault : HostFault} → DropsOne hub a (Err fault) c
+  drop_unlisted =
+      let world = ap (λ (h : HostState). h.world) f.others in
+      let single = λ (o : IsOwnedBut hub a). (x.bares.bares o).single in
       record {
-        goes = drop_goes;
-        holds = drop_holds (omega (arith, ap waiting same));
+        goes = forgot_goes;
+        holds = forgot_holds;
         hubs = tt;
         owned = record {
           lost = tt;
-          ends = single;
+          ends = λ o. ap (λ (w : World). w.shared) world ∙ single o;
           rooted = λ q at. tt;
         };
         sound = not_dropped;
         cut = record {
           on = lost;
           way = x.bares.on;
-          left = inr (same ∙ f.rest ∙ ap (λ (h : HostState). without lost h.entries) r);
+          left = inr (f.rest ∙ ap (λ (h : HostState). without lost h.entries) r);
         };
-        bulk = λ p. stays_where a d (stay_joined a b d
-            (stay_rests a b r x.devices (ap (λ (w : World). w.shared) (sym world)
-            ∙ single p.but.owned)) (stay_forgotten lost b d world (same ∙ f.rest)
-            (ap (has_at lost) same ∙ f.gone)
-            (λ y away. ap (pipes_at y) table ∙ f.pipes y away)));
+        bulk = λ p. stays_where a c (stay_joined a b c
+            (stay_rests a b r x.devices (single p.but.owned)) (stay_forgotten f));
       }
 
-  pub drop_done : IsPath lost → (said : ArrayVec ℕ)
+  pub drop_done : (d : HostState)
+      → d ≡ record c { entries = d.entries; pipes = d.pipes; addresses = d.addresses }
+      → IsPath lost → (said : ArrayVec ℕ)
       → table_in d ≡ entered lost (Refused Lost) said (table_in c) → DropsOne hub a (Ok tt) d
-  drop_done path said table =
-      let entries : d.entries ≡ insert_entry path_cmp c.entries lost (Refused Lost) =
-      ap (λ (t : Table). t.entries) table in
+  drop_done d others path said table =
+      let listed : LostListed lost b d = record {
+        path = path;
+        left = c;
+        forgot = f;
+        others = others;
+        said = said;
+        table = table;
+      } in
       let more = waiting-entered_other lost (Refused Lost) c.entries refl in
+      let one = ap waiting (lost_entries listed) in
       let left = f.rest ∙ ap (λ (h : HostState). without lost h.entries) r in
-      let drops = drop_ends hub lost a b c d path r x.goes.went.spends.roots x.bares f.others
-      f.rest f.gone drop_world entries in
+      let drops = drop_ends listed r x.goes.went.spends.roots x.bares in
       record {
-        goes = drop_goes;
-        holds = drop_holds (omega (arith, ap waiting entries));
-        hubs = λ some. hubs-dropped lost hub a.entries c.entries x.bares.on left entries some;
+        goes = goes_forgotten a forgot_goes others;
+        holds = rw (ap (λ (h : HostState). h.world) others) (omega (
+          arith,
+          forgot_holds,
+          more,
+          one,
+        ));
+        hubs = λ some. hubs-dropped lost hub a.entries c.entries x.bares.on left
+            (lost_entries listed) some;
         owned = drops;
-        sound = lost_drops lost b c d path.0 f.others f.rest f.pipes f.gone drop_world drop_wide
-            said table hub a r
-            x.goes.went.spends.onward x drops;
+        sound = lost_drops listed r x.goes.went.spends.onward x drops;
         cut = tt;
         bulk = λ p. tt;
       }

@@ -8,38 +8,36 @@ use Rattle.usb_hub.specs.{Isolates, StillWorks}
 use Rattle.usb_resources.specs.{IsFull}
 use Rattle.usb_enum.specs.{enumeration_bound, widest_enumeration, Enumerates, FaultAllowedAt}
 use Rattle.usb_enum.specs.{EnumFault, Memory, Finding, IsFound, IsSaid}
-use Rattle.usb_enum.proofs.Interface.{went_sound}
-use Rattle.usb_table.specs.{KnownPort, Replaced, has_at, without, known_port, tier_of, Table}
-use Rattle.usb_table.specs.{entered, Entries, said_at}
+use Rattle.usb_table.specs.{KnownPort, Replaced, without, known_port, tier_of, Table, entered}
+use Rattle.usb_table.specs.{Entries, said_at}
 use Rattle.usb_table.proofs.Interface.{known_port-without, said_at-entered}
-use Rattle.usb_host.specs.Accounts.{Accounts}
 use Rattle.usb_host.specs.{PaysAtLook, hubs, clearing_bound, HostState, IsOwned, KeepsPort}
 use Rattle.usb_host.specs.{StaysOwned, StaysWhere, claims, FindsSound, IsOpen, ServesSound}
-use Rattle.usb_host.specs.{KeepsPlugs, MovesNoBulk, Entered, Forgets}
-use Rattle.usb_host.specs.{Gained, IsPortAt, Requested, ProgressOrLost, StandsAt, Waits, HostRuns}
-use Rattle.usb_host.specs.{HostSteps, OnlyBusSteps, waiting, ClearsError, ClearsPort, Discovers}
-use Rattle.usb_host.specs.{LookedOrLost, LooksAfterError, LooksAt, RenewsPort, HostInvariant}
-use Rattle.usb_host.specs.{Agrees, EntersFound, FindsAnew, first_failed, next_done, table_in}
+use Rattle.usb_host.specs.{KeepsPlugs, MovesNoBulk, Entered, Forgets, Gained, IsPortAt, Requested}
+use Rattle.usb_host.specs.{ProgressOrLost, StandsAt, Waits, HostRuns, HostSteps, OnlyBusSteps}
+use Rattle.usb_host.specs.{waiting, ClearsError, ClearsPort, Discovers, LookedOrLost}
+use Rattle.usb_host.specs.{LooksAfterError, LooksAt, RenewsPort, HostInvariant, Agrees, EntersFound}
+use Rattle.usb_host.specs.{FindsAnew, first_failed, next_done, table_in}
 use Rattle.usb_world.specs.{World}
 use Rattle.usb_backlog.specs.{KeepsAll, KeepsFound}
 use Rattle.usb_backlog.proofs.Interface.{anew_owed, found_all, found_then}
 use Rattle.usb_host.proofs.devices.BulkPipes.{bulk_stays, bulk_then, stays_where, where_joined}
 use Rattle.usb_host.proofs.devices.Causes.{cleared_caused, entered_finds, forgot_caused}
-use Rattle.usb_host.proofs.devices.Causes.{fault_none_back, unentered_finds, unfound_finds}
-use Rattle.usb_host.proofs.devices.Enumerations.{enumeration_goes}
+use Rattle.usb_host.proofs.devices.Causes.{unentered_finds, unfound_finds}
+use Rattle.usb_host.proofs.devices.Enumerations.{EnumerationAt, enumeration_goes}
 use Rattle.usb_host.proofs.devices.Fairness.{fair_after, fair_before}
 use Rattle.usb_host.proofs.OwnedPorts.{found_ends, found_fails, found_lost, rests_keeps_port}
 use Rattle.usb_host.proofs.OwnedPorts.{stays_keeps_port, port_then, stays_bare}
-use Rattle.usb_host.proofs.entries.HubCounts.{hubs-found, hubs-gone, hubs-rest, none_rests}
-use Rattle.usb_host.proofs.StepSums.{goes_forgotten, host_goes_none}
-use Rattle.usb_host.proofs.payments.LookPayments.{look_bare, look_lost, look_pays, plan_within-went}
+use Rattle.usb_host.proofs.entries.KindCounts.{hubs-found, hubs-gone, hubs-rest, none_rests}
+use Rattle.usb_host.proofs.StepSums.{goes_forgotten, host_goes_none, went_before}
+use Rattle.usb_host.proofs.payments.ServePayments.{look_bare, look_lost, look_pays}
+use Rattle.usb_host.proofs.payments.ServePayments.{plan_within-went}
 use Rattle.usb_host.proofs.HostProgress.{enters_few, enters_other, without_rests, looks, renews}
 use Rattle.usb_host.proofs.HostProgress.{served_any}
 use Rattle.usb_host.proofs.devices.Plugs.{plugs_forgot, plugs_found, plugs_kept, plugs_rests}
 use Rattle.usb_host.proofs.devices.Plugs.{plugs_then}
 use Rattle.usb_host.proofs.devices.UnmovedBulk.{cleared_unmoved}
-use Rattle.usb_host.proofs.PortRequests.{goes_as, requested-fails, requested-then}
-use Rattle.usb_host.proofs.PortRequests.{requested-wider}
+use Rattle.usb_host.proofs.PortRequests.{goes_as, requested-fails, requested-then, requested-wider}
 use Rattle.usb_host.proofs.knowledge.ServedPorts.{cleared_lost, cleared_stay, forgot_open}
 use Rattle.usb_host.proofs.knowledge.ServedPorts.{forgot_sound, forgot_stay}
 use Rattle.usb_host.proofs.services.ServedWork.{failed_on_way, lost_on}
@@ -49,58 +47,50 @@ use Rattle.usb_host.proofs.PortLocations.{stands_at-claim}
 
 -- What is there is found
 
-module _ {path : List ℕ} {port : KnownPort} {a b : HostState} (s : StandsAt path port a)
-    (away : has_at path a.entries ≡ false) (accounts : Accounts a.entries a.addresses)
-    (went : HostSteps (enumeration_bound port.port) a b) (same : b.stopped ≡ a.stopped)
-    (width : b.options ≡ a.options) where
-  found_goes : HostRuns widest_enumeration a b
-  found_goes = enumeration_goes port.port a b s.askable went same width
+module _ {path : List ℕ} {port : KnownPort} {a b : HostState} (same : b.stopped ≡ a.stopped) where
+  found_goes : {result : Result Finding EnumFault}
+      → EnumerationAt (enumeration_bound port.port) path port result a b
+      → HostRuns widest_enumeration a b
+  found_goes e = enumeration_goes port.port a b e.stands.askable e.went same e.options
 
   pub discover_fails : {fault : EnumFault}
-      → Enumerates port.port a.addresses b.options (tier_of path) port.supply a.world (Err fault)
-      b.world
+      → EnumerationAt (enumeration_bound port.port) path port (Err fault) a b
       → b.entries ≡ a.entries → b.pipes ≡ a.pipes → b.addresses ≡ a.addresses
       → FaultAllowedAt port.port fault b.world → Discovers path port a (Err fault) b
-  discover_fails {fault = fault} x entries pipes pool told =
-      let owned = found_fails b fault x.addresses s away accounts entries
-      went.spends.roots in
+  discover_fails e entries pipes pool told =
+      let owned = found_fails e entries in
       record {
-        requested = record {
-          goes = found_goes;
-          told = told;
-          works = x.works;
-        };
+        requested = record { goes = found_goes e; told = told; works = e.gives.works };
         owned = owned;
-        sound = unfound_finds s width away accounts went fault x entries pipes pool told owned;
+        sound = unfound_finds e entries pipes pool told owned;
         gave = tt;
       }
 
   -- for what was found there is no memory
   pub discover_lost : {f : Finding}
-      → Enumerates port.port a.addresses b.options (tier_of path) port.supply a.world (Ok f) b.world
+      → EnumerationAt (enumeration_bound port.port) path port (Ok f) a b
       → b.entries ≡ a.entries → b.pipes ≡ a.pipes → Discovers path port a (Err Memory) b
-  discover_lost {f = f} x entries pipes = record {
-    requested = record { goes = found_goes; told = tt; works = λ sound. x.works };
-    owned = found_lost b f x.addresses s away accounts entries went.spends.roots;
-    sound = unentered_finds s width away accounts went f x entries pipes;
+  discover_lost e entries pipes = record {
+    requested = record { goes = found_goes e; told = tt; works = λ sound. e.gives.works };
+    owned = found_lost e entries;
+    sound = unentered_finds e entries pipes;
     gave = tt;
   }
 
   pub discover_done : {f : Finding}
-      → Enumerates port.port a.addresses b.options (tier_of path) port.supply a.world (Ok f) b.world
+      → EnumerationAt (enumeration_bound port.port) path port (Ok f) a b
       → IsFound a.addresses b.options (tier_of path) port.supply f → (said : ArrayVec ℕ)
       → IsSaid port.port a.addresses said.items a.world b.world f
       → table_in b ≡ entered path f said (table_in a) → Discovers path port a (Ok tt) b
-  discover_done {f = f} x is said says table =
-      let owned = found_ends b f x.addresses s away accounts (ap (λ (t : Table). t.entries) table)
-      went.spends.roots in
+  discover_done {f = f} e is said says table =
+      let owned = found_ends e (ap (λ (t : Table). t.entries) table) in
       record {
-        requested = record { goes = found_goes; told = tt; works = x.works };
+        requested = record { goes = found_goes e; told = tt; works = e.gives.works };
         owned = owned;
-        sound = entered_finds s width away accounts went f x said table owned;
+        sound = entered_finds e said table owned;
         gave = record {
           finding = f;
-          gave = x;
+          gave = e.gives;
           is = is;
           entries = ap (λ (t : Table). t.entries) table;
           said = said.items;
@@ -174,12 +164,11 @@ module _ {path : List ℕ} {port : KnownPort} {on : Bool} {b d : HostState}
         → ProgressOrLost result a d
     renew_on gains due =
         renew_cases (λ q h. ProgressOrLost q a h)
-        (λ on. served_any result a d (looks path n a b goes r x.forgot.others x.forgot.rest
-        (x.found on).requested.goes gains x.forgot.full
+        (λ on. served_any result a d (looks goes r x.forgot (x.found on).requested.goes gains
         (entered_few path x.mid d result (x.entered on))
         (entered_other path x.mid d result (x.entered on)) due))
-        (λ off. looks path n a b goes r x.forgot.others x.forgot.rest
-        (host_goes_none {n = 0} {h = x.mid}) gains x.forgot.full (omega arith) (λ free. omega arith)
+        (λ off. looks goes r x.forgot (host_goes_none {n = 0} {h = x.mid}) gains (omega arith) (λ
+        free. omega arith)
         due)
 
     renew_hubs : hubs d.entries ≤ hubs a.entries + 1
@@ -191,8 +180,7 @@ module _ {path : List ℕ} {port : KnownPort} {on : Bool} {b d : HostState}
     renew_owned : StandsAt path port a → Isolates port.port a.world b.world
         → KeepsPort path a result d
     renew_owned s bares =
-        let gone : StaysOwned a x.mid = stays_bare path a b x.mid s r goes.went.spends.roots
-        bares x.forgot.others x.forgot.rest in
+        let gone : StaysOwned a x.mid = stays_bare s r goes.went.spends.roots bares x.forgot in
         renew_cases (λ q h. KeepsPort path a q h) (λ on. port_then gone (x.found on).owned)
         (λ off. stays_keeps_port path a gone)
 
@@ -246,7 +234,7 @@ module _ {path : List ℕ} {port : KnownPort} {a b c : HostState} (s : StandsAt 
       (cleared_unmoved x i.owned tt)
 
   look_left : c.entries ≡ without path a.entries
-  look_left = without_rests path a c r f.rest
+  look_left = without_rests a r f
 
   -- no device is connected
   bare_sound : status.connected ≡ false → ServesSound path a (Ok tt) c
@@ -254,10 +242,9 @@ module _ {path : List ℕ} {port : KnownPort} {a b c : HostState} (s : StandsAt 
     sound = λ i. forgot_sound s r look_went x.keeps f i off;
     bulk = λ i on still. bulk_stays a c (forgot_stay s r look_went x.keeps f i) (look_unmoved i);
     cut = λ i. tt;
-    plugs = λ i still. plugs_forgot path a c look_goes.went r f.rest;
+    plugs = λ i still. plugs_forgot look_goes.went r f;
     caused = λ i fair caused.
-        forgot_caused s r look_went c x.keeps f.others f.rest i
-        (fault_none_back b c f.others fair.still) caused;
+        forgot_caused s r look_went x.keeps f i fair.still caused;
   }
 
   cleared_keeps : HostInvariant a → KeepsFound path a.world c.world
@@ -292,18 +279,17 @@ module _ {path : List ℕ} {port : KnownPort} {a b c : HostState} (s : StandsAt 
         → HostSteps widest_enumeration c d → Entered path c result d → HostInvariant a
         → d.world.fault ≡ None → KeepsPlugs a d
     found_plugs (Ok done) d then e i still =
-        let here = went_sound widest_enumeration c.world d.world then still in
-        let order = i.order (went_sound clearing_bound a.world c.world look_goes.went here) in
-        plugs_found widest_enumeration path status a b c d look_goes.went then r
-        f.others f.rest f.gone f.agrees
+        let here = went_before then still in
+        let order = i.order (went_before look_goes.went here) in
+        plugs_found look_goes.went then r f
         (x.reads (claims a.entries) path (stands_at-claim s) i.owned) order on e
     found_plugs (Err fault) d then e i still =
         plugs_then clearing_bound widest_enumeration a c d look_goes.went then still
-        (plugs_forgot path a c look_goes.went r f.rest) (plugs_kept c d then.spends.onward e)
+        (plugs_forgot look_goes.went r f) (plugs_kept c d then.spends.onward e)
 
     found_renewed : (result : Result (Unit {0}) EnumFault) (d : HostState) → Entered path c result d
         → OnOk result (Replaced path (without path a.entries) d.entries)
-    found_renewed (Ok done) d e = renews path a b c d r f.rest e
+    found_renewed (Ok done) d e = renews a r f e
     found_renewed (Err fault) d e = tt
 
     found_anew : (d : HostState) → d.options ≡ c.options
@@ -365,9 +351,8 @@ module _ {path : List ℕ} {port : KnownPort} {a b c : HostState} (s : StandsAt 
         cut = λ i. found_cut result d z.sound i;
         plugs = λ i still. found_plugs result d z.requested.goes.went e i still;
         caused = λ i fair caused.
-            let causes = forgot_caused s r look_went c x.keeps
-            f.others f.rest i (fault_none_back b c f.others
-            (fair_before z.requested.goes.went fair).still) caused in
+            let causes = forgot_caused s r look_went x.keeps f i
+            (fair_before z.requested.goes.went fair).still caused in
             z.sound.caused (look_opens i) (fair_after look_goes.went fair) (λ y away. causes y);
       }
 
@@ -400,7 +385,7 @@ look_done {path = path} {a = a} {b = b} {d = d} result {status = status} s r x y
       (bare_sound s r x y.forgot);
   renewed = cases (λ q h. OnOk q (Replaced path (without path a.entries) h.entries))
       (λ on. found_renewed s r x y.forgot on result d (y.entered on))
-      (λ off. inl (without_rests path a y.mid r y.forgot.rest));
+      (λ off. inl (without_rests a r y.forgot));
   pays = cases (λ q h. PaysAtLook path a q h) (λ on. found_pays s r x y.forgot on d (y.entered on)
       (y.found on)) (λ off. bare_pays s r x y.forgot);
   hubs = renew_hubs y r x.requested.goes;

@@ -3,8 +3,7 @@ use Rattle.std.proofs.Common.{◌≡◌, ◌∙◌, ◌⊎◌, ◌+◌, ◌*◌,
 use Rattle.std.proofs.Common.{true, false, Bool, ℕ, List, Some, Result, Ok, Err, IfErr, IfOk, OnOk}
 use Rattle.std.proofs.Common.{IsOk}
 use Rattle.usb_request.specs.{PORT_ENABLE, C_PORT_CONNECTION, C_PORT_ENABLE, C_PORT_RESET}
-use Rattle.usb_request.specs.declared.hub_feature.TheConstants.{C_PORT_OVER_CURRENT}
-use Rattle.usb_request.specs.declared.hub_feature.TheConstants.{C_PORT_SUSPEND}
+use Rattle.usb_request.specs.declared.hub_feature.TheConstants.{C_PORT_OVER_CURRENT, C_PORT_SUSPEND}
 use Rattle.usb_port.specs.{clear_call, is_reset, PortCall, ClearConnectionChange, ClearEnable}
 use Rattle.usb_port.specs.{ClearEnableChange, ClearResetChange, PortStatus}
 use Rattle.usb_world.specs.{World, HasFault, AttemptsWithin, BusFault}
@@ -18,6 +17,7 @@ use Rattle.usb_hub.specs.{IsAt, KeepsAsked, KeepsCleared, KeepsDevices, ClearsOf
 use Rattle.usb_hub.specs.{ReadsPort, PortCleared, PortRead, order_bound, status_bound, EndsAfter}
 use Rattle.usb_hub.specs.{HubPort, Root, External, ClearsOfHub, StillWorks, WorksAfter}
 use Rattle.usb_hub.proofs.Interface.{clear_works, hub_change_works, port_change_works, read_works}
+use Rattle.usb_hub.proofs.Interface.{keeps_devices_none}
 use Rattle.usb_transaction.specs.{Target}
 use Rattle.usb_backlog.proofs.Interface.{all_none, all_then}
 use Rattle.usb_enum.specs.{read_bound, CanFail, FaultAllowedAt, at_port, fault_at_port, EnumFault}
@@ -44,7 +44,6 @@ use Rattle.usb_host.proofs.devices.Requests.{rest_elsewhere_then, tidies_none, t
 use Rattle.usb_host.proofs.payments.Backlogs.{call_all}
 use Rattle.usb_host.proofs.rests.ClearedPorts.{cleared_steady}
 use Rattle.usb_host.proofs.services.Services.{call_done, done_not}
-use Rattle.usb_hub.proofs.Interface.{keeps_devices_none}
 use Rattle.usb_host.proofs.knowledge.TidiedPorts.{Tidy, enable, reset, tidy_call}
 
 -- A number of requests

@@ -1,20 +1,19 @@
 -- What the serving and the handling of a port leave.
-use Rattle.std.proofs.Common.{◌≡◌, ◌∙◌, ◌+◌, ◌*◌, ◌≤◌, arith, refl, true, false, ℕ, List}
-use Rattle.std.proofs.Common.{[], ◌∷◌, ◌++◌, None, Some, Result, Ok, Err, OnOk}
+use Rattle.std.proofs.Common.{◌≡◌, ◌∙◌, ◌+◌, ◌*◌, ◌≤◌, arith, refl, true, false, ℕ, List, [], ◌∷◌}
+use Rattle.std.proofs.Common.{◌++◌, None, Some, Result, Ok, Err, OnOk}
 use Rattle.usb_port.specs.{PortStatus}
 use Rattle.usb_address.proofs.Interface.{keeps_then}
 use Rattle.usb_pipe.specs.{write_bound}
 use Rattle.usb_enum.specs.{read_bound, EnumFault, ParentLost, Bus, Memory}
-use Rattle.usb_enum.proofs.Interface.{went_sound}
 use Rattle.usb_table.specs.{KnownPort, accepted_device_at, known_port}
-use Rattle.usb_host.specs.{hubs, drop_bound, handling_bound, look_bound, was_disabled, HostState}
-use Rattle.usb_host.specs.{KeepsPort, PortOwned, ServesSound, Watches, EndsAs, IsDue, StandsAt}
-use Rattle.usb_host.specs.{StandsNowhere, Waits, HostSteps, OnlyBusSteps, ClearsOwn, SettlesPort}
-use Rattle.usb_host.specs.{ShowsPort, TidiesPort, EndsAt, FinishesAt, HandlesPort, LooksAfterError}
-use Rattle.usb_host.specs.{LooksAt, LooksOnceMore, ServesOwn, ServesPort, HostInvariant, Part}
-use Rattle.usb_host.specs.{HostFault, DoneAt, OwnHandled, OwnServed, Quiet, all_done}
-use Rattle.usb_host.specs.{at_connection, at_error, at_others, first_failed, hub_failed, next_done}
-use Rattle.usb_host.specs.{by_both, own_known}
+use Rattle.usb_host.specs.{Requested, hubs, drop_bound, handling_bound, look_bound, was_disabled}
+use Rattle.usb_host.specs.{HostState, KeepsPort, PortOwned, ServesSound, Watches, EndsAs, IsDue}
+use Rattle.usb_host.specs.{StandsAt, StandsNowhere, Waits, HostSteps, OnlyBusSteps, ClearsOwn}
+use Rattle.usb_host.specs.{SettlesPort, ShowsPort, TidiesPort, EndsAt, FinishesAt, HandlesPort}
+use Rattle.usb_host.specs.{LooksAfterError, LooksAt, LooksOnceMore, ServesOwn, ServesPort}
+use Rattle.usb_host.specs.{HostInvariant, Part, HostFault, DoneAt, OwnHandled, OwnServed, Quiet}
+use Rattle.usb_host.specs.{all_done, at_connection, at_error, at_others, first_failed, hub_failed}
+use Rattle.usb_host.specs.{next_done, by_both, own_known}
 use Rattle.usb_host.proofs.devices.BulkPipes.{bulk_stays, bulk_then, stay_joined, stay_none}
 use Rattle.usb_host.proofs.devices.BulkPipes.{stays_where}
 use Rattle.usb_host.proofs.devices.Causes.{causes_rests, tidied_caused, watched_caused}
@@ -22,10 +21,11 @@ use Rattle.usb_host.proofs.devices.Fairness.{fair_after, fair_before}
 use Rattle.usb_host.proofs.knowledge.FinishedPorts.{finished_sound}
 use Rattle.usb_host.proofs.payments.HandlingPayments.{handling_pays}
 use Rattle.usb_host.proofs.OwnedPorts.{port_finished, rests_keeps_port, port_then, stays_rests}
-use Rattle.usb_host.proofs.entries.HubCounts.{hubs-rest, none_rests}
-use Rattle.usb_host.proofs.StepSums.{host_goes_none, host_goes_then, no_work_then}
+use Rattle.usb_host.proofs.entries.KindCounts.{hubs-rest, none_rests}
+use Rattle.usb_host.proofs.StepSums.{host_goes_none, host_goes_then, no_work_then, went_before}
 use Rattle.usb_host.proofs.StepSums.{host_rests_then}
-use Rattle.usb_host.proofs.payments.LookPayments.{plan_within-went}
+use Rattle.usb_host.proofs.payments.ServePayments.{plan_within-went, after_look, after_tidy}
+use Rattle.usb_host.proofs.payments.ServePayments.{status_lost, told_there}
 use Rattle.usb_host.proofs.HostProgress.{handled}
 use Rattle.usb_host.proofs.rests.OtherChanges.{failed_served, none_failed, watched_plain}
 use Rattle.usb_host.proofs.devices.Plugs.{plugs_rests, plugs_then}
@@ -37,11 +37,9 @@ use Rattle.usb_host.proofs.devices.UnmovedBulk.{shown_unmoved, tidied_unmoved}
 use Rattle.usb_host.proofs.knowledge.ServedPorts.{rests_stands, tidied_port, tidied_stay}
 use Rattle.usb_host.proofs.knowledge.ServedPorts.{watched_lost, watched_sound, watched_stay}
 use Rattle.usb_host.proofs.services.ServedWork.{looked_on, rests_holds, status_lost_on, tidied_on}
-use Rattle.usb_host.proofs.payments.ServePayments.{after_look, after_tidy, status_lost, told_there}
-use Rattle.usb_host.proofs.services.CutPorts.{cut_after, on_errors, port_cut}
-use Rattle.usb_host.proofs.services.CutPorts.{served_left}
-use Rattle.usb_host.proofs.services.Services.{handled_at, handles_at, serves_looked}
-use Rattle.usb_host.proofs.services.Services.{serves_tidied, status_failed}
+use Rattle.usb_host.proofs.services.CutPorts.{cut_after, on_errors, port_cut, served_left}
+use Rattle.usb_host.proofs.services.Services.{handled_at, handles_at, serves_looked, serves_tidied}
+use Rattle.usb_host.proofs.services.Services.{status_failed}
 
 -- A port is served
 
@@ -180,8 +178,8 @@ module _ {path : List ℕ} {port : KnownPort} {a b : HostState} (s : StandsAt pa
       pays = record {
         pays = λ i ports still.
             let t = settled_tidies i in
-            let order = i.order (went_sound (read_bound 4) a.world b.world shown_went
-            (went_sound (4 * write_bound) b.world d.world settled_went still)) in
+            let order = i.order (went_before shown_went
+            (went_before settled_went still)) in
             after_tidy s r shown_went i ports shown_watches steady d
             (none_rests b t.requested.goes.went q) order result t.tidies
             t.clears.reset t.clears.calm;
@@ -263,27 +261,25 @@ module _ {path : List ℕ} {port : KnownPort} {a b d : HostState} (s : StandsAt 
     {served : Result (Unit {0}) EnumFault} {result : Result (Unit {0}) HostFault}
     (ends : EndsAs served result) (y : FinishesAt path served b result d) where
   -- a part of what is done at a port
-  finished_part : {n : ℕ} → HostSteps n a b → n + drop_bound ≤ handling_bound
-      → b.stopped ≡ a.stopped → b.options ≡ a.options → KeepsPort path a served b
-      → ServesSound path a served b → Part handling_bound a result d
-  finished_part {n = n} went le same width owned sound = record {
-    goes =
-        host_goes_then {m = n} (record { went = went; going = same; options = width }) y.goes le;
-    owned = port_finished path port a result d s went.spends.roots owned y.drops.owned;
-    sound = finished_sound n served result a b d went y.goes.went (y.goes.options ∙ width) ends
-        sound y.drops;
-  }
+  finished_part : {n : ℕ} → Requested port.port n a served b → n + drop_bound ≤ handling_bound
+      → KeepsPort path a served b → ServesSound path a served b → Part handling_bound a result d
+  finished_part {n = n} x le owned sound =
+      let went = x.goes.went in
+      let goes = host_goes_then x.goes y.goes le in
+      record {
+        goes = goes;
+        owned = port_finished path port a result d s went.spends.roots owned y.drops.owned;
+        sound = finished_sound n served result a b d went y.goes.went goes.options ends sound
+            y.drops;
+      }
 
   pub look_finished : LooksAt path port a served b → Part handling_bound a result d
-  look_finished x =
-      finished_part x.requested.goes.went (omega arith) x.requested.goes.going
-      x.requested.goes.options x.owned x.sound
+  look_finished x = finished_part x.requested (omega arith) x.owned x.sound
 
   pub handle_finished : ServesPort path port a served b
       → HandlesPort path (IsDue a.world port.port) a result d
   handle_finished x = record {
-    part = finished_part x.requested.goes.went (omega arith) x.requested.goes.going
-        x.requested.goes.options x.owned x.sound;
+    part = finished_part x.requested (omega arith) x.owned x.sound;
     handled = handles_at path (IsDue a.world port.port) result a d
         (handled result served a b d ends y.holds x.on)
         (λ i. handled_at path served result a b d ends y.left (x.served i))
@@ -291,8 +287,7 @@ module _ {path : List ℕ} {port : KnownPort} {a b d : HostState} (s : StandsAt 
     cut = port_cut path served result a b d y.goes.went ends y.left
         (λ i. served_left path served a b (x.served i)) x.sound.cut
         (λ i. y.drops.cut (x.sound.sound i));
-    pays = handling_pays a b d s x.requested.goes.went y.goes.went served result ends
-        x.requested.told x.sound x y;
+    pays = handling_pays s ends x y;
   }
 
   -- the changes of a hub itself

@@ -1,6 +1,6 @@
 -- Over any bus: where a call through one pipe is refused, nothing is tried.
-use Rattle.std.proofs.Common.{◌≡◌, ◌∙◌, ap, sym, Bool, true, false, List, ℕ, ◌≤◌, length}
-use Rattle.std.proofs.Common.{Option, Result, Ok, Err, IfOk, IfSome, refl}
+use Rattle.std.proofs.Common.{◌≡◌, ◌∙◌, ap, sym, Bool, true, false, List, ℕ, ◌≤◌, length, Option}
+use Rattle.std.proofs.Common.{Result, Ok, Err, IfOk, IfSome, refl}
 use Rattle.std.specs.BTreeMap.{is_at}
 use Rattle.arrayvec.specs.ArrayVec.{ArrayVec}
 use Rattle.usb_port.specs.{path_cmp}
@@ -9,8 +9,8 @@ use Rattle.usb_pipe.specs.{PipeState}
 use Rattle.usb_table.specs.{Entries, GoesThrough, MovedOrRefused, SetOrRefused, Table, TableFault}
 use Rattle.usb_table.specs.{TransferFault, accepted_device_at, is_below_hub, pipes_at, pipes_set}
 use Rattle.usb_table.proofs.Interface.{path_tied}
-use Rattle.usb_host.specs.{FitsPipe, HostFault, HostState, MovesOrRefuses, host_told}
-use Rattle.usb_host.specs.{SetsOrRefuses, is_final}
+use Rattle.usb_host.specs.{FitsPipe, HostFault, HostState, MovesOrRefuses, host_told, SetsOrRefuses}
+use Rattle.usb_host.specs.{is_final}
 use Rattle.usb_host.specs.declared.fault.HostFault.TheVariants as host
 
 -- where the pipes at the path of a call stay, all do

@@ -6,22 +6,21 @@ use Rattle.usb_port.specs.{IsPath, has_bit}
 use Rattle.usb_world.specs.{here, changes, root_port_at, root_row, roots_of}
 use Rattle.usb_hub.specs.{TouchesNoPort}
 use Rattle.usb_resources.specs.{IsFull}
-use Rattle.usb_enum.proofs.Interface.{went_sound}
 use Rattle.usb_table.specs.{is_hub, is_waiting, ComesAfter, IsLast, IsNext}
-use Rattle.usb_host.specs.{Agrees, handling_bound, hub_poll_bound, hubs_bound, looks_bound}
-use Rattle.usb_host.specs.{RootsPaid, RoundPaid, ToldPaid, Weights, HostState, IsRooted, Waits}
-use Rattle.usb_host.specs.{AddsNoWork, Did, either, HandlesNumber, HandlesPort, HubsPolled}
-use Rattle.usb_host.specs.{LookedAgain, LooksAgain, LooksOnceMore, RootsServed, ServedTold}
-use Rattle.usb_host.specs.{ServesEach, ServesHub, ServesHubs, ServesPorts, ServesRoots, bit_clear}
-use Rattle.usb_host.specs.{bit_set, next_hub, no_device, no_hub, no_root, none_yet, root_changed}
-use Rattle.usb_host.specs.{root_steady, HostInvariant, NoneWait, Part, HostFault, Round, Quiet}
-use Rattle.usb_host.specs.{Worked, hubs_most, handling_most, HubsFail, LooksFail, PortsFail}
-use Rattle.usb_host.specs.{RootsFail, BitsHandledSo, HubsAsked, RootsHandledSo, WaitingAsked}
-use Rattle.usb_host.specs.{bit_handled, bit_unset, bits_begun, hub_asked, hubs_begun}
-use Rattle.usb_host.specs.{root_handled, root_unchanged, roots_begun, waiting_begun, waiting_next}
+use Rattle.usb_host.specs.{PaysPart, Agrees, handling_bound, hub_poll_bound, hubs_bound}
+use Rattle.usb_host.specs.{looks_bound, RootsPaid, HostState, IsRooted, Waits, AddsNoWork, Did}
+use Rattle.usb_host.specs.{either, HandlesNumber, HandlesPort, HubsPolled, LookedAgain, LooksAgain}
+use Rattle.usb_host.specs.{LooksOnceMore, RootsServed, ServedTold, ServesEach, ServesHub}
+use Rattle.usb_host.specs.{ServesHubs, ServesPorts, ServesRoots, bit_clear, bit_set, next_hub}
+use Rattle.usb_host.specs.{no_device, no_hub, no_root, none_yet, root_changed, root_steady}
+use Rattle.usb_host.specs.{HostInvariant, NoneWait, Part, HostFault, Round, Quiet, Worked}
+use Rattle.usb_host.specs.{hubs_most, handling_most, HubsFail, LooksFail, PortsFail, RootsFail}
+use Rattle.usb_host.specs.{BitsHandledSo, HubsAsked, RootsHandledSo, WaitingAsked, bit_handled}
+use Rattle.usb_host.specs.{bit_unset, bits_begun, hub_asked, hubs_begun, root_handled}
+use Rattle.usb_host.specs.{root_unchanged, roots_begun, waiting_begun, waiting_next}
 use Rattle.usb_host.proofs.payments.HubPayments.{HubsSoFar, hubs_all, hubs_failed, hubs_next}
 use Rattle.usb_host.proofs.rests.IdleRounds.{none_next, none_shows}
-use Rattle.usb_host.proofs.StepSums.{did_holds, did_then, no_work_then, worked_after}
+use Rattle.usb_host.proofs.StepSums.{did_holds, did_then, no_work_then, went_before, worked_after}
 use Rattle.usb_host.proofs.RoundParts.{hubs_fail, looks_fail, part-fails, part-none, part-then}
 use Rattle.usb_host.proofs.RoundParts.{part-wider}
 use Rattle.usb_host.proofs.payments.Payments.{is_err-if_ok, costs_none, few_stop}
@@ -34,9 +33,9 @@ use Rattle.usb_host.proofs.entries.Roots.{on_failed}
 use Rattle.usb_host.proofs.payments.RoundPayments.{one_waits}
 use Rattle.usb_host.proofs.services.CutPorts.{on_errors}
 use Rattle.usb_host.proofs.services.RoundServices.{looked_then}
-use Rattle.usb_host.proofs.payments.ToldPayments.{RootsSoFar, ToldSoFar, root_shows, roots_failed}
-use Rattle.usb_host.proofs.payments.ToldPayments.{roots_next, told_all, told_clear, told_failed}
-use Rattle.usb_host.proofs.payments.ToldPayments.{told_next, told_so_far_none}
+use Rattle.usb_host.proofs.payments.ToldPayments.{ToldSoFar, root_shows, roots_failed, roots_next}
+use Rattle.usb_host.proofs.payments.ToldPayments.{told_all, told_clear, told_failed, told_next}
+use Rattle.usb_host.proofs.payments.ToldPayments.{told_so_far_none}
 
 -- Root ports
 
@@ -49,7 +48,7 @@ pub record RootsHandled (n : ℕ) (round : Round) (a b : HostState) : Type 0 whe
       → (root_port_at a.world k).connection_changed ≡ false
   pub served : HostInvariant a → RootsServed n round a b
   pub order : RootsHandledSo n round a b
-  pub pays : RootsSoFar round a b
+  pub pays : PaysPart handling_most RootsPaid a (Ok round) b
   pub idle : changes (root_row a.world) ≡ 0 → round ≡ Quiet
 
 pub roots_begin : (h : HostState) → RootsHandled 1 Quiet h h
@@ -101,8 +100,7 @@ module _ {n : ℕ} {round : Round} {a b : HostState} (x : RootsHandled n round a
       served = λ s.
           root_changed n round (x.served s) on (y.handled.served (x.part.sound.sound.sound s));
       order = root_handled n round x.order on y.handled.order;
-      pays = roots_next n a b d x.part.goes.went y.part.goes.went x.part.sound x.pays
-          (root_shows b.world n least most on) y.pays;
+      pays = roots_next (root_shows b.world n least most on) x.part y.part x.pays y.pays;
       idle = λ none. absurd (none_shows a b n (x.same (x.idle none)) none on);
     }
 
@@ -124,8 +122,7 @@ module _ {n : ℕ} {round : Round} {a b : HostState} (x : RootsHandled n round a
             bulk = x.part.sound.bulk i (works none);
             cut = y.cut (x.part.sound.sound.sound i);
           });
-      pays = roots_failed n a b d x.part.goes.went y.part.goes.went x.part.sound x.pays y.pays other
-          RootsPaid e;
+      pays = roots_failed x.part y.part x.pays y.pays e;
       idle = λ none. absurd (none_shows a b n (x.same (x.idle none)) none on);
     }
 
@@ -144,7 +141,7 @@ roots_end {n = n} round {a = a} {b = b} x most end = record {
     order = subst (λ k. RootsHandledSo k round a b) end x.order;
   };
   fails = tt;
-  pays = record { stops = x.pays.stops; pays = x.pays.pays };
+  pays = x.pays;
   idle = λ none. (ap (λ (r : Round). Ok r) (x.idle none), x.same (x.idle none));
 }
 
@@ -189,8 +186,7 @@ module _ {hub : List ℕ} {bits n : ℕ} {a b : HostState} (x : PortsHandled hub
       holds = no_work_then a b d x.holds (did_holds round b d y.part.goes y.handled.did);
       served = λ s. bit_set n (x.served s) on (y.handled.served (x.part.sound.sound.sound s));
       order = bit_handled n x.order on y.handled.order;
-      pays = told_next ((n - 1) * handling_bound) handling_bound hub bits n least most a b d
-          x.part.goes.went y.part.goes.went x.part.sound x.pays round on y.pays;
+      pays = told_next least most on x.part y.part x.pays y.pays;
     }
 
     pub ports_cut : (a.world.fault ≡ None → b.world.fault ≡ None) → {fault : HostFault}
@@ -212,9 +208,7 @@ module _ {hub : List ℕ} {bits n : ℕ} {a b : HostState} (x : PortsHandled hub
             bulk = x.part.sound.bulk i (works none);
             cut = y.cut (x.part.sound.sound.sound i);
           });
-      pays = told_failed ((n - 1) * handling_bound) handling_bound hub bits n least most a b d
-          x.part.goes.went y.part.goes.went x.part.sound x.pays (Err fault) y.pays other
-          (λ (c : Weights) done. ToldPaid hub bits c) e;
+      pays = told_failed least most x.part y.part x.pays y.pays e;
     }
 
 pub ports_end : {hub : List ℕ} (bits : ℕ) {n : ℕ} {a b : HostState} → PortsHandled hub bits n a b
@@ -277,11 +271,12 @@ module _ {last : Option (List ℕ)} {hub : List ℕ} {round : Round} {a b d : Ho
             y.keeps;
         polls = λ s still.
             next_hub last hub round one
-            (x.polls s (went_sound hub_poll_bound b.world d.world second.went still)) next
+            (x.polls s (went_before second.went still)) next
             (y.polls.polled (x.part.sound.sound.sound s) still);
         order = hub_asked last hub round one x.order next y.polls.order;
-        pays = hubs_next hub a b d first.went second.went x.part.sound x.pays one
-            (omega (arith, rank_rises last hub before path next.stands.after)) y.pays;
+        pays = hubs_next hub (omega (arith, rank_rises last hub before path next.stands.after))
+            x.part
+            y.keeps.part x.pays y.pays;
       }
 
   pub hubs_cut : (a.world.fault ≡ None → b.world.fault ≡ None) → {fault : HostFault}
@@ -306,9 +301,7 @@ module _ {last : Option (List ℕ)} {hub : List ℕ} {round : Round} {a b d : Ho
           bulk = x.part.sound.bulk i (works none);
           fails = y.fails (x.part.sound.sound.sound i) (works none);
         });
-    pays = hubs_failed hub a b d x.part.goes.went y.keeps.part.goes.went x.part.sound x.pays y.pays
-        other
-        RoundPaid e;
+    pays = hubs_failed hub x.part y.keeps.part x.pays y.pays e;
     idle = λ none. absurd (none_next (idle none) none next);
   }
 

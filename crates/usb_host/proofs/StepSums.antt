@@ -1,5 +1,9 @@
 -- How the parts of a round join.
-use Rattle.std.proofs.Common.{◌≡◌, ◌∙◌, refl, ap, arith, ℕ, ◌+◌, ◌≤◌}
+use Rattle.std.proofs.Common.{◌≡◌, ◌∙◌, refl, ap, arith, ℕ, ◌+◌, ◌≤◌, List, None, Option, Err}
+use Rattle.std.proofs.Common.{IsErrAnd, Ok, Result}
+use Rattle.usb_world.specs.{World}
+use Rattle.usb_bus.specs.{StepRun}
+use Rattle.usb_enum.proofs.Interface.{went_sound}
 use Rattle.usb_bus.proofs.Interface.{went_none, went_then, went_wider}
 use Rattle.usb_host.specs.{HostState, HostSteps, HostRuns, HostProgress, AddsNoWork, OnlyBusSteps}
 use Rattle.usb_host.specs.{Remains, Did, either, waiting, Round, Worked, Quiet}
@@ -19,6 +23,11 @@ host_goes_then {k = k} {m = m} {n = n} p q le = record {
 pub goes_wider : {m k : ℕ} {a b : HostState} → HostRuns m a b → m ≤ k → HostRuns k a b
 goes_wider {m = m} {k = k} p le =
     record { went = went_wider m k p.went le; going = p.going; options = p.options }
+
+-- a bus that is at work was so before
+pub went_before : {n : ℕ} {old new : World} {t s : Option (List ℕ)} → StepRun n old t new s
+    → new.fault ≡ None → old.fault ≡ None
+went_before {n = n} {old = old} {new = new} went = went_sound n old new went
 
 -- what is forgotten takes no attempt
 pub goes_forgotten : {n : ℕ} (a : HostState) {b c : HostState} → HostRuns n a b
@@ -81,3 +90,9 @@ goes_by {n = n} {k = k} a b w le e f = record { went = went_wider n k w le; goin
 pub either_quiet : (a b : Round) → either a b ≡ Quiet → (a ≡ Quiet) × (b ≡ Quiet)
 either_quiet Worked b is = absurd (cc is)
 either_quiet Quiet b is = (refl, is)
+
+-- a fault is handed on
+pub handed_is : {A E : Type 0} {result : Result A E} {why : E} → IsErrAnd result (λ e. e ≡ why)
+    → result ≡ Err why
+handed_is {result = Ok x} is = absurd is
+handed_is {result = Err e} is = ap Err is

@@ -14,10 +14,10 @@ use Rattle.usb_host.proofs.arrivals.KeptNumbers.{keeps_none}
 
 -- The host had stopped
 
-pub had_stopped : {view now : HostState} → view ≡ now → view.stopped ≡ true
-    → now.stopped ≡ false → ⊥
-had_stopped same stopped running =
-    false≢true (sym running ∙ ap (λ (h : HostState). h.stopped) (sym same) ∙ stopped)
+pub had_stopped : {P : Type 0} {view now : HostState} → view ≡ now → view.stopped ≡ true
+    → now.stopped ≡ false → P
+had_stopped same stopped running = absurd (false≢true (sym running
+    ∙ ap (λ (h : HostState). h.stopped) (sym same) ∙ stopped))
 
 pub stopped_any : {A : Type 0} {m : Bool} {most : ℕ} {h : HostState}
     → TransfersAnyBus {A = A} m most h (Err host.Stopped) h
@@ -62,8 +62,7 @@ pub transfers_any : {A W : Type 0} (m : Bool) (spent : W → ℕ) (failed : W �
 transfers_any m spent failed left bus after answer {k = k} old new is most le told
     numbers = record {
       calls = record {
-        spends = rw (old, new) (counts_spend m (spent bus) (spent after) (failed bus) (failed after)
-            left k most le);
+        spends = rw (old, new) (counts_spend m spent failed left bus after k most le);
         told = λ off. rw (is, new) (counts_transfer (spent after) (failed after) left m answer told
             off);
         numbers = numbers;

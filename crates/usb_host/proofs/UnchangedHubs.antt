@@ -5,10 +5,9 @@ use Rattle.std.proofs.Common.{slice_get, IfSome}
 use Rattle.std.proofs.lemmas.Bool.{eqb-true, ne_eqb}
 use Rattle.usb_port.specs.{PortState, has_change}
 use Rattle.usb_device.specs.{Answer, Way, lost, heard, gave, held_law, in_law, tells_changes}
-use Rattle.usb_device.specs.{change_bits, change_bytes, hub_ports, status_number, Spec}
-use Rattle.usb_device.specs.{State, Reply, Ports, ended, vacant, taken, full, row_of}
-use Rattle.usb_device.specs.{place_at, port_at, Location, path_to, reach_on, state_on, place_on}
-use Rattle.usb_device.specs.{port_there}
+use Rattle.usb_device.specs.{change_bits, change_bytes, hub_ports, status_number, Spec, State}
+use Rattle.usb_device.specs.{Reply, Ports, ended, vacant, taken, full, row_of, place_at, port_at}
+use Rattle.usb_device.specs.{Location, path_to, reach_on, state_on, place_on, port_there}
 use Rattle.usb_device.specs.declared.answer.Answer.TheVariants as answer
 use Rattle.usb_device.specs.declared.transfer.InEndpoint.TheVariants as by
 use Rattle.usb_device.specs.Attempt.{whole, broken}

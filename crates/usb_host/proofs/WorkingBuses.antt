@@ -1,7 +1,6 @@
--- After which transfers and polls the bus still works.
-use Rattle.std.proofs.Common.{◌≡◌, ℕ, Bool, true, false, List, Option, None, Some}
-use Rattle.std.proofs.Common.{length}
-use Rattle.std.proofs.Common.{Result, Ok, Err, MatchResult, IsErrAnd, ap, refl, subst, ◌∙◌}
+-- After which transfers, polls and control transfers the bus still works.
+use Rattle.std.proofs.Common.{◌≡◌, ℕ, Bool, true, false, List, Option, None, Some, length, Result}
+use Rattle.std.proofs.Common.{Ok, Err, MatchResult, ap, refl, ◌∙◌, ◌+◌, ◌==◌, sym}
 use Rattle.std.specs.Global.{Vec}
 use Rattle.std.specs.Int.{div_ceil}
 use Rattle.arrayvec.specs.ArrayVec.{ArrayVec}
@@ -10,7 +9,6 @@ use Rattle.usb_transaction.specs.{AttemptsMade, Target}
 use Rattle.usb_pipe.specs.{PipeFault, FaultAfter, PipeState, Sends, Receives, Clears, packets_of}
 use Rattle.usb_pipe.specs.{IsNoBusFault, PipePolls, Condition}
 use Rattle.usb_pipe.specs.declared.condition.Condition.TheVariants.{Ready, Halted, Broken}
-use Rattle.usb_pipe.specs.declared.fault.PipeFault.TheVariants as pipe
 use Rattle.usb_pipe.proofs.Interface.{receive_by, send_by}
 use Rattle.usb_hub.specs.{StillWorks, WorksAfter}
 use Rattle.usb_hub.proofs.Interface.{failed_works}
@@ -18,15 +16,19 @@ use Rattle.usb_table.specs.{TableFault, TransferFault, Pipes, Hub, Function, Abs
 use Rattle.usb_table.specs.{EndpointChoice, FunctionPipes, PipesThrough, PipesSent, PipesReceived}
 use Rattle.usb_table.specs.{PipesReported, PipesCleared, PipesClearedOf, PipeDid, NotTried}
 use Rattle.usb_table.specs.{InterfaceSetIf, Table, ThroughIf, SentThrough, ReceivedThrough}
-use Rattle.usb_table.specs.{ReportedThrough}
-use Rattle.usb_table.specs.{ClearedOfThrough, ClearedBy, ClearedAfter, ClearedIf, first_pipe}
-use Rattle.usb_table.specs.{pipe_to, polls_through, receives_through, sends_through, table_answer}
-use Rattle.usb_table.specs.{NoDevice, NoEndpoint, clear_miss, clears_miss, first_unclear}
-use Rattle.usb_table.specs.{polls_miss}
-use Rattle.usb_table.specs.{receives_miss, sends_miss}
-use Rattle.usb_table.specs.declared.fault.TableFault.TheVariants as table
+use Rattle.usb_table.specs.{ReportedThrough, ClearedOfThrough, ClearedBy, ClearedAfter, ClearedIf}
+use Rattle.usb_table.specs.{first_pipe, pipe_to, polls_through, receives_through, sends_through}
+use Rattle.usb_table.specs.{table_answer, NoDevice, NoEndpoint, clear_miss, clears_miss}
+use Rattle.usb_table.specs.{first_unclear, polls_miss, receives_miss, sends_miss, MadeOrRefused}
+use Rattle.usb_table.specs.{ReadIf, ReadLeft, ReadMade, TransferIf, TransferIs, TransferLeaves}
+use Rattle.usb_table.specs.{WriteIf, WriteLeft, WriteMade, without_bytes}
 use Rattle.usb_enum.specs.{EnumFault, EnumWorks, ParentLost, Bus, Memory}
 use Rattle.usb_host.specs.{EndsAs, HostFault, HostNotOfBus, HostState, HostWorks, host_told}
+use Rattle.usb_host.specs.{AsksOrRefuses, is_final}
+use Rattle.usb_request.specs.{Setup}
+use Rattle.usb_pipe.specs.declared.fault.PipeFault.TheVariants as pipe
+use Rattle.usb_table.specs.declared.fault.TableFault.TheVariants as table
+use Rattle.usb_host.specs.declared.fault.HostFault.TheVariants as host
 
 pub same_works : (old new : World) → new ≡ old → StillWorks old new
 same_works old new same none = ap (λ (w : World). w.fault) same ∙ none
@@ -282,6 +284,11 @@ pub host_works_on : {A : Type 0} (result : Result A HostFault) (a b d : HostStat
 host_works_on (Ok done) a b d first next = λ none. next (first none)
 host_works_on (Err fault) a b d first next = λ sound none. next sound (first none)
 
+pub host_works_by : {A : Type 0} (result : Result A HostFault) (a b : HostState)
+    → StillWorks a.world b.world → HostWorks a result b
+host_works_by (Ok done) a b still = still
+host_works_by (Err fault) a b still = λ sound. still
+
 -- after a port was served
 pub finished_works : (served : Result (Unit {0}) EnumFault) (result : Result (Unit {0}) HostFault)
     (a b d : HostState) → EndsAs served result → EnumWorks served a.world b.world
@@ -292,14 +299,6 @@ finished_works (Err ParentLost) result a b d ends first next =
 finished_works (Err (Bus fault)) result a b d ends first next = rw ends (λ sound. absurd sound)
 finished_works (Err Memory) result a b d ends first next =
     host_works_on result a b d (first tt) next
-
--- an error that is handed on
-pub host_works_handed : {A : Type 0} (result : Result A HostFault) (why : HostFault)
-    (old new : World) → IsErrAnd result (λ e. e ≡ why) → (HostNotOfBus why → StillWorks old new)
-    → ToldWorks old result new
-host_works_handed (Ok done) why old new same works = absurd same
-host_works_handed (Err fault) why old new same works =
-    λ sound. works (subst HostNotOfBus same sound)
 
 -- A fault that is not the bus's
 
@@ -317,3 +316,69 @@ pub other_works : (n : ℕ) (why : PipeFault) (old new : World)
     → StillWorks old new
 other_works n why old new other ends =
     failed_works (Unit {0}) n why old new ends (sound_fault why other)
+
+-- Control transfers of a driver's own
+
+works_without : {A : Type 0} (answer : Result A PipeFault) (old new : World)
+    → WorksAfter (without_bytes answer) old new → WorksAfter answer old new
+works_without (Ok _) _ _ works = works
+works_without (Err _) _ _ works = works
+
+read_works : (none : Bool) (request : Setup) (t : Target) (old : World)
+    (answer : Result (Vec ℕ) PipeFault) (new : World) → ReadIf none request t old answer new
+    → WorksAfter answer old new
+read_works true _ t old answer new x =
+    works_without answer old new (made_works 2 1 (without_bytes answer) old new x.0.ends)
+read_works false _ t old answer new x = made_works 3 1 answer old new x.ends
+
+transfer_works : {A : Type 0} (Is : TransferIs A) (Leaves : TransferLeaves A)
+    → ((t : Target) (old : World) (answer : Result A PipeFault) (new : World) → Is t old answer new
+    → WorksAfter answer old new) → (path : List ℕ) (tab : Table)
+    (target : Result Target TransferFault) (old : World) (result : Result A TableFault)
+    (new : World) → TransferIf Is Leaves path tab target old result new → TableWorks old result new
+transfer_works Is Leaves each _ _ (Ok target) old _ new x =
+    table_works _ x.answer old new x.told (each target old x.answer new x.is)
+transfer_works Is Leaves _ _ _ (Err _) _ _ _ x =
+    rw x.0 (λ _. same_works _ _ x.1)
+
+pub read_told_works : (request : Setup) (path : List ℕ) (tab : Table)
+    (target : Result Target TransferFault) (old new : World) (answer : Result (Vec ℕ) TableFault)
+    (result : Result (Vec ℕ) HostFault) → result ≡ host_told answer
+    → TransferIf (ReadMade request) (ReadLeft request) path tab target old answer new
+    → ToldWorks old result new
+read_told_works request path tab target old new answer _ is did =
+    host_works _ answer old new is (transfer_works (ReadMade request) (ReadLeft request)
+    (read_works (request.length == 0) request) path tab target old answer new did)
+
+write_works : (none : Bool) (request : Setup) (bytes : List ℕ) (t : Target) (old : World)
+    (answer : Result (Unit {0}) PipeFault) (new : World)
+    → WriteIf none request bytes t old answer new
+    → WorksAfter answer old new
+write_works true _ _ t old answer new x = made_works 2 1 answer old new x.ends
+write_works false _ bytes t old answer new x =
+    made_works (div_ceil (length bytes) t.max + 2) 1 answer old new x.ends
+
+pub write_told_works : (request : Setup) (bytes path : List ℕ) (tab : Table)
+    (target : Result Target TransferFault) (old new : World) (answer : Result (Unit {0}) TableFault)
+    (result : Result (Unit {0}) HostFault) → result ≡ host_told answer
+    → TransferIf (WriteMade request bytes) (WriteLeft request bytes) path tab target old answer new
+    → ToldWorks old result new
+write_told_works request bytes path tab target old new answer _ is did =
+    host_works _ answer old new is (transfer_works (WriteMade request bytes)
+    (WriteLeft request bytes) (write_works (request.length == 0) request bytes) path tab target old
+    answer new did)
+
+-- Over any bus
+
+pub asks_or_refuses : {A W : Type 0} (target : Result Target TransferFault)
+    (view : W → Bool → HostState) (old new : W) (answer : Result A TableFault)
+    (result : Result A HostFault) (before after : Bool) → MadeOrRefused target old answer new
+    → result ≡ host_told answer → before ≡ false → after ≡ is_final result
+    → AsksOrRefuses target (view old before) result (view new after)
+asks_or_refuses (Ok target) view old new answer result before after x is going ends =
+    (x.0, is ∙ ap host_told x.1)
+asks_or_refuses (Err fault) view old new answer result before after x is going ends =
+    let same : result ≡ Err (host.Transfer fault) = is ∙ ap host_told x.0 in (
+      same,
+      ap (λ w. view w after) x.1 ∙ ap (view old) (ends ∙ ap is_final same ∙ sym going),
+    )

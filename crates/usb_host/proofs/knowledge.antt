@@ -6,7 +6,6 @@ pub mod FoundDevices
 pub mod Hubs
 pub mod KnowledgeKept
 pub mod Places
-pub mod RestedWorlds
 pub mod ServedPorts
 pub mod Servers
 pub mod SettledListings

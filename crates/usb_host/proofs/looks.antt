@@ -1,5 +1,4 @@
 -- Looks at ports.
 pub mod LookCalls
-pub mod LookPayments
 pub mod NearEntries
 pub mod OverPorts

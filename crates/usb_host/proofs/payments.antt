@@ -3,7 +3,6 @@ pub mod Backlogs
 pub mod HandlingPayments
 pub mod HubPayments
 pub mod Ledgers
-pub mod LookPayments
 pub mod Payments
 pub mod RoundPayments
 pub mod ServePayments

@@ -6,9 +6,8 @@ use Rattle.usb_request.specs.{Setup}
 use Rattle.usb_transaction.specs.{Target}
 use Rattle.usb_pipe.specs.{PipeFault}
 use Rattle.usb_table.specs.{control_most, control_target, KeepsMoved, ReadLeft, ReadMade}
-use Rattle.usb_table.specs.{TableFault}
-use Rattle.usb_table.specs.{TransferFault, TransferIf, TransferIs, TransferLeaves, table_answer}
-use Rattle.usb_table.specs.{WriteLeft, WriteMade, write_target}
+use Rattle.usb_table.specs.{TableFault, TransferFault, TransferIf, TransferIs, TransferLeaves}
+use Rattle.usb_table.specs.{table_answer, WriteLeft, WriteMade, write_target}
 use Rattle.usb_host.specs.declared.fault.HostFault.{HostFault}
 use Rattle.usb_host.specs.declared.fault.HostFault.TheVariants.{Transfer}
 use Rattle.usb_host.specs.HostCalls.{TransferTells, TransfersAnyBus}

@@ -16,10 +16,9 @@ use Rattle.usb_host.specs.Progress.{HostSpends, HostSteps, KeepsNumbers, QuietKe
 use Rattle.usb_host.specs.Service.{DidParts, PartsFail}
 use Rattle.usb_host.specs.Soundness.{HostInvariant, TransferKeeps}
 use Rattle.usb_host.specs.ToldFaults.{IsReportedLast, RoundFaultAllowed, StopsAsRound}
-use Rattle.usb_host.specs.ToldFaults.{StopsAsTransfer, HostWorks}
-use Rattle.usb_host.specs.ToldFaults.{TransferFaultAllowed}
-use Rattle.usb_host.specs.Transfers.{ClearedAt, ClearedOfAt, MovesOrRefuses, ReceivedAt}
-use Rattle.usb_host.specs.Transfers.{ReportedAt, SentAt}
+use Rattle.usb_host.specs.ToldFaults.{StopsAsTransfer, HostWorks, TransferFaultAllowed}
+use Rattle.usb_host.specs.Transfers.{ClearedAt, ClearedOfAt, MovesOrRefuses, ReceivedAt, ReportedAt}
+use Rattle.usb_host.specs.Transfers.{SentAt}
 use Rattle.usb_host.specs.declared.fault.HostFault.{HostFault}
 use Rattle.usb_host.specs.declared.host.Round.{Round}
 use Rattle.usb_enum.specs.{HostOptions}

@@ -7,6 +7,7 @@ pub mod BulkPipes
 pub mod Controls
 pub mod Cuts
 pub mod Discoveries
+pub mod PartCalls
 pub mod PortHandling
 pub mod HostCalls
 pub mod HostStates
@@ -47,6 +48,7 @@ pub use BulkPipes.{EndpointsBegan, EndpointsStayed, KeepsBulk, RenewedAt, SameFu
 pub use BulkPipes.{NamedEndpointsStayed}
 pub use BulkPipes.{MovesNoBulk, StayedWhere, StaysWhere, by_both, by_control, by_rest}
 pub use Cuts.{CutAt, ForgetsOnWay, StaysOrForgets}
+pub use PartCalls.{PartCall, PortPart, RoundCall}
 pub use PortHandling.{ClearsChange, Climbs, Decides, Disabled, DisablesOnWay, DropsLost, FindsSound}
 pub use PortHandling.{HasWay, HoldsAt, InvariantAfterPort, IsDroppedAt, IsLost, IsOpen, LetsGoOn}
 pub use PortHandling.{PortCaused, RestElsewhere, ServesSound, Tidies, Watches}
@@ -70,7 +72,7 @@ pub use Looks.{HasNoPort, LookCosts, LookDid, LookIs, LookKeeps, LookMade}
 pub use Looks.{LookTells, LookedThere, LooksAnyBus, LooksOver, PaysLookOver, RefusesUnknown}
 pub use Looks.{Reports, ReportsPort, look_cost}
 pub use Progress.{AddsNoWork, Did, DidRound, HostProgress, HostRuns, HostSpends, HostSteps}
-pub use Progress.{HostGoes, KeepsNumbers, known_in}
+pub use Progress.{KeepsNumbers, known_in}
 pub use NewsReports.{HasArrived, HasLeft, IsLeast, IsLeftAt, ReportsArrived, ReportsLeft}
 pub use NewsReports.{ReportsNews}
 pub use NewsReports.{IsFirstLeft, IsNextUnreported, NoneLeft}

@@ -1,13 +1,12 @@
 -- What a look at a port does (9.1.2, 11.12): the port is enumerated anew, as if its connection had
 -- changed.
-use Rattle.std.specs.Prelude.{◌≡◌, ◌⊎◌, ◌+◌, ◌*◌, ⊤, ℕ, List, Bool, false, length}
-use Rattle.std.specs.Prelude.{Option, None, Some, IsSome, Result, Ok, Err, IfErr, OnErr, OnOk}
+use Rattle.std.specs.Prelude.{◌≡◌, ◌⊎◌, ◌+◌, ◌*◌, ⊤, ℕ, List, Bool, false, length, Option, None}
+use Rattle.std.specs.Prelude.{Some, IsSome, Result, Ok, Err, IfErr, OnErr, OnOk}
 use Rattle.usb_port.specs.{parent_of}
 use Rattle.usb_world.specs.{PlanData}
 use Rattle.usb_enum.specs.{Finding}
 use Rattle.usb_enum.specs.declared.finding.Finding.TheVariants as found
-use Rattle.usb_table.specs.{Entries, KnownPort, NoPort, accepted_device_of}
-use Rattle.usb_table.specs.{finding_at, known_port}
+use Rattle.usb_table.specs.{Entries, KnownPort, NoPort, accepted_device_of, finding_at, known_port}
 use Rattle.usb_host.specs.Bounds.{handling_bound}
 use Rattle.usb_host.specs.Budget.{Affords, Costs, StopsWithin, Weights, WorksOn, handling_most}
 use Rattle.usb_host.specs.Budget.{hub_weight, look_weight, stray_weight}

@@ -66,11 +66,6 @@ KeepsNumbers old new = KeepsKnown (known_in old) (known_in new)
 abbrev pub HostSpends : ℕ → HostState → HostState → Type 0
 HostSpends most old new = new.counts.spent ≤ old.counts.spent + most
 
--- over any bus: so it is, and devices keep their numbers
-pub record HostGoes (most : ℕ) (old new : HostState) : Type 0 where
-  pub spends : HostSpends most old new
-  pub numbers : KeepsNumbers old new
-
 -- at most so many attempts were made, and what was written is the text of the bus's steps
 abbrev pub HostSteps : ℕ → HostState → HostState → Type 0
 HostSteps most old new = StepRun most old.world old.trace new.world new.trace

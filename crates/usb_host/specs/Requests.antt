@@ -2,8 +2,7 @@
 use Rattle.std.specs.Prelude.{◌≡◌, ◌*◌, ◌+◌, ℕ, List, Bool, true, false, Result, Ok, Err, IfOk}
 use Rattle.std.specs.Prelude.{OnOk}
 use Rattle.usb_request.specs.{C_PORT_CONNECTION, C_PORT_ENABLE, C_PORT_RESET, PORT_ENABLE}
-use Rattle.usb_request.specs.declared.hub_feature.TheConstants.{C_PORT_OVER_CURRENT}
-use Rattle.usb_request.specs.declared.hub_feature.TheConstants.{C_PORT_SUSPEND}
+use Rattle.usb_request.specs.declared.hub_feature.TheConstants.{C_PORT_OVER_CURRENT, C_PORT_SUSPEND}
 use Rattle.usb_port.specs.{clear_call, ClearConnectionChange, ClearEnable, ClearEnableChange}
 use Rattle.usb_port.specs.{ClearResetChange, PortCall, PortStatus}
 use Rattle.usb_world.specs.{World}

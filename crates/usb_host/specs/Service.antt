@@ -5,8 +5,7 @@ use Rattle.std.specs.Prelude.{Option, None, Some, Result, Ok, Err, OnOk, OnErr, 
 use Rattle.std.specs.Prelude.{IsSome, IsSomeAnd}
 use Rattle.std.specs.BTreeMap.{insert_entry}
 use Rattle.arrayvec.specs.ArrayVec.{ArrayVec}
-use Rattle.usb_port.specs.{path_cmp, parent_of, IsPath, has_bit}
-use Rattle.usb_port.specs.{PortStatus}
+use Rattle.usb_port.specs.{path_cmp, parent_of, IsPath, has_bit, PortStatus}
 use Rattle.usb_device.specs.{told_bits}
 use Rattle.usb_world.specs.{BusFault, PlanData, World, changes, root_port_at, root_row, roots_of}
 use Rattle.usb_transaction.specs.{NoThreeDamaged}
@@ -38,8 +37,7 @@ use Rattle.usb_host.specs.Progress.{OnlyBusSteps, either}
 use Rattle.usb_host.specs.Soundness.{DropsSound, HubKeeps, HubsKeep, HostInvariant, IsDroppable}
 use Rattle.usb_host.specs.Soundness.{LooksKeep, Part, PartsKeep, RootsRest}
 use Rattle.usb_host.specs.Requests.{ClearsAndReads, ClearsError, ClearsOwn, ClearsPort, ClearsTold}
-use Rattle.usb_host.specs.Requests.{InOrder}
-use Rattle.usb_host.specs.Requests.{SettlesPort, ShowsPort}
+use Rattle.usb_host.specs.Requests.{InOrder, SettlesPort, ShowsPort}
 use Rattle.usb_host.specs.Transfers.{table_in}
 use Rattle.usb_host.specs.declared.fault.HostFault.{HostFault}
 use Rattle.usb_host.specs.declared.host.Round.{Round}

@@ -12,8 +12,7 @@ use Rattle.usb_enum.specs.{IsKnownAs, IsOccupied, FewLosses, IsInOrder, IsSet}
 use Rattle.usb_enum.specs.declared.finding.Finding.TheVariants.{Device, Refused}
 use Rattle.usb_backlog.specs.{KeepsAll}
 use Rattle.usb_table.specs.{KnownPort, Entries, accepted_device_at, known_port, AllInSync, InSyncAt}
-use Rattle.usb_table.specs.{finding_at, hub_facts_at, IsListedPort, tier_of, ListsEach}
-use Rattle.usb_table.specs.{SameDevice}
+use Rattle.usb_table.specs.{finding_at, hub_facts_at, IsListedPort, tier_of, ListsEach, SameDevice}
 use Rattle.usb_transaction.specs.{NoThreeDamaged}
 use Rattle.usb_host.specs.Agreement.{Agrees}
 use Rattle.usb_host.specs.Bounds.{hub_poll_bound, hubs_bound, looks_bound, round_bound}

@@ -6,8 +6,8 @@ ghost use Rattle.usb_host.specs.NearPorts.{ChangesNear};
 ghost use Rattle.usb_host.specs.Looks.{LookMade, LookTells, LooksAnyBus, LooksOver};
 ghost use Rattle.usb_host.specs.Looks.{Reports, ReportsPort};
 ghost use Rattle.usb_host.specs.Ports.{IsPortAt};
-ghost use Rattle.usb_host.specs.Progress.{HostGoes};
-ghost use Rattle.usb_host.specs.ToldFaults.{HostWorks, PartFaultAllowed, StopsAsLook};
+ghost use Rattle.usb_host.specs.PartCalls.{PartCall};
+ghost use Rattle.usb_host.specs.ToldFaults.{StopsAsLook};
 ghost use Rattle.usb_host.specs.declared.fault.HostFault.TheVariants.{Stopped, Transfer};
 
 use crate::host::is_final;
@@ -73,11 +73,9 @@ impl<B: Bus> Host<B> {
     /// Enumerates a port anew. If a request to its hub fails, that hub is dropped.
     pub(crate) fn look_over(&mut self, path: &PortPath, port: KnownPort) -> Result<(), HostFault>
         requires { IsPortAt B.modelled path.now port self.old }
-        ensures goes { HostGoes handling_bound self.old self.new }
-        ensures told { IfErr result (λ fault. PartFaultAllowed B.modelled fault self.new) }
+        ensures call { PartCall B.modelled handling_bound self.old result self.new }
         ensures changes { ChangesNear path.now result self.old.entries self.new.entries }
         ensures looks { B.modelled ≡ true → LooksOver path.now self.old result self.new }
-        ensures works { B.modelled ≡ true → HostWorks self.old result self.new }
     {
         let looked = self.enumerate_again(path, port);
         self.drop_lost_parent(path, looked)

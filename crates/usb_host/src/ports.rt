@@ -1,5 +1,5 @@
 //! What the host does at a port.
-ghost use Rattle.std.specs.Prelude.{◌≡◌, ◌≤◌, ◌+◌, ◌*◌, [], ◌∷◌, true, false, IsTrue, Ok, IfErr, IfOk, IfSome, IfNone, IsSome, MatchResult, is_some};
+ghost use Rattle.std.specs.Prelude.{◌≡◌, ◌*◌, [], ◌∷◌, true, false, IsTrue, Ok, IfErr, IfOk, IfSome, IfNone, IsSome, is_some};
 ghost use Rattle.usb_port.specs.Calls.{IsClearFeature};
 ghost use Rattle.usb_port.specs.Order.{parent_of};
 ghost use Rattle.usb_port.specs.Path.{IsPath, IsPortNumber};
@@ -11,18 +11,18 @@ ghost use Rattle.usb_table.specs.Findings.{accepted_device_at};
 ghost use Rattle.usb_table.specs.KnownPorts.{IsAskable, known_port};
 ghost use Rattle.usb_table.specs.Listing.{tier_of};
 ghost use Rattle.usb_pipe.specs.Control.{write_bound};
-ghost use Rattle.usb_host.specs.Backlog.{hubs};
 ghost use Rattle.usb_host.specs.Changes.{HasOnlyWorldChanges, IsCleared, is_stuck, was_disabled};
 ghost use Rattle.usb_host.specs.LeftPorts.{LeavesNoMore};
-ghost use Rattle.usb_host.specs.NearPorts.{DropsNear, EntriesStay, IsOnWay, PortEnds};
+ghost use Rattle.usb_host.specs.NearPorts.{DropsNear, IsOnWay, PortEnds};
 ghost use Rattle.usb_host.specs.PortHandling.{DisablesOnWay, Climbs};
+ghost use Rattle.usb_host.specs.PartCalls.{PartCall, PortPart, RoundCall};
 ghost use Rattle.usb_host.specs.Ports.{IsPortAt, StandsNowhere, IsDue, Waits, Broke, Entered, Forgets};
 ghost use Rattle.usb_enum.specs.Bounds.{read_bound, widest_enumeration};
 ghost use Rattle.usb_host.specs.Bounds.{clearing_bound, drop_bound, handling_bound, look_bound, serving_bound};
-ghost use Rattle.usb_host.specs.Progress.{HostGoes, HostSpends, KeepsNumbers, OnlyBusSteps, OnlyLeaves, QuietKeeps};
+ghost use Rattle.usb_host.specs.Progress.{HostSpends, OnlyBusSteps, OnlyLeaves};
 ghost use Rattle.usb_host.specs.Requests.{ClearsBoth, ClearsError, ClearsFeature, ClearsOthers, ClearsOwn, ClearsPort, ClearsReported, ClearsWhere, SettlesPort, ShowsPort, TidiesPort};
 ghost use Rattle.usb_host.specs.Service.{Discovers, DropsOne, FinishesAt, HandlesNumber, HandlesPort, LooksAfterError, LooksAt, LooksOnceMore, OwnHandled, OwnServed, RenewsPort, ServesOwn, ServesPort};
-ghost use Rattle.usb_host.specs.ToldFaults.{HostReported, PartFaultAllowed, HostWorks};
+ghost use Rattle.usb_host.specs.ToldFaults.{HostReported};
 
 use crate::HostFault;
 use crate::host::{Host, Round};
@@ -120,13 +120,10 @@ impl<B: Bus> Host<B> {
     pub(crate) fn handle_root(&mut self, number: u8) -> Result<(), HostFault>
         requires port { B.modelled ≡ true → IsRootPort self.old.world number }
         requires number { IsPortNumber number }
-        ensures spends { HostSpends handling_bound self.old self.new }
-        ensures numbers { KeepsNumbers self.old self.new }
-        ensures told { IfErr result (λ fault. PartFaultAllowed B.modelled fault self.new) }
+        ensures call { PartCall B.modelled handling_bound self.old result self.new }
         ensures handles { B.modelled ≡ true → HandlesPort (number ∷ [])
             ((root_port_at self.old.world number).connection_changed ≡ true)
             self.old result self.new }
-        ensures works { B.modelled ≡ true → HostWorks self.old result self.new }
     {
         // for the checker: the entries and the addresses agree
         let _table = &self.table;
@@ -140,12 +137,9 @@ impl<B: Bus> Host<B> {
     /// Handles a port of a hub, if that is known and has the port.
     pub(crate) fn handle_below(&mut self, hub: &PortPath, number: u8) -> Result<Round, HostFault>
         requires { IsPath hub.now }
-        ensures spends { HostSpends handling_bound self.old self.new }
-        ensures numbers { KeepsNumbers self.old self.new }
-        ensures told { IfErr result (λ fault. PartFaultAllowed B.modelled fault self.new) }
+        ensures call { PartCall B.modelled handling_bound self.old result self.new }
         ensures handles { B.modelled ≡ true
             → HandlesNumber hub.now number self.old result self.new }
-        ensures works { B.modelled ≡ true → HostWorks self.old result self.new }
     {
         let mut path = hub.duplicate();
         if !path.push(number) {
@@ -161,12 +155,9 @@ impl<B: Bus> Host<B> {
     /// Clears the changes of a hub itself, by way of its first port.
     pub(crate) fn serve_own(&mut self, hub: &PortPath) -> Result<(), HostFault>
         requires { IsPath hub.now }
-        ensures spends { HostSpends handling_bound self.old self.new }
-        ensures numbers { KeepsNumbers self.old self.new }
-        ensures told { IfErr result (λ fault. PartFaultAllowed B.modelled fault self.new) }
+        ensures call { PartCall B.modelled handling_bound self.old result self.new }
         ensures serves { B.modelled ≡ true
             → ServesOwn (OwnServed hub.now) self.old result self.new }
-        ensures works { B.modelled ≡ true → HostWorks self.old result self.new }
     {
         let mut path = hub.duplicate();
         if !path.push(1) {
@@ -181,12 +172,9 @@ impl<B: Bus> Host<B> {
     /// Clears the changes of the hub that has a port. If it does not answer, it is dropped.
     fn handle_own(&mut self, path: &PortPath, port: KnownPort) -> Result<(), HostFault>
         requires { IsPortAt B.modelled path.now port self.old }
-        ensures spends { HostSpends handling_bound self.old self.new }
-        ensures numbers { KeepsNumbers self.old self.new }
-        ensures told { IfErr result (λ fault. PartFaultAllowed B.modelled fault self.new) }
+        ensures call { PartCall B.modelled handling_bound self.old result self.new }
         ensures serves { B.modelled ≡ true
             → ServesOwn (OwnHandled path.now) self.old result self.new }
-        ensures works { B.modelled ≡ true → HostWorks self.old result self.new }
     {
         let cleared = self.clear_own(port.port);
         self.drop_lost_parent(path, cleared)
@@ -212,11 +200,8 @@ impl<B: Bus> Host<B> {
     /// Looks again at a device that waits for an address.
     pub(crate) fn retry_one(&mut self, path: &PortPath) -> Result<Round, HostFault>
         requires { Waits path.now self.old }
-        ensures goes { HostGoes handling_bound self.old self.new }
-        ensures quiet { QuietKeeps result self.old self.new }
-        ensures told { IfErr result (λ fault. PartFaultAllowed B.modelled fault self.new) }
+        ensures call { RoundCall B.modelled handling_bound self.old result self.new }
         ensures looks { B.modelled ≡ true → LooksOnceMore path.now self.old result self.new }
-        ensures works { B.modelled ≡ true → HostWorks self.old result self.new }
     {
         // for the checker: a path has one to seven numbers
         let _numbers = path.numbers();
@@ -246,12 +231,9 @@ impl<B: Bus> Host<B> {
     /// Handles a port. If a request to its hub fails, that hub is dropped.
     fn service_port(&mut self, path: &PortPath, port: KnownPort) -> Result<(), HostFault>
         requires { IsPortAt B.modelled path.now port self.old }
-        ensures spends { HostSpends handling_bound self.old self.new }
-        ensures numbers { KeepsNumbers self.old self.new }
-        ensures told { IfErr result (λ fault. PartFaultAllowed B.modelled fault self.new) }
+        ensures call { PartCall B.modelled handling_bound self.old result self.new }
         ensures handles { B.modelled ≡ true
             → HandlesPort path.now (IsDue self.old.world port.port) self.old result self.new }
-        ensures works { B.modelled ≡ true → HostWorks self.old result self.new }
     {
         let served = self.serve(path, port);
         self.drop_lost_parent(path, served)
@@ -266,11 +248,9 @@ impl<B: Bus> Host<B> {
         requires broke { B.modelled ≡ true
             → IfErr served (λ fault. Broke path.now fault self.old.world) }
         requires told { HostReported B.modelled served self.old }
-        ensures goes { HostGoes drop_bound self.old self.new }
-        ensures told { IfErr result (λ fault. PartFaultAllowed B.modelled fault self.new) }
+        ensures call { PartCall B.modelled drop_bound self.old result self.new }
         ensures ends { PortEnds path.now served result self.old.entries self.new.entries }
         ensures finishes { B.modelled ≡ true → FinishesAt path.now served self.old result self.new }
-        ensures works { B.modelled ≡ true → HostWorks self.old result self.new }
     {
         match served {
             Ok(()) => Ok(()),
@@ -288,9 +268,7 @@ impl<B: Bus> Host<B> {
     /// there is forgotten and found anew; else its changes are cleared.
     fn serve(&mut self, path: &PortPath, port: KnownPort) -> Result<(), EnumFault>
         requires { IsPortAt B.modelled path.now port self.old }
-        ensures spends { HostSpends serving_bound self.old self.new }
-        ensures numbers { KeepsNumbers self.old self.new }
-        ensures told { HostReported B.modelled result self.new }
+        ensures call { PortPart B.modelled path.now serving_bound self.old result self.new }
         ensures serves { B.modelled ≡ true → ServesPort path.now port self.old result self.new }
     {
         let status = self.status(port.port)?;
@@ -430,10 +408,7 @@ impl<B: Bus> Host<B> {
         port: KnownPort,
     ) -> Result<(), EnumFault>
         requires { IsPortAt B.modelled path.now port self.old }
-        ensures spends { HostSpends look_bound self.old self.new }
-        ensures numbers { KeepsNumbers self.old self.new }
-        ensures told { HostReported B.modelled result self.new }
-        ensures stay { EntriesStay path.now self.old.entries self.new.entries }
+        ensures call { PortPart B.modelled path.now look_bound self.old result self.new }
         ensures looks { B.modelled ≡ true → LooksAt path.now port self.old result self.new }
     {
         let status = self.clear_change(port.port)?;
@@ -446,10 +421,7 @@ impl<B: Bus> Host<B> {
     /// anew.
     fn look_after_error(&mut self, path: &PortPath, port: KnownPort) -> Result<(), EnumFault>
         requires { IsPortAt B.modelled path.now port self.old }
-        ensures spends { HostSpends look_bound self.old self.new }
-        ensures numbers { KeepsNumbers self.old self.new }
-        ensures told { HostReported B.modelled result self.new }
-        ensures hubs { hubs self.new.entries ≤ hubs self.old.entries + 1 }
+        ensures call { PortPart B.modelled path.now look_bound self.old result self.new }
         ensures looks { B.modelled ≡ true
             → LooksAfterError path.now port self.old result self.new }
     {
@@ -499,10 +471,7 @@ impl<B: Bus> Host<B> {
         status: PortStatus,
     ) -> Result<(), EnumFault>
         requires { IsPortAt B.modelled path.now port self.old }
-        ensures goes { HostGoes widest_enumeration self.old self.new }
-        ensures told { HostReported B.modelled result self.new }
-        ensures hubs { hubs self.new.entries ≤ hubs self.old.entries + 1 }
-        ensures stay { EntriesStay path.now self.old.entries self.new.entries }
+        ensures call { PortPart B.modelled path.now widest_enumeration self.old result self.new }
         ensures renews { B.modelled ≡ true
             → RenewsPort path.now port status.connected self.old result self.new }
     {
@@ -518,9 +487,7 @@ impl<B: Bus> Host<B> {
     fn discover(&mut self, path: &PortPath, port: KnownPort) -> Result<(), EnumFault>
         requires port { IsPortAt B.modelled path.now port self.old }
         requires away { has_at path.now self.old.entries ≡ false }
-        ensures spends { HostSpends widest_enumeration self.old self.new }
-        ensures numbers { KeepsNumbers self.old self.new }
-        ensures told { HostReported B.modelled result self.new }
+        ensures call { PortPart B.modelled path.now widest_enumeration self.old result self.new }
         ensures entered { Entered path.now self.old result self.new }
         ensures finds { B.modelled ≡ true → Discovers path.now port self.old result self.new }
     {
@@ -551,11 +518,9 @@ impl<B: Bus> Host<B> {
     /// Drops a hub that failed: its port is disabled, what was there and below is forgotten, and
     /// it is listed as lost. Where its port cannot be disabled, its own hub is dropped in its place.
     pub(crate) fn drop_hub(&mut self, hub: PortPath) -> Result<(), HostFault>
-        ensures goes { HostGoes drop_bound self.old self.new }
-        ensures told { IfErr result (λ fault. PartFaultAllowed B.modelled fault self.new) }
+        ensures call { PartCall B.modelled drop_bound self.old result self.new }
         ensures near { DropsNear hub result self.old.entries self.new.entries }
         ensures drops { B.modelled ≡ true → DropsOne hub self.old result self.new }
-        ensures works { B.modelled ≡ true → HostWorks self.old result self.new }
     {
         let lost = self.disable_upward(hub)?;
         // for the checker: a path has one to seven numbers
@@ -568,13 +533,10 @@ impl<B: Bus> Host<B> {
     /// Disables the port at a path, or the nearest one above it that can be disabled. A root port that was left alone
     /// stays so at its new status.
     fn disable_upward(&mut self, first: PortPath) -> Result<PortPath, HostFault>
-        ensures spends { HostSpends drop_bound self.old self.new }
-        ensures ends { MatchResult result
-            (λ path. IsOnWay first path self.old.entries)
-            (λ fault. PartFaultAllowed B.modelled fault self.new) }
+        ensures call { PartCall B.modelled drop_bound self.old result self.new }
+        ensures on { IfOk result (λ path. IsOnWay first path self.old.entries) }
         ensures rests { OnlyBusSteps self.old self.new }
         ensures climbs { B.modelled ≡ true → Climbs first self.old result self.new }
-        ensures works { B.modelled ≡ true → HostWorks self.old result self.new }
     {
         let lost = self.climb(first)?;
         self.stay_left(&lost);
@@ -583,13 +545,10 @@ impl<B: Bus> Host<B> {
 
     /// Disables the port at a path, or the nearest one above it that can be disabled.
     fn climb(&mut self, first: PortPath) -> Result<PortPath, HostFault>
-        ensures spends { HostSpends drop_bound self.old self.new }
-        ensures ends { MatchResult result
-            (λ path. IsOnWay first path self.old.entries)
-            (λ fault. PartFaultAllowed B.modelled fault self.new) }
+        ensures call { PartCall B.modelled drop_bound self.old result self.new }
+        ensures on { IfOk result (λ path. IsOnWay first path self.old.entries) }
         ensures rests { OnlyBusSteps self.old self.new }
         ensures climbs { B.modelled ≡ true → Climbs first self.old result self.new }
-        ensures works { B.modelled ≡ true → HostWorks self.old result self.new }
     {
         // for the checker: a path has one to seven numbers
         let _numbers = first.numbers();
@@ -607,13 +566,11 @@ impl<B: Bus> Host<B> {
 
     /// Disables the port at a path, and says whether it could.
     fn disable(&mut self, path: &PortPath) -> Result<bool, HostFault>
-        ensures spends { HostSpends write_bound self.old self.new }
-        ensures ends { MatchResult result
-            (λ done. IsTrue done → IsSome (known_port path.now self.old.entries))
-            (λ fault. PartFaultAllowed B.modelled fault self.new) }
+        ensures call { PartCall B.modelled write_bound self.old result self.new }
+        ensures known { IfOk result
+            (λ done. IsTrue done → IsSome (known_port path.now self.old.entries)) }
         ensures rests { OnlyBusSteps self.old self.new }
         ensures disables { B.modelled ≡ true → DisablesOnWay path.now self.old result self.new }
-        ensures works { B.modelled ≡ true → HostWorks self.old result self.new }
     {
         let Some(port) = self.port_at(path) else {
             return Ok(false);

@@ -1,5 +1,5 @@
 //! The parts of a round.
-ghost use Rattle.std.specs.Prelude.{◌≡◌, true, IfErr, ◌⊎◌, IfSome, IfNone, IsSome};
+ghost use Rattle.std.specs.Prelude.{◌≡◌, true, ◌⊎◌, IfSome, IfNone, IsSome};
 ghost use Rattle.usb_port.specs.Path.{IsPath};
 ghost use Rattle.usb_device.specs.Bulk.{told_bits};
 ghost use Rattle.usb_table.specs.Listing.{hub_facts_at};
@@ -9,9 +9,9 @@ ghost use Rattle.usb_resources.specs.Pool.{IsFull};
 ghost use Rattle.usb_host.specs.Agreement.{Agrees};
 ghost use Rattle.usb_host.specs.Ports.{Waits};
 ghost use Rattle.usb_host.specs.Bounds.{hub_poll_bound, hubs_bound, looks_bound, roots_bound, round_bound, told_bound};
-ghost use Rattle.usb_host.specs.Progress.{HostGoes, HostSpends, KeepsNumbers, QuietKeeps, either};
+ghost use Rattle.usb_host.specs.PartCalls.{PartCall, RoundCall};
+ghost use Rattle.usb_host.specs.Progress.{either};
 ghost use Rattle.usb_host.specs.Service.{LooksAgain, ServesEach, ServesHub, ServesHubs, ServesPorts, ServesTold, WentByParts};
-ghost use Rattle.usb_host.specs.ToldFaults.{HostWorks, PartFaultAllowed};
 
 use crate::HostFault;
 use crate::host::{Host, Round};
@@ -34,11 +34,8 @@ impl Round {
 impl<B: Bus> Host<B> {
     /// The root ports, the hubs, and the devices that wait.
     pub(crate) fn run_round(&mut self) -> Result<Round, HostFault>
-        ensures goes { HostGoes round_bound self.old self.new }
-        ensures quiet { QuietKeeps result self.old self.new }
-        ensures told { IfErr result (λ fault. PartFaultAllowed B.modelled fault self.new) }
+        ensures call { RoundCall B.modelled round_bound self.old result self.new }
         ensures parts { B.modelled ≡ true → WentByParts self.old result self.new }
-        ensures works { B.modelled ≡ true → HostWorks self.old result self.new }
     {
         let roots = self.serve_roots()?;
         let hubs = self.serve_hubs()?;
@@ -48,11 +45,8 @@ impl<B: Bus> Host<B> {
 
     /// Handles each root port whose connection has changed, by rising number.
     fn serve_roots(&mut self) -> Result<Round, HostFault>
-        ensures goes { HostGoes roots_bound self.old self.new }
-        ensures quiet { QuietKeeps result self.old self.new }
-        ensures told { IfErr result (λ fault. PartFaultAllowed B.modelled fault self.new) }
+        ensures call { RoundCall B.modelled roots_bound self.old result self.new }
         ensures roots { B.modelled ≡ true → ServesEach self.old result self.new }
-        ensures works { B.modelled ≡ true → HostWorks self.old result self.new }
     {
         let mut round = Round::Quiet;
         let roots = self.bus.root_ports();
@@ -67,11 +61,8 @@ impl<B: Bus> Host<B> {
 
     /// Polls each hub that is known, by rising path, and handles the ports that it reports.
     fn serve_hubs(&mut self) -> Result<Round, HostFault>
-        ensures goes { HostGoes hubs_bound self.old self.new }
-        ensures quiet { QuietKeeps result self.old self.new }
-        ensures told { IfErr result (λ fault. PartFaultAllowed B.modelled fault self.new) }
+        ensures call { RoundCall B.modelled hubs_bound self.old result self.new }
         ensures hubs { B.modelled ≡ true → ServesHubs self.old result self.new }
-        ensures works { B.modelled ≡ true → HostWorks self.old result self.new }
     {
         let mut round = Round::Quiet;
         let mut last: Option<PortPath> = None;
@@ -87,11 +78,8 @@ impl<B: Bus> Host<B> {
     /// Polls a hub, and handles the ports that it reports; if it does not answer, it is dropped.
     fn serve_hub(&mut self, hub: &PortPath) -> Result<Round, HostFault>
         requires { IsSome (hub_facts_at hub.now self.old.entries) }
-        ensures goes { HostGoes hub_poll_bound self.old self.new }
-        ensures quiet { QuietKeeps result self.old self.new }
-        ensures told { IfErr result (λ fault. PartFaultAllowed B.modelled fault self.new) }
+        ensures call { RoundCall B.modelled hub_poll_bound self.old result self.new }
         ensures polls { B.modelled ≡ true → ServesHub hub.now self.old result self.new }
-        ensures works { B.modelled ≡ true → HostWorks self.old result self.new }
     {
         // for the checker: a path has one to seven numbers
         let _numbers = hub.numbers();
@@ -112,11 +100,8 @@ impl<B: Bus> Host<B> {
     /// Handles a hub's status-change bitmap: its ports, and the hub itself if none of them has a change.
     fn service_reported(&mut self, hub: &PortPath, bits: u16) -> Result<(), HostFault>
         requires { IsPath hub.now }
-        ensures spends { HostSpends told_bound self.old self.new }
-        ensures numbers { KeepsNumbers self.old self.new }
-        ensures told { IfErr result (λ fault. PartFaultAllowed B.modelled fault self.new) }
+        ensures call { PartCall B.modelled told_bound self.old result self.new }
         ensures serves { B.modelled ≡ true → ServesTold hub.now bits self.old result self.new }
-        ensures works { B.modelled ≡ true → HostWorks self.old result self.new }
     {
         if bits == 1 {
             self.serve_own(hub)
@@ -128,11 +113,8 @@ impl<B: Bus> Host<B> {
     /// Handles each port of a hub whose bit is set, by rising number, as long as the hub is known.
     fn serve_ports(&mut self, hub: &PortPath, bits: u16) -> Result<(), HostFault>
         requires { IsPath hub.now }
-        ensures spends { HostSpends told_bound self.old self.new }
-        ensures numbers { KeepsNumbers self.old self.new }
-        ensures told { IfErr result (λ fault. PartFaultAllowed B.modelled fault self.new) }
+        ensures call { PartCall B.modelled told_bound self.old result self.new }
         ensures serves { B.modelled ≡ true → ServesPorts hub.now bits self.old result self.new }
-        ensures works { B.modelled ≡ true → HostWorks self.old result self.new }
     {
         'ports: for number in 1..16u8 {
             if bits >> number & 1 == 1 {
@@ -144,11 +126,8 @@ impl<B: Bus> Host<B> {
 
     /// Enumerates each device again that waits for an address, by rising path, while one is free.
     fn retry_waiting(&mut self) -> Result<Round, HostFault>
-        ensures goes { HostGoes looks_bound self.old self.new }
-        ensures quiet { QuietKeeps result self.old self.new }
-        ensures told { IfErr result (λ fault. PartFaultAllowed B.modelled fault self.new) }
+        ensures call { RoundCall B.modelled looks_bound self.old result self.new }
         ensures looks { B.modelled ≡ true → LooksAgain self.old result self.new }
-        ensures works { B.modelled ≡ true → HostWorks self.old result self.new }
     {
         let mut round = Round::Quiet;
         let mut last: Option<PortPath> = None;

@@ -2,7 +2,7 @@
 -- reachable.
 use Rattle.std.specs.Global.{Vec}
 use Rattle.std.proofs.Common.{◌≡◌, ℕ, true, false, List, Option, None, Some, refl, sym, subst, ◌∙◌}
-use Rattle.std.proofs.Common.{◌≢◌, ap, ◌⊎◌, inl, inr, [], take, Result, Ok, Err}
+use Rattle.std.proofs.Common.{◌≢◌, ap, inl, inr, [], take, Result, Ok, Err}
 use Rattle.arrayvec.specs.ArrayVec.{ArrayVec}
 use Rattle.usb_packet.specs.{Toggle, One, flips}
 use Rattle.usb_request.specs.{bytes_of, setup_of, IsToHost, Setup}
@@ -10,23 +10,21 @@ use Rattle.usb_device.specs.{State, Location, reach_on, state_on}
 use Rattle.usb_world.specs.{is_harmless, Relation, Was, World, Attempt}
 use Rattle.usb_tree.specs.{IsSettled, address_of}
 use Rattle.usb_tree.proofs.Interface.{equal_same}
-use Rattle.usb_transaction.specs.{Answerer, HadOne, IsAnswer as TransIsAnswer, heard_as}
-use Rattle.usb_transaction.specs.{heard_when_sent, ControlIn, is_at, SourceIn, SinkOut, IsSpared}
-use Rattle.usb_transaction.specs.{TransactionDone, Transacted, in_attempt, out_attempt, TransFault}
-use Rattle.usb_transaction.specs.{Target}
+use Rattle.usb_transaction.specs.{Answerer, HadOne, heard_as, heard_when_sent, is_at, IsSpared}
+use Rattle.usb_transaction.specs.{polled_as, TransactionDone, Transacted, in_attempt, out_attempt}
+use Rattle.usb_transaction.specs.{TransFault, Target}
 use Rattle.usb_transaction.specs.declared.fault.TransFault.TheVariants as trans
-use Rattle.usb_transaction.proofs.Interface.{transacted_unshared, control_in_leaves, had_address}
-use Rattle.usb_transaction.proofs.Interface.{had_one, poll_answered, poll_had, read_answered}
-use Rattle.usb_transaction.proofs.Interface.{read_had, set_up_had, sink_over, source_over}
-use Rattle.usb_transaction.proofs.Interface.{wait_answered, write_answered, write_had}
-use Rattle.usb_pipe.specs.{PipeState, Sends, Receives, as_pipe_fault, packet_target, Interrupt, Polls}
-use Rattle.usb_pipe.specs.{IsTransferAnswer, Gave, Came, NotGone, NotCame, NoRoomLeft, SetUp, Goes}
-use Rattle.usb_pipe.specs.{DataStage, NoSetUp, Reads, Writes, PipeFault, PipePolls, polled_pipe}
+use Rattle.usb_transaction.proofs.Interface.{transacted_unshared, had_address, IsGiven, who_in}
+use Rattle.usb_transaction.proofs.Interface.{who_out, who_set_up, who_waits, sink_told, source_told}
+use Rattle.usb_transaction.proofs.Interface.{had_one}
+use Rattle.usb_pipe.specs.{PipeState, Sends, Receives, as_pipe_fault, packet_target, Interrupt}
+use Rattle.usb_pipe.specs.{Fetches, Polls, IsTransferAnswer, Gave, Came, SetUp, Goes, DataStage}
+use Rattle.usb_pipe.specs.{NoSetUp, Reads, Writes, PipeFault, PipePolls, polled_pipe}
 use Rattle.usb_pipe.specs.Moves as moves
 use Rattle.usb_pipe.specs.Stages as stages
 use Rattle.usb_pipe.specs.declared.condition.Condition.TheVariants.{Broken}
 use Rattle.usb_pipe.specs.declared.fault.PipeFault.TheVariants as pipe_fault
-use Rattle.usb_pipe.proofs.BulkCalls.{poll_by, send_by, receive_by}
+use Rattle.usb_pipe.proofs.BulkCalls.{poll_by, send_by, receive_by, end_of}
 use Rattle.usb_pipe.proofs.ControlSteps.{ended_settled, ended_unshared, host_harmless}
 use Rattle.usb_pipe.proofs.ControlSteps.{bytes_of-length, Requested, requested_leaves}
 
@@ -90,28 +88,23 @@ set_up_passed t request {old} {new} addressed same e =
     (λ h single j s on there at. requested_leaves t request (Ok []) old new same h e single j s on
     there (spared_at t request s addressed at)) e
 
--- an IN of endpoint 0, one of a bulk endpoint, and an OUT of one
-asked_passed : (t : Target) (awaited : Toggle) (bytes : List ℕ) {old new : World}
-    → TransactionDone (heard_as awaited) (in_attempt t 0) old (Ok bytes) new → Passed t old new
-asked_passed t awaited bytes {old} {new} e =
-    passed_one (ControlIn t awaited (Ok bytes)) (λ j s v x. x.others)
-    (λ h single j s on there at. control_in_leaves t awaited (Ok bytes) old new h e single j s
-    on there) e
-
+-- an IN, and an OUT
 fetched_passed : (t : Target) (ep : ℕ) (awaited : Toggle) (bytes : List ℕ) {old new : World}
     → TransactionDone (heard_as awaited) (in_attempt t ep) old (Ok bytes) new → Passed t old new
 fetched_passed t ep awaited bytes {old} {new} e =
-    passed_one (SourceIn t ep awaited (Ok bytes)) (λ j s v x. x.others)
-    (λ h single j s on there at. source_over t ep awaited (Ok bytes) old new h e single j s on
-    there) e
+    passed_one _ (λ j s v x. x.leaves.others)
+    (λ h single j s on there at. source_told t ep awaited (Ok bytes) old new h e single j s on
+    there)
+    e
 
 put_passed : (t : Target) (ep : ℕ) (toggle : Toggle) (bytes : List ℕ) {old new : World}
     → TransactionDone heard_when_sent (out_attempt t ep toggle bytes) old (Ok []) new
     → Passed t old new
 put_passed t ep toggle bytes {old} {new} e =
-    passed_one (SinkOut t ep toggle bytes (Ok [])) (λ j s v x. x.others)
-    (λ h single j s on there at. sink_over t ep toggle bytes (Ok []) old new h e single j s on
-    there) e
+    passed_one _ (λ j s v x. x.leaves.others)
+    (λ h single j s on there at. sink_told t ep toggle bytes (Ok []) old new h e single j s on
+    there)
+    e
 
 -- the packets of a transfer
 
@@ -119,12 +112,12 @@ goes_passed : (t : Target) {wanted : ℕ} {old : World} {n : ℕ} {got : List �
     → Goes t wanted old n got new → Passed t old new
 goes_passed t {old} stages.start = passed_none t old
 goes_passed t (stages.packet {n} bytes g x l) =
-    passed_then (goes_passed t g) (asked_passed t (flips n One) bytes x)
+    passed_then (goes_passed t g) (fetched_passed t 0 (flips n One) bytes x)
 
 stage_passed : (t : Target) {wanted : ℕ} {bytes : List ℕ} {old new : World}
     → DataStage t wanted old bytes new → Passed t old new
 stage_passed t d = passed_then (goes_passed t d.before)
-    (asked_passed t (flips d.packets One) d.last d.came)
+    (fetched_passed t 0 (flips d.packets One) d.last d.came)
 
 pub gave_passed : (t : Target) (ep : ℕ) (first : Toggle) {old : World} {n : ℕ} {sent : List ℕ}
     {new : World} → Gave t ep first old n sent new → Passed t old new
@@ -140,22 +133,44 @@ came_passed t ep first (moves.packet {n} bytes c fetches full) =
 
 -- The device that answered the last one
 
-pub answerer_after_passed : {t : Target} {old mid new : World} → Passed t old mid → IsSettled old.roots
-    → mid.shared ≡ false → (IsSettled mid.roots → Answerer t mid new) → Answerer t old new
-answerer_after_passed {t} {old} {mid} {new} x settled single last =
-    let a : Answerer t mid new = last (x.settled settled) in
-    let had : HasIt t old a.spot = x.kept settled single a.spot
-    (record { state = a.before; on = a.was_on; stands = a.stood; at = a.at }) in
+answered_last : {t : Target} (hear : _) (a : Attempt) {old mid : World} (new : World)
+    (result : Result (List ℕ) TransFault) → Passed t old mid → IsSettled old.roots
+    → Transacted hear a mid result new → new.shared ≡ false
+    → (IsSettled mid.roots → Answerer t mid new) → Answerer t old new
+answered_last {t} hear a {old} {mid} new result x settled e single last =
+    let later : IsSettled mid.roots = x.settled settled in
+    let y : Answerer t mid new = last later in
+    let had : HasIt t old y.spot = x.kept settled
+    (transacted_unshared hear a mid new result e later single) y.spot
+    (record { state = y.before; on = y.was_on; stands = y.stood; at = y.at }) in
     record {
-      spot = a.spot;
-      now = a.now;
-      on = a.on;
-      stands = a.stands;
+      spot = y.spot;
+      now = y.now;
+      on = y.on;
+      stands = y.stands;
       before = had.state;
       was_on = had.on;
       stood = had.stands;
       at = had.at;
     }
+
+-- of an IN, and of an OUT
+pub in_answered : (t : Target) (ep : ℕ) (awaited : Toggle) (result : Result (List ℕ) TransFault)
+    {old mid new : World} → Passed t old mid → IsSettled old.roots → IsGiven result
+    → Transacted (heard_as awaited) (in_attempt t ep) mid result new → new.shared ≡ false
+    → Answerer t old new
+in_answered t ep awaited result {old} {mid} {new} x settled y e single =
+    answered_last (heard_as awaited) (in_attempt t ep) new result x settled e single
+    (λ h. who_in t ep (heard_as awaited) refl result mid new h y e single)
+
+out_answered : (t : Target) (ep : ℕ) (toggle : Toggle) (bytes : List ℕ)
+    (result : Result (List ℕ) TransFault) {old mid new : World} → Passed t old mid
+    → IsSettled old.roots → IsGiven result
+    → Transacted heard_when_sent (out_attempt t ep toggle bytes) mid result new
+    → new.shared ≡ false → Answerer t old new
+out_answered t ep toggle bytes result {old} {mid} {new} x settled y e single =
+    answered_last heard_when_sent (out_attempt t ep toggle bytes) new result x settled e single
+    (λ h. who_out t ep toggle bytes result mid new h y e single)
 
 -- it is the device of the pipe
 pub of_device : (t : Target) (max : ℕ) {old new : World} → Answerer (packet_target t max) old new
@@ -171,37 +186,12 @@ of_device t max a = record {
   at = a.at;
 }
 
--- Faults that are answers
-
--- the transaction's is one, too
-trans_answer : (why : PipeFault) (fault : TransFault) → why ≡ as_pipe_fault fault
-    → IsTransferAnswer why → TransIsAnswer fault
-trans_answer why trans.Stalled e y = tt
-trans_answer why trans.Busy e y = tt
-trans_answer why fault e y = absurd (subst IsTransferAnswer e y)
-
--- a last transaction that failed
-failed_had : {t : Target} (hear : _) (a : Attempt) {old mid : World} (new : World)
-    (fault : TransFault) → Passed t old mid → IsSettled old.roots
-    → Transacted hear a mid (Err fault) new → new.shared ≡ false
-    → (IsSettled mid.roots → HadOne t mid) → HadOne t old
-failed_had {t} hear a {old} {mid} new fault x settled lost single last =
-    let later : IsSettled mid.roots = x.settled settled in
-    let h : HadOne t mid = last later in
-    let had : HasIt t old h.spot = x.kept settled
-    (transacted_unshared hear a mid new (Err fault) lost later single) h.spot
-    (record { state = h.state; on = h.on; stands = h.stands; at = h.at }) in
-    record { spot = h.spot; state = had.state; on = had.on; stands = had.stands; at = had.at }
-
--- the device of the pipe
-had_of_device : (t : Target) (max : ℕ) {w : World} → HadOne (packet_target t max) w → HadOne t w
-had_of_device t max h = record {
-  spot = h.spot;
-  state = h.state;
-  on = h.on;
-  stands = h.stands;
-  at = h.at;
-}
+-- a fault that is an answer is one of the transaction, too
+given_fault : (why : PipeFault) (fault : TransFault) → why ≡ as_pipe_fault fault
+    → IsTransferAnswer why → IsGiven {A = List ℕ} (Err fault)
+given_fault why trans.Stalled e y = tt
+given_fault why trans.Busy e y = tt
+given_fault why fault e y = absurd (subst IsTransferAnswer e y)
 
 -- Control transfers
 
@@ -215,27 +205,26 @@ pub who_reads : (t : Target) (request : Setup) (bytes : Vec ℕ) (old new : Worl
     → IsSettled old.roots → Reads t request old (Ok bytes) new → new.shared ≡ false
     → Answerer t old new
 who_reads t request bytes old new host same settled x single =
-    answerer_after_passed (passed_then (set_up_passed t request (host_addressed t request host) same
-    x.set_up) (stage_passed t x.data_stage)) settled (ended_unshared x.status single)
-    (λ h. write_answered t 0 One [] [] x.second new h x.status single)
+    out_answered t 0 One [] (Ok []) (passed_then (set_up_passed t request
+    (host_addressed t request host) same x.set_up) (stage_passed t x.data_stage)) settled tt
+    x.status single
 
 pub who_writes : (t : Target) (request : Setup) (u : Unit {0}) (old new : World)
     → setup_of (bytes_of request) ≡ request → (is_harmless request ≡ false → t.addr ≢ 0)
     → IsSettled old.roots → Writes t request old (Ok u) new → new.shared ≡ false
     → Answerer t old new
 who_writes t request u old new same addressed settled x single =
-    answerer_after_passed (set_up_passed t request addressed same x.set_up) settled
-    (ended_unshared x.status single) (λ h. read_answered t 0 One x.given x.mid new h x.status
-    single)
+    in_answered t 0 One (Ok x.given) (set_up_passed t request addressed same x.set_up) settled tt
+    x.status single
 
 no_set_up_had : (t : Target) (request : Setup) (why : PipeFault) (old new : World)
     → setup_of (bytes_of request) ≡ request → (is_harmless request ≡ false → t.addr ≢ 0)
     → IsSettled old.roots
     → IsTransferAnswer why → NoSetUp t request old why new → new.shared ≡ false → HadOne t old
 no_set_up_had t request why old new same addressed settled y x single =
-    set_up_had t (bytes_of request) x.fault old new (bytes_of-length request)
-    (λ h. addressed (ap is_harmless (sym same) ∙ h)) settled (trans_answer why x.fault x.told y)
-    x.set_up single
+    had_one (who_set_up t (bytes_of request) (Err x.fault) old new (bytes_of-length request)
+    (λ h. addressed (ap is_harmless (sym same) ∙ h)) settled (given_fault why x.fault x.told y)
+    x.set_up single)
 
 pub who_read_had : (t : Target) (request : Setup) (why : PipeFault) (old new : World)
     → IsToHost request → setup_of (bytes_of request) ≡ request
@@ -247,22 +236,16 @@ who_read_had t request why old new host same settled y (inr (inl x)) single =
     let set_up : Passed t old x.mid = set_up_passed t request (host_addressed t request host) same
     x.set_up in
     elim x.data_stage [
-      | inl d ↦
-          failed_had (heard_as (flips d.packets One)) (in_attempt t 0) new d.fault
-          (passed_then set_up (goes_passed t d.before)) settled d.lost single
-          (λ h. read_had t 0 (flips d.packets One) d.fault d.mid new h
-          (trans_answer why d.fault d.told y) d.lost single)
-      | inr d ↦
-          had_one (answerer_after_passed (passed_then set_up (goes_passed t d.before)) settled
-          (ended_unshared d.came single) (λ h. read_answered t 0 (flips d.packets One) d.last
-          d.mid new h d.came single))
+      | inl d ↦ had_one (in_answered t 0 (flips d.packets One) (Err d.fault)
+          (passed_then set_up (goes_passed t d.before)) settled (given_fault why d.fault d.told y)
+          d.lost single)
+      | inr d ↦ had_one (in_answered t 0 (flips d.packets One) (Ok d.last)
+          (passed_then set_up (goes_passed t d.before)) settled tt d.came single)
     ]
 who_read_had t request why old new host same settled y (inr (inr x)) single =
-    failed_had heard_when_sent (out_attempt t 0 One []) new x.fault
-    (passed_then (set_up_passed t request (host_addressed t request host) same x.set_up)
-    (stage_passed t x.data_stage)) settled x.status single
-    (λ h. write_had t 0 One [] x.fault x.second new h (trans_answer why x.fault x.told y) x.status
-    single)
+    had_one (out_answered t 0 One [] (Err x.fault) (passed_then (set_up_passed t request
+    (host_addressed t request host) same x.set_up) (stage_passed t x.data_stage)) settled
+    (given_fault why x.fault x.told y) x.status single)
 
 pub who_write_had : (t : Target) (request : Setup) (why : PipeFault) (old new : World)
     → setup_of (bytes_of request) ≡ request → (is_harmless request ≡ false → t.addr ≢ 0)
@@ -271,9 +254,8 @@ pub who_write_had : (t : Target) (request : Setup) (why : PipeFault) (old new : 
 who_write_had t request why old new same addressed settled y (inl x) single =
     no_set_up_had t request why old new same addressed settled y x single
 who_write_had t request why old new same addressed settled y (inr x) single =
-    failed_had (heard_as One) (in_attempt t 0) new x.fault
-    (set_up_passed t request addressed same x.set_up) settled x.status single
-    (λ h. read_had t 0 One x.fault x.mid new h (trans_answer why x.fault x.told y) x.status single)
+    had_one (in_answered t 0 One (Err x.fault) (set_up_passed t request addressed same x.set_up)
+    settled (given_fault why x.fault x.told y) x.status single)
 
 -- Bulk transfers
 
@@ -282,10 +264,9 @@ gone_answered : (t : Target) (ep : ℕ) (first : Toggle) {old : World} {n : ℕ}
     {new : World} → IsSettled old.roots → Gave t ep first old n sent new → sent ≢ []
     → new.shared ≡ false → Answerer t old new
 gone_answered t ep first settled moves.start some single = absurd (some refl)
-gone_answered t ep first {new} settled (moves.packet {n} {mid} bytes g full more fits puts) some
-    single =
-    answerer_after_passed (gave_passed t ep first g) settled (ended_unshared puts single)
-    (λ h. write_answered t ep (flips n first) bytes [] mid new h puts single)
+gone_answered t ep first settled (moves.packet {n} bytes g full more fits puts) some single =
+    out_answered t ep (flips n first) bytes (Ok []) (gave_passed t ep first g) settled tt puts
+    single
 
 pub who_sends : (bytes : List ℕ) (pipe : PipeState) (u : Unit {0}) (left : PipeState) (old new : World)
     → bytes ≢ []
@@ -293,8 +274,19 @@ pub who_sends : (bytes : List ℕ) (pipe : PipeState) (u : Unit {0}) (left : Pip
 who_sends bytes pipe u left old new some x single =
     let works : pipe.condition ≢ Broken = λ e. cc (x.broken e).answer in
     let s = x.moved works some in
-    of_device pipe.target pipe.max (gone_answered (packet_target pipe.target pipe.max) pipe.ep
-    pipe.toggle s.settled s.went.gone some single)
+    of_device pipe.target pipe.max (gone_answered (end_of pipe) pipe.ep pipe.toggle
+    s.settled s.went.gone some single)
+
+module _ (pipe : PipeState) {old new : World} (settled : IsSettled old.roots)
+    (single : new.shared ≡ false) where
+  -- behind packets that came
+  came_answered : {n : ℕ} {got : List ℕ} {mid : World} (result : Result (List ℕ) TransFault)
+      → Came (end_of pipe) pipe.ep pipe.toggle old n got mid → IsGiven result
+      → Fetches (end_of pipe) pipe.ep (flips n pipe.toggle) mid result new
+      → Answerer pipe.target old new
+  came_answered {n} result c y e = of_device pipe.target pipe.max
+      (in_answered (end_of pipe) pipe.ep (flips n pipe.toggle) result
+      (came_passed (end_of pipe) pipe.ep pipe.toggle c) settled y e single)
 
 pub who_receives : (wanted : ℕ) (pipe : PipeState) (bytes : Vec ℕ) (left : PipeState) (old new : World)
     → wanted ≢ 0 → Receives wanted pipe old (Ok bytes) left new → new.shared ≡ false
@@ -302,42 +294,7 @@ pub who_receives : (wanted : ℕ) (pipe : PipeState) (bytes : Vec ℕ) (left : P
 who_receives wanted pipe bytes left old new some x single =
     let works : pipe.condition ≢ Broken = λ e. cc (x.broken e).0 in
     let r = x.moved works some in
-    let t = packet_target pipe.target pipe.max in
-    let c = r.came in
-    of_device pipe.target pipe.max
-    (answerer_after_passed (came_passed t pipe.ep pipe.toggle c.before) r.settled
-    (ended_unshared c.came single)
-    (λ h. read_answered t pipe.ep (flips c.packets pipe.toggle) c.last c.mid new h c.came single))
-
-module _ (pipe : PipeState) (why : PipeFault) (old new : World) (settled : IsSettled old.roots)
-    (y : IsTransferAnswer why) (single : new.shared ≡ false) where
-  abbrev Packets : Target
-  Packets = packet_target pipe.target pipe.max
-
-  not_gone_had : (total : List ℕ) → NotGone Packets pipe.ep pipe.toggle total old why new
-      → HadOne pipe.target old
-  not_gone_had total x =
-      had_of_device pipe.target pipe.max
-      (failed_had heard_when_sent (out_attempt Packets pipe.ep (flips x.packets pipe.toggle)
-      (take pipe.max x.rest)) new x.fault (gave_passed Packets pipe.ep pipe.toggle x.before)
-      settled x.lost single
-      (λ h. write_had Packets pipe.ep (flips x.packets pipe.toggle) (take pipe.max x.rest) x.fault
-      x.mid new h (trans_answer why x.fault x.told y) x.lost single))
-
-  not_come_had : (wanted : ℕ) → NotCame Packets pipe.ep pipe.toggle wanted old why new
-      ⊎ NoRoomLeft Packets pipe.ep pipe.toggle wanted old why new → HadOne pipe.target old
-  not_come_had wanted (inl x) =
-      had_of_device pipe.target pipe.max
-      (failed_had (heard_as (flips x.packets pipe.toggle)) (in_attempt Packets pipe.ep) new x.fault
-      (came_passed Packets pipe.ep pipe.toggle x.before) settled x.lost single
-      (λ h. read_had Packets pipe.ep (flips x.packets pipe.toggle) x.fault x.mid new h
-      (trans_answer why x.fault x.told y) x.lost single))
-  not_come_had wanted (inr x) =
-      had_of_device pipe.target pipe.max
-      (had_one (answerer_after_passed (came_passed Packets pipe.ep pipe.toggle x.before) settled
-      (ended_unshared x.came single)
-      (λ h. read_answered Packets pipe.ep (flips x.packets pipe.toggle) x.last x.mid new h x.came
-      single)))
+    came_answered pipe r.settled single (Ok r.came.last) r.came.before tt r.came.came
 
 not_broken : (why : PipeFault) → IsTransferAnswer why → ◌≢◌ {A = PipeFault} why pipe_fault.Broken
 not_broken why y e = subst IsTransferAnswer e y
@@ -346,9 +303,13 @@ pub who_send_had : (bytes : List ℕ) (pipe : PipeState) (why : PipeFault) (left
     → IsTransferAnswer why
     → Sends bytes pipe old (Err why) left new → new.shared ≡ false → HadOne pipe.target old
 who_send_had bytes pipe why left old new y x single =
+    let t = end_of pipe in
     send_by (HadOne pipe.target old) (λ i. absurd (not_broken why y (cc i.answer)))
     (λ none i. cc i.answer)
-    (λ works some m. not_gone_had pipe why old new m.settled y single bytes m.went) x
+    (λ works some m. let g = m.went in had_one (of_device pipe.target pipe.max
+    (out_answered t pipe.ep (flips g.packets pipe.toggle) (take pipe.max g.rest) (Err g.fault)
+    (gave_passed t pipe.ep pipe.toggle g.before) m.settled (given_fault why g.fault g.told y)
+    g.lost single))) x
 
 pub who_receive_had : (wanted : ℕ) (pipe : PipeState) (why : PipeFault) (left : PipeState) (old new : World)
     → IsTransferAnswer why
@@ -356,7 +317,11 @@ pub who_receive_had : (wanted : ℕ) (pipe : PipeState) (why : PipeFault) (left 
 who_receive_had wanted pipe why left old new y x single =
     receive_by (HadOne pipe.target old) (λ broken kept same. absurd (not_broken why y (cc broken)))
     (λ bytes is none kept same. cc is)
-    (λ works some m. not_come_had pipe why old new m.settled y single wanted m.came) x
+    (λ works some m. elim m.came [
+      | inl g ↦ had_one (came_answered pipe m.settled single (Err g.fault) g.before
+          (given_fault why g.fault g.told y) g.lost)
+      | inr g ↦ had_one (came_answered pipe m.settled single (Ok g.last) g.before tt g.came)
+    ]) x
 
 -- Polls
 
@@ -364,22 +329,29 @@ pub who_polls : (pipe : Interrupt) (got : Option (ArrayVec ℕ)) (left : Interru
     → IsSettled old.roots
     → Polls pipe old (Ok got) left new → new.shared ≡ false → Answerer pipe.target old new
 who_polls pipe None left old new settled x single =
-    wait_answered pipe.target pipe.ep pipe.toggle old new settled x.asked single
+    who_waits pipe.target pipe.ep pipe.toggle old new settled x.asked single
 who_polls pipe (Some packet) left old new settled x single =
-    poll_answered pipe.target pipe.ep pipe.toggle packet.items old new settled x.asked single
+    who_in pipe.target pipe.ep (polled_as pipe.toggle) refl (Ok packet.items) old new settled tt
+    x.asked single
+
+poll_answered : (pipe : Interrupt) (why : PipeFault) (left : Interrupt) (old new : World)
+    → IsSettled old.roots → IsTransferAnswer why
+    → Polls pipe old (Err why) left new → new.shared ≡ false → Answerer pipe.target old new
+poll_answered pipe why left old new settled y x single =
+    let n = x.asked in
+    who_in pipe.target pipe.ep (polled_as pipe.toggle) refl (Err n.fault) old new settled
+    (given_fault why n.fault n.told y) n.polled single
 
 pub who_poll_had : (pipe : Interrupt) (why : PipeFault) (left : Interrupt) (old new : World)
     → IsSettled old.roots → IsTransferAnswer why
     → Polls pipe old (Err why) left new → new.shared ≡ false → HadOne pipe.target old
 who_poll_had pipe why left old new settled y x single =
-    let n = x.asked in
-    poll_had pipe.target pipe.ep pipe.toggle n.fault old new settled
-    (trans_answer why n.fault n.told y) n.polled single
+    had_one (poll_answered pipe why left old new settled y x single)
 
 pub who_packet_had : (pipe : PipeState) (why : PipeFault) (left : PipeState) (old new : World)
     → IsTransferAnswer why
     → PipePolls pipe old (Err why) left new → new.shared ≡ false → HadOne pipe.target old
 who_packet_had pipe why left old new y x single =
     poll_by (HadOne pipe.target old) (λ i. absurd (not_broken why y (cc i.answer)))
-    (λ works m. had_of_device pipe.target pipe.max
-    (who_poll_had (polled_pipe pipe) why (polled_pipe left) old new m.settled y m.polls single)) x
+    (λ works m. had_one (of_device pipe.target pipe.max
+    (poll_answered (polled_pipe pipe) why (polled_pipe left) old new m.settled y m.polls single))) x

@@ -1,7 +1,7 @@
 -- Which attempts a transfer made, as a course of the world.
 use Rattle.std.proofs.Common.{inl, inr, ℕ, List, [], ◌∷◌, ◌++◌, length, take, min, ◌*◌, ◌<◌, ◌≤◌}
-use Rattle.std.proofs.Common.{Bool, Option, None, Some, Result, Ok, Err, refl, ◌≡◌, ◌⊎◌, sym, subst, ◌∙◌}
-use Rattle.std.proofs.Common.{arith, append_assoc, append-nil, length-append}
+use Rattle.std.proofs.Common.{Bool, Option, Result, Ok, Err, refl, ◌≡◌, ◌⊎◌, sym, subst, ◌∙◌, arith}
+use Rattle.std.proofs.Common.{append_assoc, append-nil, length-append}
 use Rattle.std.specs.Global.{Vec}
 use Rattle.std.proofs.lemmas.List.{take_min}
 use Rattle.std.proofs.Math.Seq.{take-append_seam, take-length}
@@ -11,14 +11,15 @@ use Rattle.usb_request.specs.{Setup, clear_endpoint_halt, bytes_of}
 use Rattle.usb_world.specs.{World, Course, here, Step, attempt, Attempt, BusFault, Outcome}
 use Rattle.usb_world.proofs.Interface.{course_joined, course_then, course_wider}
 use Rattle.usb_transaction.specs.{Target, TransFault, IsOnly, heard_as, heard_when_sent, set_up_as}
-use Rattle.usb_transaction.specs.{TransactionDone, BusFailed, AttemptLog, start as none_yet, next}
-use Rattle.usb_transaction.specs.{KeepsTrying, Transacted, in_attempt, out_attempt, setup_attempt}
+use Rattle.usb_transaction.specs.{TransactionDone, AttemptLog, start as none_yet, next, KeepsTrying}
+use Rattle.usb_transaction.specs.{Transacted, in_attempt, out_attempt, setup_attempt}
 use Rattle.usb_transaction.specs.declared.fault.TransFault.TheVariants as trans
 use Rattle.usb_transaction.proofs.Interface.{polled_attempts, trail_course}
-use Rattle.usb_pipe.specs.{IsOfTransfer, TransferAttempts, PipeState, halt_address, Receives, Clears}
-use Rattle.usb_pipe.specs.{Sends, as_pipe_fault, packet_target, Interrupt, Polls, PollAsked}
+use Rattle.usb_pipe.specs.{IsOfTransfer, TransferAttempts, PipeState, halt_address, Receives}
+use Rattle.usb_pipe.specs.{Clears, Sends, as_pipe_fault, packet_target, Interrupt, Polls, PollAsked}
 use Rattle.usb_pipe.specs.{IsBehind, Came, ReceiveEnds, Gave, SendsAt, SendEnds, Goes, DataStage}
-use Rattle.usb_pipe.specs.{SetUp, DataLost, NoRoom, Reads, Writes, PipeFault, PipePolls, polled_pipe}
+use Rattle.usb_pipe.specs.{SetUp, DataLost, NoRoom, Reads, Writes, PipeFault, PipePolls}
+use Rattle.usb_pipe.specs.{polled_pipe}
 use Rattle.usb_pipe.specs.Moves as moves
 use Rattle.usb_pipe.specs.Stages as stages
 use Rattle.usb_pipe.specs.declared.fault.PipeFault.TheVariants as pipe_fault
@@ -60,29 +61,14 @@ module _ (K : Step → World → Type 0) (hear : _) (a : Attempt) {mid : World}
 
   last_kind : {last : Outcome} {outcomes : List Outcome} {now : World}
       → AttemptLog a mid (last ∷ outcomes) now → KeepsTrying hear outcomes → Course K mid now
-  last_kind (next w r made) on = course_then (attempt a) (trail_kind r on) (kind _ _ r on)
+  last_kind log on = grind (arith, course_then, trail_kind)
 
   -- a transfer that failed as its last transaction did
   pub lost_kind : {A : Type 0} {old new : World} (why : PipeFault) (fault : TransFault)
       → why ≡ as_pipe_fault fault → Course K old mid → Transacted hear a mid (Err fault) new
       → TransferAttempts {A = A} K old (Err why) new
-  lost_kind {A} {old} {new} why fault told c x = record {
-    whole = λ n. let o = transacted_ended A why fault told n x in
-        course_joined c (last_kind o.trail o.onward);
-    cut = λ f e.
-        let same : fault ≡ trans.Bus f = grind arith in
-        let o : BusFailed hear a mid f new = subst (λ g. Transacted hear a mid (Err g) new) same
-        x in
-        record {
-          mid = o.mid;
-          course = course_joined c (trail_kind o.trail o.onward);
-          last = a;
-          is = kind _ _ o.trail o.onward;
-          fits = o.fits;
-          refused = o.refused;
-          fails = o.fails;
-        };
-  }
+  lost_kind why fault told c x =
+      grind (arith, course_joined, last_kind, trail_kind, transacted_ended)
 
 -- a call that makes no attempt
 idle_kind : {A : Type 0} {K : Step → World → Type 0} {old new : World} {result : Result A PipeFault}
@@ -170,21 +156,8 @@ moved_attempts : (t : Target) (ep : ℕ) (first : Toggle) (wanted : ℕ)
     (result : Result (Vec ℕ) PipeFault) (old new : World)
     → ReceiveEnds t ep first wanted old result new
     → TransferAttempts (IsOnly (in_attempt t ep)) old result new
-moved_attempts t ep first wanted (Ok bytes) old new x =
-    record {
-      whole = λ n. course_joined (came_attempts t ep first x.before)
-          (trail_course (λ w made. refl) x.came.trail);
-      cut = λ f e. cc e;
-    }
-moved_attempts t ep first wanted (Err why) old new (inl x) =
-    lost_kind _ (heard_as (flips x.packets first)) (in_attempt t ep) (λ o w r on. refl) why x.fault
-    x.told (came_attempts t ep first x.before) x.lost
-moved_attempts t ep first wanted (Err why) old new (inr x) =
-    record {
-      whole = λ n. course_joined (came_attempts t ep first x.before)
-          (trail_course (λ w made. refl) x.came.trail);
-      cut = λ f e. cc (x.told, e);
-    }
+moved_attempts t ep first wanted result old new x =
+    grind (arith, came_attempts, course_joined, lost_kind, trail_course)
 
 pub receive_attempts : (wanted : ℕ) (pipe : PipeState) (result : Result (Vec ℕ) PipeFault) (left : PipeState)
     (old new : World) → Receives wanted pipe old result left new
@@ -201,19 +174,13 @@ receive_attempts wanted pipe result left old new x =
 asked_attempts : (pipe : Interrupt) (result : Result (Option (ArrayVec ℕ)) PipeFault)
     (old new : World) → PollAsked pipe old result new
     → TransferAttempts (IsOnly (in_attempt pipe.target pipe.ep)) old result new
-asked_attempts pipe (Ok None) old new x =
-    record { whole = λ n. trail_course (λ w made. refl) x.trail; cut = λ f e. cc e }
-asked_attempts pipe (Ok (Some packet)) old new x =
-    record { whole = λ n. trail_course (λ w made. refl) x.trail; cut = λ f e. cc e }
-asked_attempts pipe (Err why) old new x =
-    let y = polled_attempts pipe.toggle (in_attempt pipe.target pipe.ep) (Err x.fault) old new
-    x.polled in record { whole = λ n. y.whole (grind arith); cut = λ f e. y.cut f (grind arith) }
+asked_attempts pipe result old new x = grind (arith, polled_attempts, trail_course)
 
 pub poll_attempts : (pipe : Interrupt) (result : Result (Option (ArrayVec ℕ)) PipeFault)
     (left : Interrupt) (old new : World)
     → Polls pipe old result left new → TransferAttempts (IsOnly (in_attempt pipe.target pipe.ep))
     old result new
-poll_attempts pipe result left old new x = asked_attempts pipe result old new x.asked
+poll_attempts pipe result left old new x = grind (arith, asked_attempts, x.asked)
 
 pub packet_attempts : (pipe : PipeState) (result : Result (Option (ArrayVec ℕ)) PipeFault)
     (left : PipeState) (old new : World) → PipePolls pipe old result left new
@@ -244,18 +211,7 @@ module _ (t : Target) (ep : ℕ) (first : Toggle) (total : List ℕ) (old : Worl
       → Kind (attempt (out_attempt t ep (flips n first) (take t.max rest))) w
   moment_is {n} {sent} {mid} rest g full split outcomes w r on =
       record {
-        moment = record {
-          packets = n;
-          sent = sent;
-          rest = rest;
-          mid = mid;
-          before = g;
-          full = full;
-          split = split;
-          outcomes = outcomes;
-          trail = r;
-          onward = on;
-        };
+        moment = grind arith;
         is = refl;
       }
 

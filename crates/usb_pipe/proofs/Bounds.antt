@@ -1,9 +1,8 @@
 -- How many attempts a control transfer may take.
-use Rattle.std.proofs.Common.{◌≡◌, refl, arith, true, false, Bool, ℕ, ◌+◌, ◌*◌, ◌<◌, ◌≤◌, nat_le}
-use Rattle.std.proofs.Common.{zero, suc}
+use Rattle.std.proofs.Common.{◌≡◌, refl, arith, Bool, ℕ, ◌+◌, ◌*◌, ◌<◌, ◌≤◌, nat_le, zero, suc}
+use Rattle.std.proofs.Common.{if◌then◌else◌, mul-le-mul_left}
 use Rattle.std.proofs.lemmas.Grind.{div_ceil_times}
 use Rattle.std.specs.Int.{div_ceil}
-use Rattle.std.proofs.Common.{if◌then◌else◌, mul-le-mul_left}
 use Rattle.std.proofs.lemmas.Bool.{le-leb, leb-true}
 use Rattle.usb_transaction.specs.{transaction_bound}
 use Rattle.usb_pipe.specs.{byte_bound, control_bound, write_bound}
@@ -19,24 +18,20 @@ bound_grows max m n le = mul-le-mul_left (byte_bound max) le
 full_packet_by : (b : Bool) (max m n : ℕ) → nat_le 8 max ≡ b → 1 ≤ max → m + max ≤ n
     → (if b then 100 else transaction_bound) * m + transaction_bound
     ≤ (if b then 100 else transaction_bound) * n
-full_packet_by true max m n is some le = let wide : 8 ≤ max = leb-true 8 max is in omega arith
-full_packet_by false max m n is some le = omega arith
+full_packet_by b max m n is some le = grind (arith, leb-true)
 
 -- a packet of the maximum pays for its transaction
 pub full_packet : (max m n : ℕ) → 1 ≤ max → m + max ≤ n → byte_bound max * m + transaction_bound
     ≤ byte_bound max * n
 unfolding byte_bound
-full_packet max m n some le = full_packet_by (nat_le 8 max) max m n refl some le
+full_packet max m n some le = grind (arith, full_packet_by)
 
 -- as many packets as there are bytes, at most
 few_by : (d k n : ℕ) → d * suc k < n + suc k → d ≤ n
-few_by zero k n less = omega arith
-few_by (suc e) k n less = let all : suc e * suc k ≡ e * k + e + k + 1 = omega arith in
-    omega (arith, less, all)
+few_by d k n less = grind arith
 
 pub few_packets : (n max : ℕ) → 1 ≤ max → div_ceil n max ≤ n
-few_packets n zero some = absurd (omega (arith, some))
-few_packets n (suc k) some = few_by (div_ceil n (suc k)) k n (div_ceil_times n (suc k) some).1
+few_packets n max some = grind (arith, div_ceil_times, few_by)
 
 -- packets of 8 bytes or more are few
 wide_packets : (d max n : ℕ) → 8 ≤ max → d * max < n + max → d * 8 < n + 8
@@ -49,15 +44,10 @@ wide_packets (suc e) max n wide less =
 packets_fit_by : (b : Bool) (max n : ℕ) → nat_le 8 max ≡ b → 1 ≤ max
     → transaction_bound * div_ceil n max
     ≤ 672 + (if b then 100 else transaction_bound) * n
-packets_fit_by true max n is some =
-    let few : div_ceil n max * 8 < n + 8 = wide_packets (div_ceil n max) max n (leb-true 8 max is)
-    (div_ceil_times n max some).1 in
-    omega (arith, few)
-packets_fit_by false max n is some = omega (arith, few_packets n max some)
+packets_fit_by b max n is some = grind (arith, div_ceil_times, few_packets, leb-true, wide_packets)
 
 -- a SETUP, the packets of so many bytes, and an IN
 pub packets_fit : (max n : ℕ) → 1 ≤ max
     → 3 + transaction_bound * div_ceil n max + transaction_bound ≤ control_bound max n
 unfolding control_bound byte_bound
-packets_fit max n some =
-    let few = packets_fit_by (nat_le 8 max) max n refl some in omega (arith, few)
+packets_fit max n some = grind (arith, packets_fit_by)

@@ -1,7 +1,6 @@
 -- A call through a bulk pipe: it made no attempt, or its transfer.
 use Rattle.std.proofs.Common.{◌≡◌, ◌≢◌, ◌∙◌, ◌⊎◌, inl, inr, refl, sym, arith, eq-zero-or-pos, ℕ}
 use Rattle.std.proofs.Common.{List, [], ◌∷◌, length, Bool, true, false, Option, Result, Ok, Err}
-use Rattle.std.proofs.Common.{MatchResult}
 use Rattle.arrayvec.specs.ArrayVec.{ArrayVec}
 use Rattle.std.specs.Global.{Vec}
 use Rattle.std.specs.Int.{div_ceil}
@@ -9,22 +8,24 @@ use Rattle.usb_packet.specs.{Toggle}
 use Rattle.usb_tree.specs.{IsSettled}
 use Rattle.usb_world.specs.{World}
 use Rattle.usb_transaction.specs.{Target}
-use Rattle.usb_pipe.specs.{Condition, PipeFault, PipeState, Idle, MovedOut, Sends, MovedIn, Receives}
-use Rattle.usb_pipe.specs.{Cleared, Clears, PollsOnce, PipePolls, Gave, Came}
+use Rattle.usb_pipe.specs.{Condition, PipeFault, PipeState, Idle, MovedOut, Sends, MovedIn}
+use Rattle.usb_pipe.specs.{packet_target, Receives, Cleared, Clears, PollsOnce, PipePolls, Gave}
+use Rattle.usb_pipe.specs.{Came}
 use Rattle.usb_pipe.specs.declared.condition.Condition.TheVariants.{Ready, Halted, Broken}
 use Rattle.usb_pipe.specs.declared.fault.PipeFault.TheVariants as pipe_fault
 use Rattle.usb_pipe.specs.Moves.{start, packet}
 use Rattle.usb_pipe.proofs.ControlSteps.{ended_settled}
+
+-- the device, at the endpoint of a pipe
+abbrev pub end_of : PipeState → Target
+end_of pipe = packet_target pipe.target pipe.max
 
 -- one that works is ready, or halted
 condition_decided : (c d : Condition) → (c ≡ d) ⊎ (c ≢ d)
 condition_decided c d = grind arith
 
 pub ready_or : (G : Type 0) (c : Condition) → c ≢ Broken → (c ≡ Ready → G) → (c ≡ Halted → G) → G
-ready_or G c works ready halted = elim (condition_decided c Ready) [
-  | inl e ↦ ready e
-  | inr n ↦ halted (grind arith)
-]
+ready_or G c works ready halted = grind (arith, condition_decided)
 
 pub send_by : {bytes : List ℕ} {pipe : PipeState} {old : World} {result : Result (Unit {0}) PipeFault}
     {left : PipeState} {new : World} (G : Type 0)
@@ -49,41 +50,21 @@ pub receive_by : {wanted : ℕ} {pipe : PipeState} {old : World} {result : Resul
     → ((bytes : Vec ℕ) → result ≡ Ok bytes → bytes.items ≡ [] → left ≡ pipe → new ≡ old → G)
     → (pipe.condition ≢ Broken → wanted ≢ 0 → MovedIn wanted pipe old result left new → G)
     → Receives wanted pipe old result left new → G
-receive_by {wanted} {pipe} {old} {result} {left} {new} G broken nothing moved x =
-    elim (condition_decided pipe.condition Broken) [
-      | inl e ↦ (let b = x.broken e in broken b.0 b.1 b.2)
-      | inr works ↦ elim (eq-zero-or-pos wanted) [
-        | inl e ↦ (let n = x.nothing works e in by_answer result refl n.0 n.1 n.2)
-        | inr some ↦ moved works (λ e. absurd (omega (arith, some, e)))
-            (x.moved works (λ e. absurd (omega (arith, some, e))))
-      ]
-    ]
-  where
-    by_answer : (r : Result (Vec ℕ) PipeFault) → result ≡ r
-        → MatchResult r (λ bytes. bytes.items ≡ []) (λ _. ⊥) → left ≡ pipe → new ≡ old → G
-    by_answer (Ok bytes) is none kept same = nothing bytes is none kept same
-    by_answer (Err why) is none kept same = absurd none
+receive_by G broken nothing moved x = grind (arith, condition_decided, eq-zero-or-pos)
 
 pub poll_by : {pipe : PipeState} {old : World} {result : Result (Option (ArrayVec ℕ)) PipeFault}
     {left : PipeState} {new : World} (G : Type 0)
     → (Idle (Err pipe_fault.Broken) pipe old result left new → G)
     → (pipe.condition ≢ Broken → PollsOnce pipe old result left new → G)
     → PipePolls pipe old result left new → G
-poll_by {pipe} G broken asked x = elim (condition_decided pipe.condition Broken) [
-  | inl e ↦ broken (x.broken e)
-  | inr works ↦ asked works (x.asked works)
-]
+poll_by G broken asked x = grind (arith, condition_decided)
 
 pub clear_by : {is_sent : Bool} {pipe : PipeState} {old : World}
     {result : Result (Unit {0}) PipeFault} {left : PipeState} {new : World} (G : Type 0)
     → (is_sent ≡ false → Idle (Ok tt) pipe old result left new → G)
     → (is_sent ≡ true → Cleared pipe old result left new → G)
     → Clears is_sent pipe old result left new → G
-clear_by {is_sent} G ready sent x = split is_sent refl
-  where
-    split : (b : Bool) → is_sent ≡ b → G
-    split true e = sent e (x.sent e)
-    split false e = ready e (x.ready e)
+clear_by G ready sent x = grind arith
 
 -- no device remembers a packet between two packets of a transfer
 

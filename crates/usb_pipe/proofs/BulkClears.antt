@@ -1,30 +1,29 @@
 -- What a clear of a halt leaves of each device, why it fails, and the record of a call.
-use Rattle.usb_device.specs.{Location, ServedEndpoint, BulkOut, BulkIn, Changes, Registers, Spec}
-use Rattle.usb_device.specs.{served, outcome, unhalts, on_endpoint, first_stage, ending, rested}
-use Rattle.usb_device.specs.{State, begun_again, rested_in, rested_out, accepted, IsSink, IsSource}
-use Rattle.usb_device.specs.{level, StatusGiven, OnlyControl, OnlyStage, in_end, out_end, no_in}
-use Rattle.usb_device.specs.{no_out}
+use Rattle.usb_device.specs.{Location, ServedEndpoint, BulkOut, BulkIn, Registers, Spec, served}
+use Rattle.usb_device.specs.{outcome, unhalts, on_endpoint, first_stage, ending, rested, State}
+use Rattle.usb_device.specs.{begun_again, rested_in, rested_out, accepted, IsSink, IsSource}
+use Rattle.usb_device.specs.{StatusGiven, OnlyControl, OnlyStage, in_end, out_end, no_in, no_out}
 use Rattle.usb_device.proofs.Interface.{at_other, at_same, served-in, served-out}
-use Rattle.std.proofs.Common.{◌≡◌, ◌≢◌, ◌⊎◌, inl, inr, ◌∙◌, refl, sym, ap, subst, arith, false}
-use Rattle.std.proofs.Common.{true, Bool, ℕ, ◌+◌, ◌*◌, ◌/◌, ◌%◌, ◌==◌, List, None, Option, Result}
-use Rattle.std.proofs.Common.{Ok, Err, OnOk, MatchResult}
+use Rattle.std.proofs.Common.{◌≡◌, ◌≢◌, ◌⊎◌, inl, inr, ◌∙◌, refl, sym, ap, arith, false, true, Bool}
+use Rattle.std.proofs.Common.{ℕ, ◌+◌, ◌*◌, ◌/◌, ◌%◌, List, None, Option, Result, Ok, Err, OnOk}
+use Rattle.std.proofs.Common.{MatchResult}
 use Rattle.std.proofs.lemmas.Bool.Decides.{nat_tests}
 use Rattle.usb_request.specs.{Setup, bytes_of, setup_of, clear_endpoint_halt}
 use Rattle.usb_port.specs.{PortState}
-use Rattle.usb_world.specs.{is_harmless, World, EachWas}
+use Rattle.usb_world.specs.{is_harmless, World, EachWas, Relation}
 use Rattle.usb_world.proofs.Interface.{each_none, each_wider}
-use Rattle.usb_transaction.specs.{Answerer, NoThreeDamaged, is_at, AttemptsMade}
-use Rattle.usb_transaction.proofs.Interface.{spared_all}
+use Rattle.usb_transaction.specs.{Answerer, is_at, AttemptsMade}
+use Rattle.usb_transaction.proofs.Interface.{spared_all, DeviceTold, told_leaves, told_why}
 use Rattle.usb_pipe.specs.{PipeFault, PipeState, needs_clear, halt_address, cleared, Cleared}
-use Rattle.usb_pipe.specs.{Clears, FaultAfter, WriteFailure, EffectOrNone, none, some, whole}
-use Rattle.usb_pipe.specs.{WasRefused, WriteLeaves, OutPipeInSync, InPipeInSync, ClearLeaves}
-use Rattle.usb_pipe.specs.{IsNoBusFault, OnlyEndpoint, PipeClear, Unshared}
+use Rattle.usb_pipe.specs.{Clears, FaultAfter, WriteFailure, EffectOrNone, none, some, WasRefused}
+use Rattle.usb_pipe.specs.{WriteLeaves, OutPipeInSync, InPipeInSync, ClearLeaves, OnlyEndpoint}
+use Rattle.usb_pipe.specs.{PipeClear, Unshared}
 use Rattle.usb_pipe.specs.declared.condition.Condition.TheVariants.{Broken}
 use Rattle.usb_pipe.specs.declared.fault.PipeFault.TheVariants as pipe_fault
 use Rattle.usb_pipe.proofs.Answerers.{who_writes}
 use Rattle.usb_pipe.proofs.BulkCalls.{clear_by}
 use Rattle.usb_pipe.proofs.ControlSteps.{only_stage}
-use Rattle.usb_pipe.proofs.ControlTransfers.{write_leaves, write_why}
+use Rattle.usb_pipe.proofs.ControlTransfers.{each_write_told}
 
 -- The request
 
@@ -55,8 +54,7 @@ clear_of pipe = clear_endpoint_halt (halt_address pipe.ep pipe.is_in)
 
 pub asks_out : (pipe : PipeState) (s : State) → pipe.is_in ≡ false → IsSink pipe.ep pipe.max s
     → outcome s.spec s.registers (clear_of pipe) ≡ unhalts (BulkOut pipe.ep)
-asks_out pipe s out i = outcome-clear_halt s.spec s.registers (halt_address pipe.ep pipe.is_in)
-    ∙ rw (out, served-out pipe.ep pipe.max s i)
+asks_out pipe s out i = grind (arith, outcome-clear_halt, served-out)
 
 pub clear_of-in : (pipe : PipeState) (s : State) → pipe.is_in ≡ true → IsSource pipe.ep pipe.max s
     → outcome s.spec s.registers (clear_of pipe) ≡ unhalts (BulkIn pipe.ep)
@@ -76,104 +74,22 @@ module _ (e a : ℕ) (s : State) where
   -- this one is the one that begins again, or is as it was
   out_begun : ((e ≡ a) × (out_end (begun_again s (BulkOut e)) a ≡ rested_out (out_end s a)))
       ⊎ (out_end (begun_again s (BulkOut e)) a ≡ out_end s a)
-  out_begun = by_number (a == e) refl
-    where
-      by_number : (b : Bool) → (a == e) ≡ b
-          → ((e ≡ a) × (out_end (begun_again s (BulkOut e)) a ≡ rested_out (out_end s a)))
-          ⊎ (out_end (begun_again s (BulkOut e)) a ≡ out_end s a)
-      by_number true is = let same : e ≡ a = grind (arith, nat_tests, is) in
-          inl (same, rw same (out_rests a s))
-      by_number false is = inr (at_other no_out e a (rested_out (out_end s e)) s.outs is)
+  out_begun = grind (arith, at_other, nat_tests, out_rests)
 
   in_begun : ((e ≡ a) × (in_end (begun_again s (BulkIn e)) a ≡ rested_in (in_end s a)))
       ⊎ (in_end (begun_again s (BulkIn e)) a ≡ in_end s a)
-  in_begun = by_number (a == e) refl
-    where
-      by_number : (b : Bool) → (a == e) ≡ b
-          → ((e ≡ a) × (in_end (begun_again s (BulkIn e)) a ≡ rested_in (in_end s a)))
-          ⊎ (in_end (begun_again s (BulkIn e)) a ≡ in_end s a)
-      by_number true is = let same : e ≡ a = grind (arith, nat_tests, is) in
-          inl (same, rw same (in_rests a s))
-      by_number false is = inr (at_other no_in e a (rested_in (in_end s e)) s.ins is)
+  in_begun = grind (arith, at_other, in_rests, nat_tests)
 
 only_begun : (which : ServedEndpoint) (s : State) → OnlyEndpoint which s (begun_again s which)
-only_begun (BulkOut e) s = record {
-  rest = refl;
-  moved = record {
-    taken = λ a. elim (out_begun e a s) [
-      | inl h ↦ (ap (λ end. end.sink) h.1, ap (λ end. end.pace.until_halt) h.1)
-      | inr h ↦ (ap (λ end. end.sink) h, ap (λ end. end.pace.until_halt) h)
-    ];
-    given = λ a. (refl, refl);
-  };
-  outs = λ a n. elim (out_begun e a s) [
-    | inl h ↦ absurd (n (ap BulkOut h.0))
-    | inr h ↦ h
-  ];
-  ins = λ a n. refl;
-  changes = λ n. refl;
-}
-only_begun (BulkIn e) s = record {
-  rest = refl;
-  moved = record {
-    taken = λ a. (refl, refl);
-    given = λ a. elim (in_begun e a s) [
-      | inl h ↦ (ap (λ end. end.place) h.1, ap (λ end. end.pace.until_halt) h.1)
-      | inr h ↦ (ap (λ end. end.place) h, ap (λ end. end.pace.until_halt) h)
-    ];
-  };
-  outs = λ a n. refl;
-  ins = λ a n. elim (in_begun e a s) [
-    | inl h ↦ absurd (n (ap BulkIn h.0))
-    | inr h ↦ h
-  ];
-  changes = λ n. refl;
-}
-only_begun Changes s = record {
-  rest = refl;
-  moved = record { taken = λ a. (refl, refl); given = λ a. (refl, refl) };
-  outs = λ a n. refl;
-  ins = λ a n. refl;
-  changes = λ n. absurd (n refl);
-}
+only_begun which s = grind (arith, in_begun, out_begun)
 
 only_none : (which : ServedEndpoint) (s : State) → OnlyEndpoint which s s
-only_none which s = record {
-  rest = refl;
-  moved = record { taken = λ a. (refl, refl); given = λ a. (refl, refl) };
-  outs = λ a n. refl;
-  ins = λ a n. refl;
-  changes = λ n. refl;
-}
+only_none which s = grind arith
 
 -- the stage of endpoint 0 is none of it
 only_staged : (which : ServedEndpoint) (s u v : State) → OnlyEndpoint which s u → OnlyStage u v
     → OnlyEndpoint which s v
-only_staged which s u v x o = record {
-  rest = o
-      ∙ ap {A = State} (λ q. record q { memory = v.memory; naks = v.naks; stage = v.stage }) x.rest
-      ∙ ap {A = State} (λ q. record s {
-        memory = v.memory;
-        naks = v.naks;
-        stage = v.stage;
-        outs = q.outs;
-        ins = q.ins;
-        changes = q.changes;
-      }) (sym o);
-  moved = record {
-    taken = λ a. let same = ap {A = State} (λ q. out_end q a) o in (
-      ap (λ end. end.sink) same ∙ (x.moved.taken a).0,
-      ap (λ end. end.pace.until_halt) same ∙ (x.moved.taken a).1,
-    );
-    given = λ a. let same = ap {A = State} (λ q. in_end q a) o in (
-      ap (λ end. end.place) same ∙ (x.moved.given a).0,
-      ap (λ end. end.pace.until_halt) same ∙ (x.moved.given a).1,
-    );
-  };
-  outs = λ a n. ap {A = State} (λ q. out_end q a) o ∙ x.outs a n;
-  ins = λ a n. ap {A = State} (λ q. in_end q a) o ∙ x.ins a n;
-  changes = λ n. ap {A = State} (λ q. q.changes) o ∙ x.changes n;
-}
+only_staged which s u v x o = grind (arith, x.rest, x.moved.taken, x.moved.given)
 
 -- What the request leaves of a device that has the endpoint: only the endpoint began again, or
 -- nothing but the stage is another
@@ -182,7 +98,7 @@ abbrev OnlyRested : ServedEndpoint → State → State → Type 0
 OnlyRested which s v = OnlyStage (begun_again s which) v
 
 only_rested : (which : ServedEndpoint) (s v : State) → OnlyRested which s v → OnlyEndpoint which s v
-only_rested which s v o = only_staged which s (begun_again s which) v (only_begun which s) o
+only_rested which s v o = grind (arith, only_begun, only_staged)
 
 only_either : (which : ServedEndpoint) (s v : State) → OnlyStage s v ⊎ OnlyRested which s v
     → OnlyEndpoint which s v
@@ -192,9 +108,7 @@ only_either which s v (inr o) = only_rested which s v o
 -- a device that was asked, or any other
 only_by : (which : ServedEndpoint) (s v : State) (at : Bool) → (at ≡ false → v ≡ s)
     → (at ≡ true → OnlyEndpoint which s v) → OnlyEndpoint which s v
-only_by which s v true others asked = asked refl
-only_by which s v false others asked = subst (OnlyEndpoint which s) (sym (others refl))
-    (only_none which s)
+only_by which s v at others asked = grind (arith, only_none)
 
 registers_kept : (which : ServedEndpoint) (s : State)
     → (begun_again s which).registers ≡ s.registers
@@ -215,18 +129,14 @@ module _ (request : Setup) (which : ServedEndpoint) (s : State)
       → first_stage row s request.length (outcome s.spec s.registers request) ≡ ending address
       → StatusGiven address (accepted s row request) v
       → OnlyControl (accepted s row request) v → OnlyRested which s v
-  ended_rests row address v h g o =
-      let none : address ≡ None = cc (sym (ap (first_stage row s request.length) is) ∙ h) in
-      accepted_rests row v o (given_registers address (accepted s row request) v none g)
+  ended_rests row address v h g o = grind (arith, accepted_rests, given_registers)
 
   failed_rests : {t : _} {fault : PipeFault} {old : World} {j : Location} (v : State)
       → EffectOrNone t request fault old j s v → OnlyStage s v ⊎ OnlyRested which s v
-  failed_rests v (none o e) = inl (only_stage s v o e)
-  failed_rests v (some row now m o e) = inr (accepted_rests row v o e)
-  failed_rests v (whole why told row now m o a h g) = inr (ended_rests row a v h g o)
+  failed_rests v effect = grind (arith, accepted_rests, ended_rests, only_stage)
 
   not_refused : {t : _} {old new : World} {j : Location} → WasRefused t request old new j s → ⊥
-  not_refused r = cc (sym (ap (first_stage r.row s request.length) is) ∙ r.is)
+  not_refused r = grind (arith, r.is)
 
 -- One device and its pipe
 
@@ -236,38 +146,8 @@ done_leaves : (pipe : PipeState) (done : Unit {0}) → {old new : World} (j : Lo
     → ClearLeaves true pipe (Ok done) (cleared pipe (Ok done)) j s v
 done_leaves pipe done j s v x = record {
   others = x.others;
-  sink = λ at out f.
-      let d = x.done at done refl in
-      let o = ended_rests (clear_of pipe) (BulkOut pipe.ep) s (asks_out pipe s out f.endpoint) d.row
-      d.address v d.is d.given d.rest in
-      let there = out_rests pipe.ep s in
-      rw o (
-        record {
-          endpoint = record { endpoint = f.endpoint.endpoint; not_zero = f.endpoint.not_zero };
-          level = λ r. ap (λ end. end.state.toggle) there;
-          halted = λ r. cc r;
-        },
-        ap (λ end. end.sink) there,
-        ap (λ end. end.state) there,
-      );
-  source = λ at is got f.
-      let d = x.done at done refl in
-      let o = ended_rests (clear_of pipe) (BulkIn pipe.ep) s (clear_of-in pipe s is f.endpoint)
-      d.row d.address v d.is d.given d.rest in
-      let there = in_rests pipe.ep s in
-      rw o (
-        record {
-          endpoint = record {
-            endpoint = f.endpoint.endpoint;
-            not_zero = f.endpoint.not_zero;
-            alone = f.endpoint.alone;
-          };
-          level = λ r. level (ap (λ end. end.place) there) (ap (λ end. end.state.toggle) there);
-          halted = λ r. cc r;
-        },
-        ap (λ end. end.place) there,
-        ap (λ end. end.state) there,
-      );
+  sink = grind (arith, asks_out, ended_rests, out_rests, x.done);
+  source = grind (arith, clear_of-in, ended_rests, in_rests, x.done);
   only_sink = λ out i. only_by (BulkOut pipe.ep) s v (is_at s pipe.target) x.others (λ at.
       let d = x.done at done refl in
       only_rested (BulkOut pipe.ep) s v (ended_rests (clear_of pipe) (BulkOut pipe.ep) s
@@ -334,51 +214,51 @@ failed_leaves pipe why old new ends j s v x = record {
 -- one that makes no request
 none_leaves : (pipe : PipeState) (j : Location) (s : State)
     → ClearLeaves false pipe (Ok tt) pipe j s s
-none_leaves pipe j s = record {
-  others = λ _. refl;
-  sink = λ at out f. (f, refl, refl);
-  source = λ at is got f. (f, refl, refl);
-  only_sink = λ out i. only_none (BulkOut pipe.ep) s;
-  only_source = λ is i. only_none (BulkIn pipe.ep) s;
-}
+none_leaves pipe j s = grind (arith, only_none)
 
 -- A call
 
+abbrev pub ClearTold : Bool → PipeState → Result (Unit {0}) PipeFault → PipeState → World → Relation
+ClearTold is_sent pipe result left =
+    DeviceTold (ClearLeaves is_sent pipe result left) (WriteFailure pipe.target result)
+
 module _ (pipe left : PipeState) (old new : World) (single : new.shared ≡ false) where
-  sent_leaves : (result : Result (Unit {0}) PipeFault) → Cleared pipe old result left new
-      → EachWas (ClearLeaves true pipe result (cleared pipe result)) old new
-  sent_leaves result y = by_result result y.ends (spared_all pipe.target (clear_of pipe) _ old new
-      (harmless _) (write_leaves pipe.target (clear_of pipe) result old new (clear_halt-length _)
+  sent_told : (result : Result (Unit {0}) PipeFault) → Cleared pipe old result left new
+      → EachWas (ClearTold true pipe result (cleared pipe result) old) old new
+  sent_told result y = by_result result y.ends (spared_all pipe.target (clear_of pipe) _ old new
+      (harmless _) (each_write_told pipe.target (clear_of pipe) result old new (clear_halt-length _)
       (same_request _) y.settled y.stages single))
     where
       by_result : (r : Result (Unit {0}) PipeFault)
           → MatchResult r (λ done. AttemptsMade 2 old new) (λ why. FaultAfter 1 old why new)
-          → EachWas (WriteLeaves pipe.target (clear_of pipe) r old new) old new
-          → EachWas (ClearLeaves true pipe r (cleared pipe r)) old new
-      by_result (Ok done) ends w = each_wider _ _ (done_leaves pipe done) old new w
-      by_result (Err why) ends w = each_wider _ _ (failed_leaves pipe why old new ends) old new w
+          → EachWas (DeviceTold (WriteLeaves pipe.target (clear_of pipe) r old new)
+          (WriteFailure pipe.target r) old) old new
+          → EachWas (ClearTold true pipe r (cleared pipe r) old) old new
+      by_result (Ok done) ends w = each_wider _ _ (λ j s v y. record {
+        leaves = done_leaves pipe done j s v y.leaves;
+        why = y.why;
+      }) old new w
+      by_result (Err why) ends w = each_wider _ _ (λ j s v y. record {
+        leaves = failed_leaves pipe why old new ends j s v y.leaves;
+        why = y.why;
+      }) old new w
+
+each_clear : (is_sent : Bool) (pipe : PipeState) (result : Result (Unit {0}) PipeFault)
+    (left : PipeState) (old new : World) → Clears is_sent pipe old result left new
+    → new.shared ≡ false → EachWas (ClearTold is_sent pipe result left old) old new
+each_clear is_sent pipe result left old new x single =
+    clear_by (EachWas (ClearTold is_sent pipe result left old) old new)
+    (λ none i. rw (none, i.answer, i.pipe_kept, i.world_kept) (each_none _ (λ j s. record {
+      leaves = none_leaves pipe j s;
+      why = λ three. record { answered = λ l e. cc e; waited = λ l idle few e. cc e };
+    }) old))
+    (λ some y. rw (some, y.pipe_left) (sent_told pipe left old new single result y)) x
 
 pub clear_leaves : (is_sent : Bool) (pipe : PipeState) (result : Result (Unit {0}) PipeFault)
     (left : PipeState) (old new : World) → Clears is_sent pipe old result left new
     → new.shared ≡ false → EachWas (ClearLeaves is_sent pipe result left) old new
 clear_leaves is_sent pipe result left old new x single =
-    clear_by (EachWas (ClearLeaves is_sent pipe result left) old new)
-    (λ none i. rw (none, i.answer, i.pipe_kept, i.world_kept)
-    (each_none _ (none_leaves pipe) old))
-    (λ some y. rw (some, y.pipe_left) (sent_leaves pipe left old new single result y)) x
-
-clear_why : (is_sent : Bool) (pipe : PipeState) (result : Result (Unit {0}) PipeFault)
-    (left : PipeState) (old new : World) → NoThreeDamaged old
-    → Clears is_sent pipe old result left new → IsNoBusFault result
-    → new.shared ≡ false → EachWas (WriteFailure pipe.target result) old new
-clear_why is_sent pipe result left old new three x sound single =
-    clear_by (EachWas (WriteFailure pipe.target result) old new)
-    (λ none i. rw (i.answer, i.world_kept)
-    (each_none _ (λ j s. record { answered = λ l e. cc e; waited = λ l idle few e. cc e })
-    old))
-    (λ some y. spared_all pipe.target (clear_of pipe) _ old new (harmless _)
-    (write_why pipe.target (clear_of pipe) result old new (clear_halt-length _)
-    (same_request _) y.settled three y.stages sound single)) x
+    told_leaves old new (each_clear is_sent pipe result left old new x single)
 
 clear_who : (is_sent : Bool) (pipe : PipeState) (result : Result (Unit {0}) PipeFault)
     (left : PipeState) (old new : World) → Clears is_sent pipe old result left new
@@ -396,7 +276,8 @@ clear_told is_sent pipe result left old new x =
     record {
       clears = x;
       what = clear_leaves is_sent pipe result left old new x;
-      why = λ three. clear_why is_sent pipe result left old new three x;
+      why = λ three sound single. told_why old new three
+          (each_clear is_sent pipe result left old new x single);
       who = clear_who is_sent pipe result left old new x;
     }
 
@@ -410,12 +291,8 @@ clear_sent pipe result left old new y =
 pub clear_needed : (pipe : PipeState) (result : Result (Unit {0}) PipeFault) (left : PipeState)
     (old new : World) → needs_clear pipe ≡ true → PipeClear true pipe old result left new
     → PipeClear (needs_clear pipe) pipe old result left new
-clear_needed pipe result left old new needed x =
-    subst (λ sent. PipeClear sent pipe old result left new) (sym needed) x
+clear_needed pipe result left old new needed x = grind arith
 
 pub clear_unneeded : (pipe : PipeState) (w : World) → needs_clear pipe ≡ false
     → PipeClear (needs_clear pipe) pipe w (Ok tt) pipe w
-clear_unneeded pipe w unneeded = clear_told (needs_clear pipe) pipe (Ok tt) pipe w w (record {
-  ready = λ none. record { answer = refl; pipe_kept = refl; world_kept = refl };
-  sent = λ some. cc (sym unneeded ∙ some);
-})
+clear_unneeded pipe w unneeded = grind (arith, clear_told)

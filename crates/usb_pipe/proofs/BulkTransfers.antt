@@ -2,7 +2,7 @@
 -- why they fail, and the record of a call.
 use Rattle.usb_device.specs.{Location, State, IsSink, SinkAt, level, ahead, Joined, OnlySink}
 use Rattle.usb_device.specs.{IsSource, SourceAt, OnlySource, in_data, in_end, out_end, packet_in}
-use Rattle.usb_device.specs.{next_packet, GivesWithin, HasPackets, IsPrompt, NextBytes}
+use Rattle.usb_device.specs.{next_packet, GivesWithin, HasPackets, IsPrompt}
 use Rattle.std.proofs.Common.{◌≡◌, ◌≢◌, ◌∙◌, ◌⊎◌, inl, inr, refl, sym, ap, subst, arith, false}
 use Rattle.std.proofs.Common.{true, ℕ, ◌+◌, ◌<◌, ◌≤◌, List, [], ◌++◌, length, take, drop, Result}
 use Rattle.std.proofs.Common.{Ok, Err, OnOk, is_some, append_assoc, append-nil, length-take}
@@ -11,50 +11,44 @@ use Rattle.std.specs.Global.{Vec}
 use Rattle.std.specs.Int.{div_ceil}
 use Rattle.usb_packet.specs.{Toggle, other, flips}
 use Rattle.usb_tree.specs.{IsSettled}
-use Rattle.usb_world.specs.{World, EachWas}
+use Rattle.usb_world.specs.{World, EachWas, Relation}
 use Rattle.usb_world.proofs.Interface.{each_joined, each_none, each_wider}
-use Rattle.usb_transaction.specs.{Target, TransFault, Answerer, NoThreeDamaged, Listens}
-use Rattle.usb_transaction.specs.{SinkOutFailure, SourceInFailure, heard_as, heard_when_sent, is_at}
-use Rattle.usb_transaction.specs.{SinkEnds, SinkOut, SinkBetween, SourceIn, TransactionDone}
-use Rattle.usb_transaction.specs.{in_attempt, out_attempt}
+use Rattle.usb_transaction.specs.{Target, TransFault, Answerer, Listens, SinkOutFailure}
+use Rattle.usb_transaction.specs.{SourceInFailure, heard_as, is_at, SinkEnds, SinkOut, SinkBetween}
+use Rattle.usb_transaction.specs.{SourceIn, TransactionDone, in_attempt}
 use Rattle.usb_transaction.specs.declared.fault.TransFault.TheVariants as trans
 use Rattle.usb_transaction.proofs.Interface.{at_kept, listens_on, others_stay_then, sink_between}
-use Rattle.usb_transaction.proofs.Interface.{sink_kept, sink_leaves, sink_over, sink_why}
-use Rattle.usb_transaction.proofs.Interface.{trail_unshared, transacted_unshared, source_at_kept}
-use Rattle.usb_transaction.proofs.Interface.{source_kept, source_leaves, source_over, source_why}
+use Rattle.usb_transaction.proofs.Interface.{DeviceTold, told_leaves, told_why, sink_told}
+use Rattle.usb_transaction.proofs.Interface.{source_told, sink_kept, sink_over, trail_unshared}
+use Rattle.usb_transaction.proofs.Interface.{transacted_unshared, source_at_kept, source_kept}
 use Rattle.usb_pipe.specs.declared.condition.Condition.TheVariants.{Ready, Halted, Broken}
-use Rattle.usb_pipe.specs.{PipeFault, PipeState, after_fault, after_transfer, MovedOut, Sends, MovedIn}
-use Rattle.usb_pipe.specs.{Receives, PacketsSent, PacketsReceived, FaultAfter, as_pipe_fault}
-use Rattle.usb_pipe.specs.{packet_target, SendFailure, ReceiveFailure, IsNoBusFault, pipe_known}
+use Rattle.usb_pipe.specs.{PipeFault, PipeState, after_fault, after_transfer, MovedOut, Sends}
+use Rattle.usb_pipe.specs.{MovedIn, Receives, PacketsSent, PacketsReceived, FaultAfter}
+use Rattle.usb_pipe.specs.{as_pipe_fault, packet_target, SendFailure, ReceiveFailure, pipe_known}
 use Rattle.usb_pipe.specs.{came_with, OutPipeInSync, FrontTaken, SendLeaves, SendingLeaves}
-use Rattle.usb_pipe.specs.{InPipeInSync, GaveNext, ReceiveLeaves, Gave, Came, NotGone}
-use Rattle.usb_pipe.specs.{WhileSending, AllCame, NotCame, NoRoomLeft, Unshared, PipeSend, PipeReceive}
+use Rattle.usb_pipe.specs.{InPipeInSync, GaveNext, ReceiveLeaves, Gave, Came, NotGone, WhileSending}
+use Rattle.usb_pipe.specs.{AllCame, NotCame, NoRoomLeft, Unshared, PipeSend, PipeReceive}
 use Rattle.usb_pipe.specs.declared.fault.PipeFault.TheVariants as pipe_fault
 use Rattle.usb_pipe.specs.Moves.{start, packet}
 use Rattle.usb_pipe.proofs.Answerers.{who_sends, who_receives}
 use Rattle.usb_pipe.proofs.BulkCalls.{ready_or, send_by, receive_by, gave_settled, received_settled}
-use Rattle.usb_pipe.proofs.ControlSteps.{ended_unshared, transacted_ended, ended_damages}
-use Rattle.usb_pipe.proofs.ControlSteps.{never_three}
+use Rattle.usb_pipe.proofs.BulkCalls.{end_of}
+use Rattle.usb_pipe.proofs.ControlSteps.{ended_unshared, ended_damages, never_three}
 use Rattle.usb_pipe.proofs.MovedPackets.{flips_more, gave_packets, all_packets}
 use Rattle.usb_pipe.proofs.NextPackets.{CameFrom, no_bytes, none_came_from, one_came_then}
 use Rattle.usb_pipe.proofs.NextPackets.{one_there}
 use Rattle.usb_pipe.proofs.TransactionFaults.{Fell, fell_same_fault}
 use Rattle.usb_pipe.proofs.TransferLosses.{send_losses, receive_losses}
 
--- the device, at the endpoint of a pipe
-abbrev end_of : PipeState → Target
-end_of pipe = packet_target pipe.target pipe.max
-
 -- the other toggle is that of the next packet
 turned_on : (n : ℕ) (first toggle : Toggle) → toggle ≡ other (flips n first)
     → toggle ≡ flips (n + 1) first
-turned_on n first toggle e = flips_more n first (flips n first) toggle refl e
+turned_on n first toggle e = grind (arith, flips_more)
 
 -- the packets of an endpoint have a maximum of their own
 pub listens_packet : (t : Target) (max : ℕ) (place : Location) (s u : State) → u.spec ≡ s.spec
     → u.registers ≡ s.registers → Listens t place s → Listens (packet_target t max) place u
-listens_packet t max place s u e f l = let k = listens_on t place s u e f l in
-    record { at = k.at; loud = k.loud; hears = k.hears }
+listens_packet t max place s u e f l = grind (arith, listens_on)
 
 -- What packets that were acknowledged leave of one device
 
@@ -85,25 +79,15 @@ module _ {t : Target} {ep : ℕ} {first : Toggle} {n : ℕ} {sent : List ℕ} {j
 
   sink_halted : is_at s t ≡ true → (out_end s ep).state.halted ≡ true
       → (out_end u ep).state.halted ≡ true
-  sink_halted h c = ap (λ q. (out_end q ep).state.halted) (x.halted h i c).0 ∙ c
+  sink_halted h c = grind arith
 
   sink_frame : (v : State) → ((most : ℕ) → IsSink ep most u → OnlySink ep u v) → OnlySink ep s v
-  sink_frame v f = let y = f t.max sink_then in record {
-    rest = y.rest ∙ ap {A = State} (λ q. record q { memory = v.memory; outs = v.outs })
-        (x.frame i).rest;
-    others = λ a h. y.others a h ∙ (x.frame i).others a h;
-  }
+  sink_frame v f = grind (arith, sink_then)
 
 gave_no_packets : (t : Target) (ep : ℕ) (first : Toggle) (j : Location) (s : State)
     → GaveLeaves t ep first 0 [] j s s
 unfolding flips
-gave_no_packets t ep first j s = record {
-  others = λ h. refl;
-  frame = λ i. record { rest = refl; others = λ a h. refl };
-  paced = λ h i p. p;
-  sink = λ h i e. (sym (append-nil (out_end s ep).sink), e);
-  halted = λ h i c. (refl, refl);
-}
+gave_no_packets t ep first j s = grind (arith, append-nil)
 
 gave_packet_then : (t : Target) (ep : ℕ) (first : Toggle) (n : ℕ) (sent bytes : List ℕ)
     → length bytes ≤ t.max → (j : Location) (s u v : State)
@@ -156,14 +140,12 @@ sink_front_taken ep total before sent rest k t v split (level a b) =
 sink_front_taken ep total before sent rest k t v split (ahead a b) = record {
   front = sent ++ take k rest;
   rest = drop k rest;
-  split = split ∙ ap (λ x. sent ++ x) (sym (take-append-drop k rest))
-      ∙ sym (append_assoc sent (take k rest) (drop k rest));
+  split = grind (arith, append_assoc, take-append-drop);
   sink = a ∙ append_assoc before sent (take k rest);
 }
 
 none_taken : (total before : List ℕ) → FrontTaken total before before
-none_taken total before =
-    record { front = []; rest = total; split = refl; sink = sym (append-nil before) }
+none_taken total before = grind (arith, append-nil)
 
 fits_packet : (max : ℕ) (rest : List ℕ) → length (take max rest) ≤ max
 fits_packet max rest = let l = length-take max rest in omega (arith, l)
@@ -225,84 +207,71 @@ module _ (bytes : List ℕ) (pipe left : PipeState) (n : ℕ) (works : pipe.cond
 
 -- A call that sends
 
-sent_leaves : (bytes : List ℕ) (pipe : PipeState) (result : Result (Unit {0}) PipeFault) (left : PipeState)
-    (old new : World) → pipe.condition ≢ Broken → bytes ≢ []
-    → MovedOut (div_ceil (length bytes) pipe.max) bytes pipe old result left new
-    → new.shared ≡ false → EachWas (SendLeaves bytes pipe result left) old new
-sent_leaves bytes pipe (Ok done) left old new works some x single =
-    let turned : left.toggle ≡ flips x.went.packets pipe.toggle = x.toggle
-    ∙ ap (λ k. flips k pipe.toggle) (gave_packets (end_of pipe) pipe.ep pipe.toggle x.went.gone
-    some) in
-    each_wider _ _ (all_sent bytes pipe left x.went.packets works done some x.pipe_left turned) old
-    new (gave_leaves (end_of pipe) pipe.ep pipe.toggle x.settled x.went.gone single)
-sent_leaves bytes pipe (Err why) left old new works some x single =
-    let g : NotGone (end_of pipe) pipe.ep pipe.toggle bytes old why new = x.went in
-    let began : IsSettled g.mid.roots = gave_settled g.before x.settled in
-    each_joined _ _ _ (lost_sent bytes pipe left g.packets works old new g.sent g.rest why g.fault
-    x.ends g.split g.told x.pipe_left) old g.mid new
-    (gave_leaves (end_of pipe) pipe.ep pipe.toggle x.settled g.before
-    (transacted_unshared _ _ _ _ (Err g.fault) g.lost began single))
-    (sink_leaves (end_of pipe) pipe.ep (flips g.packets pipe.toggle) (take pipe.max g.rest)
-    (Err g.fault) g.mid new began g.lost single)
-
-pub send_leaves : (bytes : List ℕ) (pipe : PipeState) (result : Result (Unit {0}) PipeFault)
-    (left : PipeState) (old new : World) → Sends bytes pipe old result left new → new.shared ≡ false
-    → EachWas (SendLeaves bytes pipe result left) old new
-send_leaves bytes pipe result left old new x single =
-    send_by (EachWas (SendLeaves bytes pipe result left) old new)
-    (λ i. rw (i.answer, i.pipe_kept, i.world_kept)
-    (each_none _ (idle_leaves bytes pipe (Err pipe_fault.Broken) refl tt) old))
-    (λ none i. rw (i.answer, i.pipe_kept, i.world_kept)
-    (each_none _ (idle_leaves bytes pipe (Ok tt) refl none) old))
-    (λ works some y. sent_leaves bytes pipe result left old new works some y single) x
-
--- why it fails
+-- an answer that is neither fault
+never_sent : (pipe : PipeState) (result : Result (Unit {0}) PipeFault)
+    → result ≢ Err pipe_fault.NoAnswer → result ≢ Err pipe_fault.Busy → {j : Location} {s v : State}
+    → SendFailure pipe result j s v
+never_sent pipe result answered waited = grind arith
 
 lost_send : (pipe : PipeState) (n : ℕ) (sent rest : List ℕ) (why : PipeFault) (fault : TransFault)
     → why ≡ as_pipe_fault fault → (j : Location) (s u v : State)
     → GaveLeaves (end_of pipe) pipe.ep pipe.toggle n sent j s u
     → SinkOutFailure (end_of pipe) pipe.ep (flips n pipe.toggle) (take pipe.max rest)
     (Err fault) j u v → SendFailure pipe (Err why) j s v
-lost_send pipe n sent rest why fault told j s u v x y = record {
-  answered = λ l i e. y.answered (hears l i) pipe.max (sink_then x i) (fits_packet pipe.max rest)
-      (fell_same_fault (Unit {0}) why fault trans.NoAnswer told e);
-  waited = λ l i p e. y.waited (hears l i) pipe.max (sink_then x i) (x.paced l.at i p)
-      (fell_same_fault (Unit {0}) why fault trans.Busy told e);
-}
-  where
-    hears : Listens pipe.target j s → IsSink pipe.ep pipe.max s → Listens (end_of pipe) j u
-    hears l i = let only = (x.frame i).rest in
-        listens_packet pipe.target pipe.max j s u (ap (λ q. q.spec) only)
-        (ap (λ q. q.registers) only) l
+lost_send pipe n sent rest why fault told j s u v x y =
+    grind (arith, fell_same_fault, fits_packet, listens_packet, sink_then, x.paced, x.frame)
 
-module _ (bytes : List ℕ) (pipe left : PipeState) (old new : World) (single : new.shared ≡ false) where
-  -- an answer that is neither fault
-  never_sent : (result : Result (Unit {0}) PipeFault) → Sends bytes pipe old result left new
-      → result ≢ Err pipe_fault.NoAnswer → result ≢ Err pipe_fault.Busy
-      → EachWas (SendFailure pipe result) old new
-  never_sent result x answered waited =
-      each_wider (SendLeaves bytes pipe result left) _
-      (λ j s v y. record { answered = λ l i. answered; waited = λ l i p. waited }) old new
-      (send_leaves bytes pipe result left old new x single)
+abbrev pub SendTold : List ℕ → PipeState → Result (Unit {0}) PipeFault → PipeState → World
+    → Relation
+SendTold bytes pipe result left =
+    DeviceTold (SendLeaves bytes pipe result left) (SendFailure pipe result)
 
-  send_why : (result : Result (Unit {0}) PipeFault) → NoThreeDamaged old
-      → Sends bytes pipe old result left new → IsNoBusFault result
-      → EachWas (SendFailure pipe result) old new
-  send_why (Ok done) three x sound = never_sent (Ok done) x (λ e. cc e) (λ e. cc e)
-  send_why (Err why) three x sound =
-      send_by (EachWas (SendFailure pipe (Err why)) old new)
-      (λ i. never_sent (Err why) x (λ e. cc (i.answer, e)) (λ e. cc (i.answer, e)))
-      (λ none i. cc i.answer) (λ works some y.
-      let g : NotGone (end_of pipe) pipe.ep pipe.toggle bytes old why new = y.went in
-      let over : TransactionDone heard_when_sent
-      (out_attempt (end_of pipe) pipe.ep (flips g.packets pipe.toggle) (take pipe.max g.rest))
-      g.mid (Err g.fault) new = transacted_ended (Unit {0}) why g.fault g.told sound g.lost in
-      each_joined _ _ _ (lost_send pipe g.packets g.sent g.rest why g.fault g.told) old g.mid new
-      (gave_leaves (end_of pipe) pipe.ep pipe.toggle y.settled g.before
-      (ended_unshared over single))
-      (sink_why (end_of pipe) pipe.ep (flips g.packets pipe.toggle) (take pipe.max g.rest)
-      (Err g.fault) g.mid new (gave_settled g.before y.settled)
-      (never_three old g.mid (gave_damages g.before) three) over single)) x
+sent_told : (bytes : List ℕ) (pipe : PipeState) (result : Result (Unit {0}) PipeFault) (left :
+    PipeState)
+    (old new : World) → pipe.condition ≢ Broken → bytes ≢ []
+    → MovedOut (div_ceil (length bytes) pipe.max) bytes pipe old result left new
+    → new.shared ≡ false → EachWas (SendTold bytes pipe result left old) old new
+sent_told bytes pipe (Ok done) left old new works some x single =
+    let turned : left.toggle ≡ flips x.went.packets pipe.toggle = x.toggle
+    ∙ ap (λ k. flips k pipe.toggle) (gave_packets (end_of pipe) pipe.ep pipe.toggle x.went.gone
+    some) in
+    each_wider _ _ (λ j s v y. record {
+      leaves = all_sent bytes pipe left x.went.packets works done some x.pipe_left turned j s v y;
+      why = λ three. never_sent pipe (Ok done) (λ e. cc e) (λ e. cc e);
+    }) old new (gave_leaves (end_of pipe) pipe.ep pipe.toggle x.settled x.went.gone single)
+sent_told bytes pipe (Err why) left old new works some x single =
+    let g : NotGone (end_of pipe) pipe.ep pipe.toggle bytes old why new = x.went in
+    let began : IsSettled g.mid.roots = gave_settled g.before x.settled in
+    each_joined _ _ _ (λ j s u v y z. record {
+      leaves = lost_sent bytes pipe left g.packets works old new g.sent g.rest why g.fault x.ends
+          g.split g.told x.pipe_left j s u v y z.leaves;
+      why = grind (arith, gave_damages, lost_send, never_three, g.rest, g.told, z.why);
+    }) old g.mid new
+    (gave_leaves (end_of pipe) pipe.ep pipe.toggle x.settled g.before
+    (transacted_unshared _ _ _ _ (Err g.fault) g.lost began single))
+    (sink_told (end_of pipe) pipe.ep (flips g.packets pipe.toggle) (take pipe.max g.rest)
+    (Err g.fault) g.mid new began g.lost single)
+
+each_send : (bytes : List ℕ) (pipe : PipeState) (result : Result (Unit {0}) PipeFault)
+    (left : PipeState) (old new : World) → Sends bytes pipe old result left new → new.shared ≡ false
+    → EachWas (SendTold bytes pipe result left old) old new
+each_send bytes pipe result left old new x single =
+    send_by (EachWas (SendTold bytes pipe result left old) old new)
+    (λ i. rw (i.answer, i.pipe_kept, i.world_kept) (each_none _ (λ j s. record {
+      leaves = idle_leaves bytes pipe (Err pipe_fault.Broken) refl tt j s;
+      why = λ three. never_sent pipe (Err pipe_fault.Broken) (λ e. cc e) (λ e. cc e);
+    }) old))
+    (λ none i. rw (i.answer, i.pipe_kept, i.world_kept) (each_none _ (λ j s. record {
+      leaves = idle_leaves bytes pipe (Ok tt) refl none j s;
+      why = λ three. never_sent pipe (Ok tt) (λ e. cc e) (λ e. cc e);
+    }) old))
+    (λ works some y. sent_told bytes pipe result left old new works some y single) x
+
+pub send_leaves : (bytes : List ℕ) (pipe : PipeState) (result : Result (Unit {0}) PipeFault)
+    (left : PipeState) (old new : World) → Sends bytes pipe old result left new → new.shared ≡ false
+    → EachWas (SendLeaves bytes pipe result left) old new
+send_leaves bytes pipe result left old new x single =
+    told_leaves old new (each_send bytes pipe result left old new x single)
 
 -- At each moment: behind the packets before, the one that is being sent has joined what the device
 -- took, or not yet
@@ -357,26 +326,16 @@ module _ {t : Target} {ep : ℕ} {first : Toggle} {n : ℕ} {got : List ℕ} {j 
 
   source_halted : is_at s t ≡ true → (in_end s ep).state.halted ≡ true
       → (in_end u ep).state.halted ≡ true
-  source_halted h c = ap (λ q. (in_end q ep).state.halted) (x.still h i c).0 ∙ c
+  source_halted h c = grind arith
 
   source_frame : (v : State) → ((most : ℕ) → IsSource ep most u → OnlySource ep u v)
       → OnlySource ep s v
-  source_frame v f = let y = f t.max source_then in record {
-    rest = y.rest ∙ ap {A = State} (λ q. record q { memory = v.memory; ins = v.ins })
-        (x.frame i).rest;
-    others = λ a h. y.others a h ∙ (x.frame i).others a h;
-  }
+  source_frame v f = grind (arith, source_then)
 
 came_none : (t : Target) (ep : ℕ) (first : Toggle) (j : Location) (s : State)
     → CameLeaves t ep first 0 [] j s s
 unfolding flips
-came_none t ep first j s = record {
-  others = λ h. refl;
-  frame = λ i. record { rest = refl; others = λ a h. refl };
-  paced = λ h i p. p;
-  source = λ h i place at. none_came_from ep t.max place first s at;
-  still = λ h i c. (refl, refl);
-}
+came_none t ep first j s = grind (arith, none_came_from)
 
 came_then : (t : Target) (ep : ℕ) (first : Toggle) (n : ℕ) (got bytes : List ℕ) → 1 ≤ t.max
     → (j : Location) (s u v : State)
@@ -392,30 +351,34 @@ came_then t ep first n got bytes least j s u v x y = record {
       (turned_on n first (other (flips n first)) refl)
       (one_came_then bytes before (source_data x i)
       (y.source (source_at x i h) t.max before.behind (source_then x i) least before.at));
-  still = λ h i c. absurd ((y.halted (source_at x i h) t.max (source_then x i)
-      (source_halted x i h c)).1 bytes refl);
+  still = grind (arith, source_at, source_halted, source_then, y.halted);
 }
 
 module _ (t : Target) (ep : ℕ) (first : Toggle) (least : 1 ≤ t.max) {old : World}
     (settled : IsSettled old.roots) where
+  -- one more, full or not
+  came_more : {n : ℕ} {got last : List ℕ} {mid new : World}
+      → EachWas (CameLeaves t ep first n got) old mid → IsSettled mid.roots
+      → TransactionDone (heard_as (flips n first)) (in_attempt t ep) mid (Ok last) new
+      → new.shared ≡ false → EachWas (CameLeaves t ep first (n + 1) (got ++ last)) old new
+  came_more {n} {got} {last} {mid} {new} before began fetches single =
+      each_joined _ _ _ (λ j s u v x y. came_then t ep first n got last least j s u v x y.leaves)
+      old mid new before
+      (source_told t ep (flips n first) (Ok last) mid new began fetches single)
+
   came_leaves : {n : ℕ} {got : List ℕ} {new : World} → Came t ep first old n got new
       → new.shared ≡ false → EachWas (CameLeaves t ep first n got) old new
   came_leaves start single = each_none _ (came_none t ep first) old
-  came_leaves {new = new} (packet {n} {got} {mid} bytes c fetches full) single =
-      each_joined _ _ _ (came_then t ep first n got bytes least) old mid new
-      (came_leaves c (ended_unshared fetches single))
-      (source_over t ep (flips n first) (Ok bytes) mid new (received_settled c settled) fetches
-      single)
+  came_leaves (packet bytes c fetches full) single =
+      came_more (came_leaves c (ended_unshared fetches single)) (received_settled c settled) fetches
+      single
 
-  -- and one more, full or not
   came_on : {n : ℕ} {got last : List ℕ} {mid new : World} → Came t ep first old n got mid
       → TransactionDone (heard_as (flips n first)) (in_attempt t ep) mid (Ok last) new
       → new.shared ≡ false → EachWas (CameLeaves t ep first (n + 1) (got ++ last)) old new
-  came_on {n} {got} {last} {mid} {new} c fetches single =
-      each_joined _ _ _ (came_then t ep first n got last least) old mid new
-      (came_leaves c (ended_unshared fetches single))
-      (source_over t ep (flips n first) (Ok last) mid new (received_settled c settled) fetches
-      single)
+  came_on c fetches single =
+      came_more (came_leaves c (ended_unshared fetches single)) (received_settled c settled) fetches
+      single
 
 came_damages : {t : Target} {ep : ℕ} {first : Toggle} {old : World} {n : ℕ} {got : List ℕ}
     {new : World} → Came t ep first old n got new → new.damages ≡ old.damages
@@ -452,12 +415,7 @@ all_came pipe left bytes n works e turned j s v x = record {
 -- no bytes came, and the pipe that is left is at the place of the one before
 nothing_came : (pipe left : PipeState) (bytes : List ℕ) (place : ℕ) (s v : State) → bytes ≡ []
     → InPipeInSync left place v → GaveNext pipe place bytes left s v
-nothing_came pipe left bytes place s v none f = record {
-  behind = place;
-  came = subst (λ b. NextBytes pipe.ep pipe.max place b place s) (sym none)
-      (no_bytes pipe.ep pipe.max place s);
-  level = f;
-}
+nothing_came pipe left bytes place s v none f = grind (arith, no_bytes)
 
 -- where a call fails, no more is known of the endpoint than that it is the one it was, and that it
 -- is halted where it answered STALL
@@ -481,12 +439,7 @@ lost_came old new pipe left why ends e j s v others frame halted = record {
 -- a call that makes no attempt
 idle_came : (pipe : PipeState) (result : Result (Vec ℕ) PipeFault) → pipe_known result pipe ≡ pipe
     → came_with result ≡ [] → (j : Location) (s : State) → ReceiveLeaves pipe result pipe j s s
-idle_came pipe result same none j s = record {
-  others = λ h. refl;
-  frame = λ i. record { rest = refl; others = λ a h. refl };
-  gave = λ h place f. nothing_came pipe (pipe_known result pipe) (came_with result) place s s none
-      (rw same f);
-}
+idle_came pipe result same none j s = grind (arith, nothing_came)
 
 -- a packet that did not come, behind others that did
 module _ (wanted : ℕ) (pipe : PipeState) (n : ℕ) (got : List ℕ) (why : PipeFault) (fault : TransFault)
@@ -555,90 +508,75 @@ module _ (wanted : ℕ) (pipe : PipeState) (n : ℕ) (got : List ℕ) (why : Pip
 
 -- A call that receives
 
+-- an answer that is neither fault
+never_received : (wanted : ℕ) (pipe : PipeState) (result : Result (Vec ℕ) PipeFault)
+    → result ≢ Err pipe_fault.NoAnswer → result ≢ Err pipe_fault.Busy → {j : Location} {s v : State}
+    → ReceiveFailure wanted pipe result j s v
+never_received wanted pipe result answered waited = grind arith
+
 module _ (wanted : ℕ) (pipe left : PipeState) (old new : World) (least : 1 ≤ pipe.max)
     (single : new.shared ≡ false) where
-  received_leaves : (result : Result (Vec ℕ) PipeFault) → pipe.condition ≢ Broken
-      → MovedIn wanted pipe old result left new → EachWas (ReceiveLeaves pipe result left) old new
-  received_leaves (Ok bytes) works x =
+  abbrev ReceiveTold : Result (Vec ℕ) PipeFault → Relation
+  ReceiveTold result =
+      DeviceTold (ReceiveLeaves pipe result left) (ReceiveFailure wanted pipe result) old
+
+  received_told : (result : Result (Vec ℕ) PipeFault) → pipe.condition ≢ Broken
+      → MovedIn wanted pipe old result left new → EachWas (ReceiveTold result) old new
+  received_told (Ok bytes) works x =
       let g : AllCame (end_of pipe) pipe.ep pipe.toggle wanted old bytes.items new = x.came in
       let turned : left.toggle ≡ flips (g.packets + 1) pipe.toggle = x.toggle
       ∙ ap (λ k. flips k pipe.toggle) (all_packets g least) in
-      each_wider _ _ (all_came pipe left bytes g.packets works x.pipe_left turned) old new
+      each_wider _ _ (λ j s v y. record {
+        leaves = all_came pipe left bytes g.packets works x.pipe_left turned j s v y;
+        why = λ three. never_received wanted pipe (Ok bytes) (λ e. cc e) (λ e. cc e);
+      }) old new
       (subst (λ k. EachWas (CameLeaves (end_of pipe) pipe.ep pipe.toggle (g.packets + 1) k) old new)
       (sym g.kept) (came_on (end_of pipe) pipe.ep pipe.toggle least x.settled g.before g.came
       single))
-  received_leaves (Err why) works x = by_end x.came
+  received_told (Err why) works x = by_end x.came
     where
       by_end : NotCame (end_of pipe) pipe.ep pipe.toggle wanted old why new
           ⊎ NoRoomLeft (end_of pipe) pipe.ep pipe.toggle wanted old why new
-          → EachWas (ReceiveLeaves pipe (Err why) left) old new
+          → EachWas (ReceiveTold (Err why)) old new
       by_end (inl g) =
           let began : IsSettled g.mid.roots = received_settled g.before x.settled in
-          each_joined _ _ _ (λ j s u v y. lost_then wanted pipe g.packets g.got why g.fault works
-          least g.told g.few j s u v y old new left x.ends x.pipe_left)
-          old g.mid new
+          each_joined _ _ _ (λ j s u v y z. record {
+            leaves = lost_then wanted pipe g.packets g.got why g.fault works least g.told g.few j s
+                u v y old new left x.ends x.pipe_left z.leaves;
+            why = grind (arith, came_damages, lost_why, never_three, g.told, g.few, z.why);
+          }) old g.mid new
           (came_leaves (end_of pipe) pipe.ep pipe.toggle least x.settled g.before
           (transacted_unshared _ _ _ _ (Err g.fault) g.lost began single))
-          (source_leaves (end_of pipe) pipe.ep (flips g.packets pipe.toggle) (Err g.fault) g.mid new
+          (source_told (end_of pipe) pipe.ep (flips g.packets pipe.toggle) (Err g.fault) g.mid new
           began g.lost single)
       by_end (inr g) =
           each_wider (CameLeaves (end_of pipe) pipe.ep pipe.toggle (g.packets + 1)
-          (g.got ++ g.last)) _ (λ j s v y. lost_came old new pipe left why x.ends x.pipe_left
-          j s v y.others y.frame (λ stalled h i. cc (g.told, stalled))) old new
+          (g.got ++ g.last)) _ (λ j s v y. record {
+            leaves = grind (arith, lost_came, x.ends, x.pipe_left, y.others, y.frame, g.told);
+            why = λ three. never_received wanted pipe (Err why) (λ e. cc (g.told, e))
+                (λ e. cc (g.told, e));
+          }) old new
           (came_on (end_of pipe) pipe.ep pipe.toggle least x.settled g.before g.came single)
+
+  each_receive : (result : Result (Vec ℕ) PipeFault) → Receives wanted pipe old result left new
+      → EachWas (ReceiveTold result) old new
+  each_receive result x =
+      receive_by (EachWas (ReceiveTold result) old new)
+      (λ broken kept same. rw (broken, kept, same) (each_none _ (λ j s. record {
+        leaves = idle_came pipe (Err pipe_fault.Broken) refl refl j s;
+        why = λ three. never_received wanted pipe (Err pipe_fault.Broken) (λ e. cc e) (λ e. cc e);
+      }) old))
+      (λ bytes is none kept same. rw (is, kept, same) (each_none _ (λ j s. record {
+        leaves = idle_came pipe (Ok bytes) refl none j s;
+        why = λ three. never_received wanted pipe (Ok bytes) (λ e. cc e) (λ e. cc e);
+      }) old))
+      (λ works some y. received_told result works y) x
 
 pub receive_leaves : (wanted : ℕ) (pipe : PipeState) (result : Result (Vec ℕ) PipeFault) (left : PipeState)
     (old new : World) → 1 ≤ pipe.max → Receives wanted pipe old result left new → new.shared ≡ false
     → EachWas (ReceiveLeaves pipe result left) old new
 receive_leaves wanted pipe result left old new least x single =
-    receive_by (EachWas (ReceiveLeaves pipe result left) old new)
-    (λ broken kept same. rw (broken, kept, same)
-    (each_none _ (idle_came pipe (Err pipe_fault.Broken) refl refl) old))
-    (λ bytes is none kept same. rw (is, kept, same)
-    (each_none _ (idle_came pipe (Ok bytes) refl none) old))
-    (λ works some y. received_leaves wanted pipe left old new least single result works y) x
-
--- why it fails
-module _ (wanted : ℕ) (pipe left : PipeState) (old new : World) (least : 1 ≤ pipe.max)
-    (single : new.shared ≡ false) where
-  never_received : (result : Result (Vec ℕ) PipeFault) → Receives wanted pipe old result left new
-      → result ≢ Err pipe_fault.NoAnswer → result ≢ Err pipe_fault.Busy
-      → EachWas (ReceiveFailure wanted pipe result) old new
-  never_received result x answered waited =
-      each_wider (ReceiveLeaves pipe result left) _
-      (λ j s v y. record {
-        answered = λ l place f short. answered;
-        waited = λ l place f short has prompt. waited;
-      }) old new
-      (receive_leaves wanted pipe result left old new least x single)
-
-  receive_why : (result : Result (Vec ℕ) PipeFault) → NoThreeDamaged old
-      → Receives wanted pipe old result left new → IsNoBusFault result
-      → EachWas (ReceiveFailure wanted pipe result) old new
-  receive_why (Ok bytes) three x sound = never_received (Ok bytes) x (λ e. cc e) (λ e. cc e)
-  receive_why (Err why) three x sound =
-      receive_by (EachWas (ReceiveFailure wanted pipe (Err why)) old new)
-      (λ broken kept same. never_received (Err why) x (λ e. cc (broken, e))
-      (λ e. cc (broken, e))) (λ bytes is none kept same. cc is)
-      (λ works some y. by_end works y.settled y.came) x
-    where
-      by_end : pipe.condition ≢ Broken → IsSettled old.roots
-          → NotCame (end_of pipe) pipe.ep pipe.toggle wanted old why new
-          ⊎ NoRoomLeft (end_of pipe) pipe.ep pipe.toggle wanted old why new
-          → EachWas (ReceiveFailure wanted pipe (Err why)) old new
-      by_end works settled (inl g) =
-          let over : TransactionDone (heard_as (flips g.packets pipe.toggle))
-          (in_attempt (end_of pipe) pipe.ep) g.mid (Err g.fault) new =
-          transacted_ended (Vec ℕ) why g.fault g.told sound g.lost in
-          each_joined _ _ _ (lost_why wanted pipe g.packets g.got why g.fault works least g.told
-          g.few) old g.mid new
-          (came_leaves (end_of pipe) pipe.ep pipe.toggle least settled g.before
-          (ended_unshared over single))
-          (source_why (end_of pipe) pipe.ep (flips g.packets pipe.toggle) (Err g.fault) g.mid new
-          (received_settled g.before settled)
-          (never_three old g.mid (came_damages g.before) three) over single)
-      by_end works settled (inr g) = never_received (Err why) x (λ e. cc (g.told, e))
-          (λ e. cc (g.told, e))
+    told_leaves old new (each_receive wanted pipe left old new least single result x)
 
 -- A call that moved packets, by what these tell
 
@@ -649,20 +587,8 @@ pub sends_by : (bytes : List ℕ) (pipe : PipeState) (old : World) (result : Res
       toggle = left.toggle;
       condition = after_transfer pipe.condition result;
     } → IsSettled old.roots → Sends bytes pipe old result left new
-sends_by bytes pipe old result left new works some x is settled = record {
-  broken = λ e. absurd (works e);
-  nothing = λ w e. absurd (some e);
-  moved = λ w s. record {
-    ends = x.ends;
-    went = x.moves;
-    behind = x.behind;
-    settled = settled;
-    room = x.room;
-    pipe_left = is;
-    toggle = x.turned;
-    halted = x.halted;
-  };
-}
+sends_by bytes pipe old result left new works some x is settled =
+    grind (arith, x.ends, x.moves, x.behind, x.room, x.turned, x.halted)
 
 pub receives_by : (wanted : ℕ) (pipe : PipeState) (old : World) (result : Result (Vec ℕ) PipeFault)
     (left : PipeState) (new : World) → pipe.condition ≢ Broken → wanted ≢ 0
@@ -671,20 +597,8 @@ pub receives_by : (wanted : ℕ) (pipe : PipeState) (old : World) (result : Resu
       toggle = left.toggle;
       condition = after_transfer pipe.condition result;
     } → IsSettled old.roots → Receives wanted pipe old result left new
-receives_by wanted pipe old result left new works some x is settled = record {
-  broken = λ e. absurd (works e);
-  nothing = λ w e. absurd (some e);
-  moved = λ w s. record {
-    ends = x.ends;
-    came = x.moves;
-    behind = x.behind;
-    settled = settled;
-    most = x.most;
-    pipe_left = is;
-    toggle = x.turned;
-    halted = x.halted;
-  };
-}
+receives_by wanted pipe old result left new works some x is settled =
+    grind (arith, x.ends, x.moves, x.behind, x.most, x.turned, x.halted)
 
 -- The record of a call
 
@@ -694,7 +608,8 @@ pub send_told : (bytes : List ℕ) (pipe : PipeState) (result : Result (Unit {0}
 send_told bytes pipe result left old new x = record {
   sends = x;
   what = send_leaves bytes pipe result left old new x;
-  why = λ three sound single. send_why bytes pipe left old new single result three x sound;
+  why = λ three sound single. told_why old new three
+      (each_send bytes pipe result left old new x single);
   who = who result x;
   losses = send_losses bytes pipe result left old new x;
 }
@@ -710,7 +625,8 @@ pub receive_told : (wanted : ℕ) (pipe : PipeState) (result : Result (Vec ℕ) 
 receive_told wanted pipe result left old new fits x = record {
   receives = x;
   what = receive_leaves wanted pipe result left old new fits x;
-  why = λ three sound single. receive_why wanted pipe left old new fits single result three x sound;
+  why = λ three sound single. told_why old new three
+      (each_receive wanted pipe left old new fits single result x);
   who = who result x;
   losses = λ bulk. receive_losses wanted pipe result left old new bulk x;
 }

@@ -1,32 +1,29 @@
 -- The transactions of a control transfer: what each leaves of each device, and how they join.
-use Rattle.std.proofs.Common.{◌≡◌, ℕ, ◌+◌, ◌&&◌, if◌then◌else◌, Bool, true, false, List, length}
-use Rattle.std.proofs.Common.{None, refl, sym, subst, ◌∙◌, ◌≢◌, zero, suc, ◌%◌, ◌==◌, not, ap}
-use Rattle.std.proofs.Common.{arith, ◌<◌, ◌≤◌, [], Result, Ok, Err}
+use Rattle.std.proofs.Common.{◌≡◌, ℕ, ◌&&◌, if◌then◌else◌, Bool, true, false, List, length, refl}
+use Rattle.std.proofs.Common.{sym, subst, ◌∙◌, ◌≢◌, zero, suc, ◌%◌, ◌==◌, not, ap, arith, ◌<◌, ◌≤◌}
+use Rattle.std.proofs.Common.{[], Result, Ok, Err}
 use Rattle.std.proofs.lemmas.Bool.Decides.{nat_tests}
 use Rattle.std.proofs.lemmas.Option.{same_Some}
 use Rattle.usb_packet.specs.{Toggle, Zero, One, other, flips}
-use Rattle.usb_request.specs.{bytes_of, setup_of, IsToHost, Setup, PORT_RESET, C_PORT_CONNECTION}
-use Rattle.usb_request.specs.{CLEAR_FEATURE, SET_FEATURE, PORT_OUT}
+use Rattle.usb_request.specs.{bytes_of, setup_of, IsToHost, Setup}
 use Rattle.usb_device.specs.{OnlyControl, OnlyStage, State, toggle_at, Location}
-use Rattle.usb_world.specs.{is_harmless, Relation, EachWas, Was, damage_of, World, Attempt}
+use Rattle.usb_world.specs.{is_harmless, Relation, EachWas, Was, World, Attempt}
 use Rattle.usb_tree.specs.{IsSettled}
-use Rattle.usb_transaction.specs.{NoThreeDamaged, SetupFailure, ControlInFailure, StatusReadFailure}
-use Rattle.usb_transaction.specs.{heard_as, ControlIn, SetupDone, is_at, ReadStatus}
-use Rattle.usb_transaction.specs.{IsNotOfBus as TransNotOfBus, begins_no_stretch, LossesIn}
-use Rattle.usb_transaction.specs.{LosesNone, EachSpared, IsSpared, TransactionDone, Transacted}
-use Rattle.usb_transaction.specs.{in_attempt, TransFault, Target, WriteOut, WriteOutFailure}
-use Rattle.usb_transaction.specs.{WriteStatusFailure, WriteStatusIn}
-use Rattle.usb_transaction.proofs.Interface.{control_leaves, set_up_why, setup_leaves}
+use Rattle.usb_transaction.specs.{NoThreeDamaged, SetupFailure, heard_as, SetupDone, is_at, Listens}
+use Rattle.usb_transaction.specs.{CanAnswer, CanAccept, IsNotOfBus as TransNotOfBus}
+use Rattle.usb_transaction.specs.{begins_no_stretch, LossesIn, LosesNone, EachSpared, IsSpared}
+use Rattle.usb_transaction.specs.{TransactionDone, Transacted, in_attempt, TransFault, Target}
 use Rattle.usb_transaction.proofs.Interface.{trail_damages, trail_settled, trail_unshared}
-use Rattle.usb_transaction.proofs.Interface.{others_stay_then, status_leaves, transacted_unshared}
-use Rattle.usb_transaction.proofs.Interface.{control_in_why, in_losses, set_up_losses}
-use Rattle.usb_transaction.proofs.Interface.{spared_joined, spared_wider, read_status_why}
-use Rattle.usb_transaction.proofs.Interface.{out_losses, read_losses, was_then, write_leaves}
-use Rattle.usb_transaction.proofs.Interface.{write_out_why, write_status_leaves, write_status_why}
-use Rattle.usb_transaction.proofs.Interface.{StaysReading, reading_leaves}
-use Rattle.usb_pipe.specs.{as_pipe_fault, IsNoBusFault, SetUp, Asks, Confirms, PipeFault, Puts}
-use Rattle.usb_pipe.proofs.TransactionFaults.{Fell}
+use Rattle.usb_transaction.proofs.Interface.{ControlInTold, control_in_told, ControlOutTold}
+use Rattle.usb_transaction.proofs.Interface.{control_out_told, set_up_told, at_from, listens_on}
+use Rattle.usb_transaction.proofs.Interface.{others_stay_then, transacted_unshared, in_losses}
+use Rattle.usb_transaction.proofs.Interface.{set_up_losses, spared_joined, spared_wider, out_losses}
+use Rattle.usb_transaction.proofs.Interface.{read_losses, was_then}
+use Rattle.usb_pipe.specs.{as_pipe_fault, IsNoBusFault, SetUp, Asks, PipeFault, Puts, CanEnd}
+use Rattle.usb_pipe.proofs.TransactionFaults.{Fell, could_accept, could_answer, fell_same_fault}
 use Rattle.usb_transaction.specs.declared.fault.TransFault.TheVariants as trans
+use Rattle.usb_pipe.specs.declared.fault.PipeFault.TheVariants as pipe_fault
+use Rattle.usb_world.proofs.Interface.{each_wider}
 
 -- What a transaction's answer says of its worlds
 
@@ -34,8 +31,7 @@ use Rattle.usb_transaction.specs.declared.fault.TransFault.TheVariants as trans
 pub ended_by : {hear : _} {a : Attempt} {old new : World} (result : Result (List ℕ) TransFault)
     → TransNotOfBus result → Transacted hear a old result new
     → TransactionDone hear a old result new
-ended_by (Err (trans.Bus fault)) sound x = absurd sound
-ended_by result sound x = x
+ended_by result sound x = grind arith
 
 -- the fault of the bus is the transaction's just where it is the transfer's
 pub sound_in : (A : Type 0) (fault : TransFault) → IsNoBusFault {A = A} (Err (as_pipe_fault fault))
@@ -45,20 +41,18 @@ sound_in A fault sound = tt
 
 pub sound_told : (A : Type 0) (why : PipeFault) (fault : TransFault) → why ≡ as_pipe_fault fault
     → IsNoBusFault {A = A} (Err why) → TransNotOfBus {A = List ℕ} (Err fault)
-sound_told A why fault told sound =
-    sound_in A fault (subst (λ w. IsNoBusFault {A = A} (Err w)) told sound)
+sound_told A why fault told sound = grind (arith, sound_in)
 
 pub transacted_ended : (A : Type 0) {hear : _} {a : Attempt} {old new : World} (why : PipeFault)
     (fault : TransFault) → why ≡ as_pipe_fault fault → IsNoBusFault {A = A} (Err why)
     → Transacted hear a old (Err fault) new → TransactionDone hear a old (Err fault) new
-transacted_ended A why fault told sound x =
-    ended_by (Err fault) (sound_told A why fault told sound) x
+transacted_ended A why fault told sound x = grind (arith, ended_by, sound_told)
 
 -- one that was refused ended
 pub ended_stalled : {hear : _} {a : Attempt} {old new : World} (fault : TransFault)
     → Transacted hear a old (Err fault) new → Fell fault trans.Stalled
     → TransactionDone hear a old (Err fault) new
-ended_stalled fault x e = ended_by (Err fault) (subst (λ r. TransNotOfBus r) (sym e) tt) x
+ended_stalled fault x e = grind (arith, ended_by)
 
 pub ended_settled : {hear : _} {a : Attempt} {old new : World} {result : Result (List ℕ) TransFault}
     → TransactionDone hear a old result new → IsSettled old.roots → IsSettled new.roots
@@ -75,8 +69,7 @@ ended_damages x = trail_damages x.trail
 
 pub never_three : (old new : World) → new.damages ≡ old.damages → NoThreeDamaged old
     → NoThreeDamaged new
-never_three old new e three = subst (λ d. (n : ℕ) → damage_of d n ≢ None
-    → damage_of d (n + 1) ≢ None → damage_of d (n + 2) ≢ None → ⊥) (sym e) three
+never_three old new e three = grind arith
 
 -- each branch of a choice
 pub either_way : {A : Type 0} (P : A → Type 0) (b : Bool) (x y : A) → P x → P y
@@ -84,20 +77,17 @@ pub either_way : {A : Type 0} (P : A → Type 0) (b : Bool) (x y : A) → P x �
 either_way P true x y h g = h
 either_way P false x y h g = g
 
--- What a transaction leaves of each device, with why it fails and what it loses
+-- What a transaction says of each device, with what it loses
 
 -- another relation of the same device
 also : {R : Relation} (S : Relation) {w : World} {j : Location} {v : State} (a : Was R w j v)
     → Was S w j v → S j a.before v
-also S {j = j} {v} a b = subst (λ d. S j d v)
-    (same_Some b.before a.before (sym b.stands ∙ a.stands)) b.so
+also S = grind (arith, same_Some)
 
 -- an IN of endpoint 0; with DATA1 it may end a request without data
 pub record ControlInAsked (t : Target) (awaited : Toggle) (result : Result (List ℕ) TransFault)
     (old new : World) (j : Location) (s v : State) : Type 0 where
-  pub leaves : ControlIn t awaited result j s v
-  pub steady : StaysReading s v
-  pub why : NoThreeDamaged old → TransNotOfBus result → ControlInFailure t awaited result j s v
+  pub told : ControlInTold t awaited result old j s v
   pub kept : TransNotOfBus result → LosesNone t old new j s v
   pub losses : TransNotOfBus result → awaited ≡ One → LossesIn t result old new j s v
 
@@ -105,15 +95,10 @@ pub asked_leaves : (t : Target) (awaited : Toggle) (result : Result (List ℕ) T
     (old new : World) → Asks t awaited old result new → IsSettled old.roots → new.shared ≡ false
     → EachWas (ControlInAsked t awaited result old new) old new
 asked_leaves t awaited result old new x settled single j v on there =
-    let a : Was (ControlIn t awaited result) old j v =
-    control_leaves t awaited result old new settled x single j v on there in
+    let a : Was (ControlInTold t awaited result old) old j v =
+    control_in_told t awaited result old new settled x single j v on there in
     was_then a (record {
-      leaves = a.so;
-      steady = also (λ j s v. StaysReading s v) a
-          (reading_leaves t awaited result old new settled x single j v on there);
-      why = λ three sound. also (ControlInFailure t awaited result) a
-          (control_in_why t awaited result old new settled three (ended_by result sound x) single j
-          v on there);
+      told = a.so;
       kept = λ sound. also (LosesNone t old new) a
           (read_losses t awaited result old new settled (ended_by result sound x) single j v on
           there);
@@ -122,81 +107,28 @@ asked_leaves t awaited result old new x settled single j v on there =
           (ended_by result sound x)) single j v on there);
     })
 
--- an OUT of endpoint 0, by what it leaves and why it fails
-pub record Sent (Leaves Fails : Relation) (result : Result (List ℕ) TransFault) (old new : World)
-    (j : Location) (s v : State) : Type 0 where
-  pub leaves : Leaves j s v
-  pub why : NoThreeDamaged old → TransNotOfBus result → Fails j s v
-  pub kept : TransNotOfBus result → new.losses ≡ old.losses
+-- an OUT of endpoint 0
+pub record ControlOutAsked (t : Target) (toggle : Toggle) (bytes : List ℕ)
+    (result : Result (List ℕ) TransFault) (old new : World) (j : Location) (s v : State) : Type 0
+  where
+    pub told : ControlOutTold t toggle bytes result old j s v
+    pub kept : TransNotOfBus result → new.losses ≡ old.losses
 
-sent_leaves : (Leaves Fails : Relation) (t : Target) (toggle : Toggle) (bytes : List ℕ)
+pub put_leaves : (t : Target) (toggle : Toggle) (bytes : List ℕ)
     (result : Result (List ℕ) TransFault) (old new : World) → Puts t 0 toggle bytes old result new
-    → IsSettled old.roots → EachWas Leaves old new
-    → (NoThreeDamaged old → TransNotOfBus result → EachWas Fails old new)
-    → EachWas (Sent Leaves Fails result old new) old new
-sent_leaves Leaves Fails t toggle bytes result old new x settled each fails j v on there =
-    let a : Was Leaves old j v = each j v on there in
-    was_then a (record {
-      leaves = a.so;
-      why = λ three sound. also Fails a (fails three sound j v on there);
+    → IsSettled old.roots → new.shared ≡ false
+    → EachWas (ControlOutAsked t toggle bytes result old new) old new
+put_leaves t toggle bytes result old new x settled single =
+    each_wider _ _ (λ j s v y. record {
+      told = y;
       kept = λ sound. out_losses t 0 toggle bytes old new settled (ended_by result sound x).trail;
-    })
-
--- the OUT that ends a read
-abbrev pub Confirmed : Target → Result (List ℕ) TransFault → World → World → Relation
-Confirmed t result = Sent (ReadStatus t result) (StatusReadFailure t result) result
-
-pub confirmed_leaves : (t : Target) (result : Result (List ℕ) TransFault) (old new : World)
-    → Confirms t old result new → IsSettled old.roots → new.shared ≡ false
-    → EachWas (Confirmed t result old new) old new
-confirmed_leaves t result old new x settled single =
-    sent_leaves (ReadStatus t result) (StatusReadFailure t result) t One [] result old new x settled
-    (status_leaves t result old new settled x single)
-    (λ three sound. read_status_why t result old new settled three (ended_by result sound x) single)
-
--- one of a control write
-abbrev pub WritePacket : Target → Toggle → List ℕ → Result (List ℕ) TransFault → World → World
-    → Relation
-WritePacket t toggle bytes result =
-    Sent (WriteOut t toggle bytes result) (WriteOutFailure t bytes result) result
-
-pub write_packet_leaves : (t : Target) (toggle : Toggle) (bytes : List ℕ)
-    (result : Result (List ℕ) TransFault) (old new : World)
-    → Puts t 0 toggle bytes old result new → IsSettled old.roots → new.shared ≡ false
-    → EachWas (WritePacket t toggle bytes result old new) old new
-write_packet_leaves t toggle bytes result old new x settled single =
-    sent_leaves (WriteOut t toggle bytes result) (WriteOutFailure t bytes result) t toggle bytes
-    result old new x settled (write_leaves t toggle bytes result old new settled x single)
-    (λ three sound. write_out_why t toggle bytes result old new settled three
-    (ended_by result sound x) single)
-
--- the IN that ends a control write
-pub record WriteStatus (t : Target) (result : Result (List ℕ) TransFault) (old new : World)
-    (j : Location) (s v : State) : Type 0 where
-  pub asked : ControlInAsked t One result old new j s v
-  pub write : WriteStatusIn t result j s v
-  pub why : NoThreeDamaged old → TransNotOfBus result → WriteStatusFailure t result j s v
-
-pub write_status_asked : (t : Target) (result : Result (List ℕ) TransFault) (old new : World)
-    → Asks t One old result new → IsSettled old.roots → new.shared ≡ false
-    → EachWas (WriteStatus t result old new) old new
-write_status_asked t result old new x settled single j v on there =
-    let a : Was (ControlInAsked t One result old new) old j v =
-    asked_leaves t One result old new x settled single j v on there in
-    was_then a (record {
-      asked = a.so;
-      write = also (WriteStatusIn t result) a
-          (write_status_leaves t result old new settled x single j v on there);
-      why = λ three sound. also (WriteStatusFailure t result) a
-          (write_status_why t result old new settled three (ended_by result sound x) single j v on
-          there);
-    })
+    }) old new (control_out_told t toggle bytes result old new settled x single)
 
 -- a SETUP
 pub record Requested (t : Target) (request : Setup) (result : Result (List ℕ) TransFault)
     (old new : World) (j : Location) (s v : State) : Type 0 where
   pub done : SetupDone t (bytes_of request) result old new j s v
-  pub why : NoThreeDamaged old → TransNotOfBus result → SetupFailure t result j s v
+  pub why : NoThreeDamaged old → SetupFailure t result j s v
   pub kept : begins_no_stretch request ≡ true → TransNotOfBus result → new.losses ≡ old.losses
 
 pub bytes_of-length : (request : Setup) → length (bytes_of request) ≡ 8
@@ -209,17 +141,12 @@ pub requested_leaves : (t : Target) (request : Setup) (result : Result (List ℕ
     → EachSpared t request (Requested t request result old new) old new
 requested_leaves t request result old new same settled x single j v on there spared =
     let bytes : List ℕ = bytes_of request in
-    let is_spared : IsSpared t (setup_of bytes) v = subst (λ r. IsSpared t r v) (sym same) spared in
-    let a : Was (SetupDone t bytes result old new) old j v =
-    setup_leaves t bytes result old new (bytes_of-length request) settled x single j v on there
-    is_spared in
+    let a = set_up_told t bytes result old new (bytes_of-length request) settled x single j v on
+    there (subst (λ r. IsSpared t r v) (sym same) spared) in
     was_then a (record {
-      done = a.so;
-      why = λ three sound. also (SetupFailure t result) a
-          (set_up_why t bytes result old new (bytes_of-length request) settled three
-          (ended_by result sound x) single j v on there is_spared);
-      kept = λ plain sound. set_up_losses t bytes old new (ap begins_no_stretch same ∙ plain)
-          settled (ended_by result sound x).trail;
+      done = a.so.leaves;
+      why = a.so.why;
+      kept = grind (arith, ended_by, set_up_losses);
     })
 
 -- A transfer so far
@@ -286,16 +213,55 @@ reached_more S Q bytes others f r x each = record {
   each = λ single. reached_last S Q _ _ _ (Ok bytes) others f r x each single;
 }
 
+-- Why a transfer fails
+
+-- the device is, after transactions of it, as it was when it was asked, as far as why it fails goes
+pub record GoesOn (t : Target) (j : Location) (s u : State) : Type 0 where
+  pub at : is_at s t ≡ true → is_at u t ≡ true
+  pub spec : u.spec ≡ s.spec
+  pub listens : Listens t j s → Listens t j u
+  pub naks : u.naks ≤ s.spec.naks
+
+pub goes_on : (t : Target) (j : Location) (s u : State) → u.spec ≡ s.spec
+    → u.registers ≡ s.registers → u.naks ≤ s.spec.naks → GoesOn t j s u
+goes_on t j s u spec same naks = grind (arith, at_from, listens_on)
+
+-- how a device may end a transfer, and why that fails with one that suits it
+pub record MayEnd {A : Type 0} (t : Target) (Suits : Type 0) (result : Result A PipeFault)
+    (old : World) (j : Location) (s : State) : Type 0 where
+  pub could : CanEnd s.spec result
+  pub answered : Suits → NoThreeDamaged old → Listens t j s → result ≢ Err pipe_fault.NoAnswer
+  pub waited : Suits → NoThreeDamaged old → Listens t j s → s.spec.busy ≡ false
+      → s.spec.naks ≤ 200 → result ≢ Err pipe_fault.Busy
+
+module _ {A : Type 0} {t : Target} {Suits : Type 0} {old : World} {j : Location} {s : State} where
+  pub not_failed : {result : Result A PipeFault} → CanEnd s.spec result
+      → result ≢ Err pipe_fault.NoAnswer → result ≢ Err pipe_fault.Busy
+      → MayEnd t Suits result old j s
+  not_failed could answered waited = grind arith
+
+  module _ (why : PipeFault) (fault : TransFault) (told : why ≡ as_pipe_fault fault) where
+    -- at its SETUP
+    pub set_up_failed : {v : State} → CanAccept {A = List ℕ} s.spec (Err fault)
+        → (NoThreeDamaged old → SetupFailure t (Err fault) j s v)
+        → MayEnd {A = A} t Suits (Err why) old j s
+    set_up_failed could fails = grind (arith, could_accept, fell_same_fault)
+
+    -- at a transaction behind it, for which the device is ready
+    pub last_failed : {u : State} (mid : World) (Ready : Type 0) → GoesOn t j s u
+        → mid.damages ≡ old.damages → CanAnswer {A = List ℕ} u.spec (Err fault) → (Suits → Ready)
+        → (NoThreeDamaged mid → Listens t j u → Ready → Fell fault trans.NoAnswer → ⊥)
+        → (NoThreeDamaged mid → Listens t j u → Ready → u.spec.busy ≡ false → u.naks ≤ 200
+        → Fell fault trans.Busy → ⊥)
+        → MayEnd {A = A} t Suits (Err why) old j s
+    last_failed mid Ready on undamaged could ready answered waited =
+        grind (arith, could_answer, fell_same_fault, never_three)
+
 -- One device
 
 -- where the registers stay, only the stage changes
 pub only_stage : (s v : State) → OnlyControl s v → v.registers ≡ s.registers → OnlyStage s v
-only_stage s v f e = f ∙ ap {A = _} {B = State} (λ g. record s {
-  memory = v.memory;
-  naks = v.naks;
-  stage = v.stage;
-  registers = g;
-}) e
+only_stage s v f e = grind arith
 
 -- Requests for data
 
@@ -305,12 +271,10 @@ request_type-other n type b h g = grind (arith, nat_tests, h, g)
 -- one resets no port, and clears no change of connection
 
 pub host_harmless : (r : Setup) → IsToHost r → is_harmless r ≡ true
-host_harmless r h = ap (λ b. not (b && r.value == PORT_RESET))
-    (request_type-other r.request_type PORT_OUT (r.request == SET_FEATURE) h (omega arith))
+host_harmless r h = grind (arith, request_type-other)
 
 pub host_stretch : (r : Setup) → IsToHost r → begins_no_stretch r ≡ true
-host_stretch r h = ap (λ b. not (b && r.value == C_PORT_CONNECTION))
-    (request_type-other r.request_type PORT_OUT (r.request == CLEAR_FEATURE) h (omega arith))
+host_stretch r h = grind (arith, request_type-other)
 
 -- Toggles of a data stage
 

@@ -3,10 +3,10 @@
 use Rattle.std.specs.Global.{Vec}
 use Rattle.std.specs.Result.{IsErr, IsErrAnd}
 use Rattle.std.proofs.Common.{◌≡◌, ℕ, ◌+◌, nat_le, ◌&&◌, if◌then◌else◌, Bool, true, false, List}
-use Rattle.std.proofs.Common.{length, Option, None, Some, is_some, refl, sym, subst, ◌∙◌, ◌≢◌, suc}
-use Rattle.std.proofs.Common.{◌%◌, ◌==◌, not, ap, arith, ◌⊎◌, inl, inr, ◌*◌, ◌/◌, ◌<◌, ◌≤◌, nat_lt}
-use Rattle.std.proofs.Common.{◌||◌, [], ◌++◌, take, unwrap_or, drop, length-append, length-drop}
-use Rattle.std.proofs.Common.{Result, Ok, Err, slice_get, slice_index, ◌-◌, OnOk, IfOk, MatchResult}
+use Rattle.std.proofs.Common.{length, Option, None, Some, is_some, refl, sym, subst, ◌∙◌, ◌≢◌, ◌==◌}
+use Rattle.std.proofs.Common.{not, ap, arith, ◌⊎◌, inl, inr, ◌*◌, ◌<◌, ◌≤◌, nat_lt, ◌||◌, [], ◌++◌}
+use Rattle.std.proofs.Common.{take, length-append, length-drop, Result, Ok, Err, slice_get}
+use Rattle.std.proofs.Common.{slice_index, ◌-◌, OnOk, IfOk, MatchResult}
 use Rattle.std.proofs.Math.Nat.{mul-le-mul_right}
 use Rattle.std.proofs.Math.Seq.{take-append-add}
 use Rattle.std.proofs.lemmas.Bool.{and_parts}
@@ -14,57 +14,55 @@ use Rattle.std.proofs.lemmas.Bool.Decides.{nat_tests}
 use Rattle.std.proofs.lemmas.List.{take_all, length-take}
 use Rattle.std.proofs.lemmas.Nat.{div-add-mod'}
 use Rattle.usb_packet.specs.{Toggle, One, other, flips}
-use Rattle.usb_request.specs.{bytes_of, setup_of, IsToHost, Setup, DEVICE, CONFIGURATION, STRING}
-use Rattle.usb_request.specs.{HUB, GET_STATUS, CLEAR_FEATURE, SET_FEATURE, SET_ADDRESS}
-use Rattle.usb_request.specs.{GET_DESCRIPTOR, GET_CONFIGURATION, SET_CONFIGURATION, DEVICE_IN}
-use Rattle.usb_request.specs.{DEVICE_OUT, ENDPOINT_OUT, HUB_IN, PORT_IN, PORT_OUT, descriptor_value}
-use Rattle.usb_request.specs.{INTERFACE_IN, INTERFACE_OUT, ENDPOINT_IN, GET_INTERFACE}
-use Rattle.usb_request.specs.{SET_INTERFACE}
+use Rattle.usb_request.specs.{bytes_of, setup_of, IsToHost, Setup, HUB, GET_STATUS, CLEAR_FEATURE}
+use Rattle.usb_request.specs.{SET_FEATURE, SET_ADDRESS, GET_DESCRIPTOR, GET_CONFIGURATION}
+use Rattle.usb_request.specs.{SET_CONFIGURATION, DEVICE_IN, DEVICE_OUT, ENDPOINT_OUT, HUB_IN}
+use Rattle.usb_request.specs.{PORT_IN, PORT_OUT, descriptor_value, INTERFACE_IN, INTERFACE_OUT}
+use Rattle.usb_request.specs.{ENDPOINT_IN, GET_INTERFACE, SET_INTERFACE}
 use Rattle.usb_descriptor.specs.{has_interface}
 use Rattle.usb_port.specs.{PortState, status_of}
 use Rattle.usb_device.specs.{OnlyControl, OnlyStage, ReadingAt, ReadOn, StatusGiven, Outcome}
 use Rattle.usb_device.specs.{stalled, tells_port, Is, asked_descriptor, asked_hub_descriptor}
-use Rattle.usb_device.specs.{port_named, told_port, outcome, takes_address, registers_at_setup}
-use Rattle.usb_device.specs.{address_at_end, State, accepted, begun, Spec, reading, max_packet}
-use Rattle.usb_device.specs.{packet_at, Stage, ending, refused, packets_joined, first_stage}
-use Rattle.usb_device.specs.{reads_port, packet_count, row_of, Location, Registers, answers_taken}
-use Rattle.usb_device.specs.{takes, Write, writing, first_write, ends_if, tells_halt, told_halt}
-use Rattle.usb_device.specs.{told_bytes, is_endpoint_0, items_at, served, ServedEndpoint}
+use Rattle.usb_device.specs.{port_named, told_port, outcome, takes_address, address_at_end, State}
+use Rattle.usb_device.specs.{accepted, begun, Spec, reading, max_packet, packet_at, Stage, ending}
+use Rattle.usb_device.specs.{refused, packets_joined, first_stage, reads_port, row_of, Location}
+use Rattle.usb_device.specs.{Registers, answers_taken, takes, Write, writing, first_write, ends_if}
+use Rattle.usb_device.specs.{tells_halt, told_halt, told_bytes, is_endpoint_0, items_at, served}
+use Rattle.usb_device.specs.{ServedEndpoint}
 use Rattle.usb_device.specs.Request.{answers}
 use Rattle.usb_device.proofs.Interface.{packets_joined-is, packets_joined-whole, packet-further}
 use Rattle.usb_device.proofs.Interface.{packet-fits, asked_own-to_host}
-use Rattle.usb_world.specs.{is_harmless, Relation, EachWas, one_more, Course, World, AttemptsWithin}
+use Rattle.usb_world.specs.{is_harmless, Relation, EachWas, Course, World, AttemptsWithin}
 use Rattle.usb_tree.specs.{IsSettled, address_of}
 use Rattle.usb_world.proofs.Interface.{course_joined, register_address, spends_none, spends_then}
 use Rattle.usb_world.proofs.Interface.{spends_wider}
 use Rattle.usb_tree.proofs.Interface.{decided, either_of}
 use Rattle.usb_bus.specs.{Traced, StepRun, still}
 use Rattle.usb_bus.proofs.Interface.{traced_then}
-use Rattle.usb_transaction.specs.{Answerer, NoThreeDamaged, Listens, HasNext, Fits, set_up_as}
-use Rattle.usb_transaction.specs.{ControlIn, AcceptedAt, is_at, CanAccept, CanAnswer, IsInRead}
-use Rattle.usb_transaction.specs.{IsNotOfBus as TransNotOfBus, begins_no_stretch, LossesIn}
-use Rattle.usb_transaction.specs.{EachSpared, Transacted, setup_attempt, AttemptsMade}
-use Rattle.usb_transaction.specs.{transaction_bound, TransFault, Target, refuses_in}
-use Rattle.usb_transaction.proofs.Interface.{at_from, spared_all, listens_at, spared_wider}
-use Rattle.usb_transaction.proofs.Interface.{spec_stays, listens_on}
+use Rattle.usb_transaction.specs.{Answerer, NoThreeDamaged, HasNext, Fits, set_up_as, ControlIn}
+use Rattle.usb_transaction.specs.{AcceptedAt, is_at, IsInRead, IsNotOfBus as TransNotOfBus}
+use Rattle.usb_transaction.specs.{begins_no_stretch, LossesIn, EachSpared, Transacted}
+use Rattle.usb_transaction.specs.{setup_attempt, AttemptsMade, transaction_bound, TransFault}
+use Rattle.usb_transaction.specs.{Target, refuses_in}
+use Rattle.usb_transaction.proofs.Interface.{spared_all, listens_at, spared_wider, spec_stays}
+use Rattle.usb_transaction.proofs.Interface.{DeviceTold}
 use Rattle.usb_pipe.specs.{as_pipe_fault, ends_stage, byte_bound, FaultAfter, WriteFailure}
-use Rattle.usb_pipe.specs.{ControlReadFailure, IsNoBusFault, AcceptedIn, CanEnd, IsBehind}
-use Rattle.usb_pipe.specs.{AnswerRead, ReadLeaves, WasRefused, EffectDone, EffectOrNone}
-use Rattle.usb_pipe.specs.{WriteLeaves, TookItOrLost, LossesOf, IsMaximum, LossesKept, SetUp, Goes}
-use Rattle.usb_pipe.specs.{DataStage, Reads, Writes, Asks, DataEnds, Confirms, Unshared}
-use Rattle.usb_pipe.specs.{ControlRead, ControlWrite, PipeFault}
+use Rattle.usb_pipe.specs.{ControlReadFailure, IsNoBusFault, AcceptedIn, IsBehind, AnswerRead}
+use Rattle.usb_pipe.specs.{ReadLeaves, WasRefused, EffectDone, EffectOrNone, WriteLeaves}
+use Rattle.usb_pipe.specs.{TookItOrLost, LossesOf, IsMaximum, SetUp, Goes, DataStage, Reads, Writes}
+use Rattle.usb_pipe.specs.{Asks, DataEnds, Confirms, Unshared, ControlRead, ControlWrite, PipeFault}
 use Rattle.usb_pipe.specs.Stages.{start, packet}
 use Rattle.usb_pipe.proofs.Answerers.{who_reads, who_writes}
 use Rattle.usb_pipe.proofs.Attempts.{in_behind, out_behind, goes_behind, stage_behind}
 use Rattle.usb_pipe.proofs.Bounds.{full_packet, bound_grows}
-use Rattle.usb_pipe.proofs.ControlSteps.{ended_stalled, asked_leaves, only_stage, flips_at}
-use Rattle.usb_pipe.proofs.ControlSteps.{ended_damages, never_three, host_harmless}
-use Rattle.usb_pipe.proofs.ControlSteps.{request_type-other, sound_in, ControlInAsked, Confirmed}
-use Rattle.usb_pipe.proofs.ControlSteps.{confirmed_leaves, Requested, Only, only_first}
-use Rattle.usb_pipe.proofs.ControlSteps.{RequestReached, reached_first, reached_last, reached_more}
-use Rattle.usb_pipe.proofs.ControlSteps.{either_way, host_stretch}
+use Rattle.usb_pipe.proofs.ControlSteps.{ended_stalled, asked_leaves, only_stage, flips_at, MayEnd}
+use Rattle.usb_pipe.proofs.ControlSteps.{GoesOn, goes_on, last_failed, not_failed, set_up_failed}
+use Rattle.usb_pipe.proofs.ControlSteps.{ControlOutAsked, put_leaves, ended_damages, host_harmless}
+use Rattle.usb_pipe.proofs.ControlSteps.{request_type-other, sound_in, ControlInAsked, Requested}
+use Rattle.usb_pipe.proofs.ControlSteps.{Only, only_first, RequestReached, reached_first}
+use Rattle.usb_pipe.proofs.ControlSteps.{reached_last, reached_more, either_way, host_stretch}
 use Rattle.usb_pipe.proofs.MovedPackets.{flips_more}
-use Rattle.usb_pipe.proofs.TransactionFaults.{fell, could_answer, could_accept, Fell}
+use Rattle.usb_pipe.proofs.TransactionFaults.{fell, Fell}
 use Rattle.usb_transaction.specs.Losses as transaction
 use Rattle.usb_transaction.specs.declared.fault.TransFault.TheVariants as trans
 use Rattle.usb_pipe.specs.declared.fault.PipeFault.TheVariants as pipe_fault
@@ -79,10 +77,10 @@ IsReadingOutcome answers_taken = Unit {0}
 IsReadingOutcome (tells_halt endpoint) = Unit {0}
 IsReadingOutcome o = ⊥
 
-tells_not : (b : Bool) (x y : Outcome) → b ≡ false → IsReadingOutcome y
-    → IsReadingOutcome (if b then x else y)
-tells_not true x y e g = cc e
-tells_not false x y e g = g
+-- a request whose data go to the device is another
+no_write : (r : Setup) → IsToHost r → (type request : ℕ) (x y : Outcome) → type < 128
+    → IsReadingOutcome y → IsReadingOutcome (if Is r type request then x else y)
+no_write r h type request x y writes g = grind (arith, request_type-other)
 
 tells_text : (o : Option (List ℕ)) → IsReadingOutcome (elim o
     as (λ _. Outcome) [ None ↦ stalled | Some text ↦ answers text ])
@@ -90,13 +88,7 @@ tells_text None = tt
 tells_text (Some text) = tt
 
 tells_descriptor : (s : Spec) (value : ℕ) → IsReadingOutcome (asked_descriptor s value)
-tells_descriptor s value =
-    either_way IsReadingOutcome (value == descriptor_value DEVICE 0) _ _
-    (either_way IsReadingOutcome s.stalls.device _ _ tt tt)
-    (either_way IsReadingOutcome (value / 256 == CONFIGURATION) _ _
-    (either_way IsReadingOutcome s.stalls.config _ _ tt (tells_text _))
-    (either_way IsReadingOutcome (value / 256 == STRING) _ _
-    (either_way IsReadingOutcome s.stalls.string _ _ tt (tells_text _)) tt))
+tells_descriptor s value = grind (arith, either_way, tells_text)
 
 tells_status : (o : Option ServedEndpoint) → IsReadingOutcome (told_halt o)
 tells_status None = tt
@@ -111,28 +103,19 @@ outcome-is_reading s g r h =
     (either_way IsReadingOutcome s.stalls.status _ _ tt
     (either_way IsReadingOutcome (r.value == 0 && r.index == 0) _ _ tt tt))
     (either_way IsReadingOutcome (Is r DEVICE_IN GET_CONFIGURATION) _ _ tt
-    (tells_not (Is r DEVICE_OUT SET_ADDRESS) _ _
-    (request_type-other r.request_type DEVICE_OUT (r.request == SET_ADDRESS) h (omega arith))
-    (tells_not (Is r DEVICE_OUT SET_CONFIGURATION) _ _
-    (request_type-other r.request_type DEVICE_OUT (r.request == SET_CONFIGURATION) h
-    (omega arith))
+    (no_write r h DEVICE_OUT SET_ADDRESS _ _ (omega arith)
+    (no_write r h DEVICE_OUT SET_CONFIGURATION _ _ (omega arith)
     (either_way IsReadingOutcome (Is r INTERFACE_IN GET_STATUS) _ _
     (either_way IsReadingOutcome (r.value == 0 && has_interface r.index (items_at s g)) _ _ tt tt)
     (either_way IsReadingOutcome (Is r INTERFACE_IN GET_INTERFACE) _ _
     (either_way IsReadingOutcome (r.value == 0 && has_interface r.index (items_at s g)) _ _ tt tt)
-    (tells_not (Is r INTERFACE_OUT SET_INTERFACE) _ _
-    (request_type-other r.request_type INTERFACE_OUT (r.request == SET_INTERFACE) h
-    (omega arith))
+    (no_write r h INTERFACE_OUT SET_INTERFACE _ _ (omega arith)
     (either_way IsReadingOutcome (Is r ENDPOINT_IN GET_STATUS) _ _
     (either_way IsReadingOutcome (not (r.value == 0)) _ _ tt
     (either_way IsReadingOutcome (is_endpoint_0 r.index) _ _ tt
     (tells_status (served s g r.index))))
-    (tells_not (Is r ENDPOINT_OUT CLEAR_FEATURE) _ _
-    (request_type-other r.request_type ENDPOINT_OUT (r.request == CLEAR_FEATURE) h
-    (omega arith))
-    (tells_not (Is r ENDPOINT_OUT SET_FEATURE) _ _
-    (request_type-other r.request_type ENDPOINT_OUT (r.request == SET_FEATURE) h
-    (omega arith))
+    (no_write r h ENDPOINT_OUT CLEAR_FEATURE _ _ (omega arith)
+    (no_write r h ENDPOINT_OUT SET_FEATURE _ _ (omega arith)
     (either_way IsReadingOutcome (Is r HUB_IN GET_DESCRIPTOR) _ _
     (either_way IsReadingOutcome s.stalls.hub _ _ tt (elim s.hub
     as (λ o. IsReadingOutcome (asked_hub_descriptor o r)) [
@@ -141,10 +124,8 @@ outcome-is_reading s g r h =
     ]))
     (either_way IsReadingOutcome (Is r PORT_IN GET_STATUS) _ _ (elim (port_named s.hub g r.index)
     as (λ o. IsReadingOutcome (told_port o)) [ None ↦ tt | Some i ↦ tt ])
-    (tells_not (Is r PORT_OUT SET_FEATURE) _ _
-    (request_type-other r.request_type PORT_OUT (r.request == SET_FEATURE) h (omega arith))
-    (tells_not (Is r PORT_OUT CLEAR_FEATURE) _ _
-    (request_type-other r.request_type PORT_OUT (r.request == CLEAR_FEATURE) h (omega arith))
+    (no_write r h PORT_OUT SET_FEATURE _ _ (omega arith)
+    (no_write r h PORT_OUT CLEAR_FEATURE _ _ (omega arith)
     (asked_own-to_host IsReadingOutcome tt s.requests g r (grind (arith, nat_tests, h))
     (λ bytes. tt) tt)))))))))))))))
 
@@ -152,12 +133,7 @@ outcome-is_reading s g r h =
 asks_only : (s : State) (row : List PortState) (wanted : ℕ) (o : Outcome) → IsReadingOutcome o
     → begun s row wanted o
     ≡ record s { naks = s.spec.naks; stage = first_stage row s wanted o }
-asks_only s row wanted stalled h = refl
-asks_only s row wanted (answers bytes) h = refl
-asks_only s row wanted (tells_port i) h = refl
-asks_only s row wanted answers_taken h = refl
-asks_only s row wanted (tells_halt endpoint) h = refl
-asks_only s row wanted o h = absurd h
+asks_only s row wanted o h = grind arith
 
 -- The stage that a request begins
 
@@ -209,12 +185,7 @@ is_some_byte wanted h = grind (arith, nat_tests, h)
 closes : (row : List PortState) (d : State) (wanted : ℕ) (o : Outcome) → wanted ≡ 0
     → (first_stage row d wanted o ≡ refused)
     ⊎ (first_stage row d wanted o ≡ ending (address_at_end o))
-closes row d wanted o e = elim (first_stage_of row d wanted o) [
-  | refuses h ↦ inl h
-  | answers_with bytes f h ↦ cc (sym f ∙ ap (λ n. n == 0) e)
-  | ends h g ↦ inr h
-  | writes_from w f h g ↦ cc (sym f ∙ ap (λ n. n == 0) e)
-]
+closes row d wanted o e = grind (arith, first_stage_of)
 
 -- it gives an address only where the request asks for one
 asks_for : (o : Outcome) (a : ℕ) → address_at_end o ≡ Some a → o ≡ takes_address a
@@ -223,12 +194,7 @@ asks_for o a e = cc e
 
 pub first_stage-address : (row : List PortState) (d : State) (wanted : ℕ) (o : Outcome)
     (a : ℕ) → first_stage row d wanted o ≡ ending (Some a) → o ≡ takes_address a
-first_stage-address row d wanted o a e = elim (first_stage_of row d wanted o) [
-  | refuses h ↦ cc (sym h ∙ e)
-  | answers_with bytes f h ↦ cc (sym h ∙ e)
-  | ends h g ↦ asks_for o a (cc (sym h ∙ e))
-  | writes_from w f h g ↦ cc (sym h ∙ e)
-]
+first_stage-address row d wanted o a e = grind (arith, asks_for, first_stage_of)
 
 -- The packets of an answer
 
@@ -249,10 +215,7 @@ at_least_8 s = let m = slice_index s.descriptor 7 in
 first_by : (q r wanted len whole : ℕ) → whole + r ≡ len → (q ≤ 0 → whole ≤ 0) → 1 ≤ wanted
     → (b : Bool) → (r == 0 && not (nat_lt len wanted)) ≡ b → nat_lt 0 (q + (if b then 0 else 1))
     ≡ true
-first_by q r wanted len whole sum none some true e = let parts =
-    and_parts (r == 0) (not (nat_lt len wanted)) e in
-    grind (arith, nat_tests, sum, parts.0, parts.1, none, some)
-first_by q r wanted len whole sum none some false e = grind (arith, nat_tests)
+first_by q r wanted len whole sum none some b e = grind (arith, and_parts, nat_tests)
 
 -- whether a packet is behind one, by that one's size and by how many bytes came with it
 over_if : (size max came wanted : ℕ) → (nat_lt size max || nat_le wanted came) ≡ true
@@ -279,30 +242,17 @@ module _ (max wanted : ℕ) (answer : List ℕ) where
   few_wanted = rw (length-take wanted answer) (omega arith)
 
   first_packet : 1 ≤ wanted → is_some (packet_at max wanted answer 0) ≡ true
-  first_packet some =
-      let len : ℕ = length Wanted in
-      ap (λ b. is_some (if b then Some (take max (drop (0 * max) Wanted)) else None))
-      (first_by (len / max) (len % max) wanted len (len / max * max) (div-add-mod' len max)
-      (λ le. let m = mul-le-mul_right max le in omega (arith, m)) some
-      (len % max == 0 && not (nat_lt len wanted)) refl)
+  first_packet some = grind (arith, div-add-mod', first_by, mul-le-mul_right)
 
   -- no packet has more than is wanted
   few_bytes : (bytes : List ℕ) (k : ℕ) → packet_at max wanted answer k ≡ Some bytes
       → length bytes ≤ wanted
-  few_bytes bytes k h =
-      let e : take max (drop (k * max) Wanted) ≡ bytes =
-      packet_is (nat_lt k (packet_count max wanted (length Wanted)))
-      (take max (drop (k * max) Wanted)) bytes h in
-      rw (← e, length-take max (drop (k * max) Wanted), length-drop (k * max) Wanted)
-      (omega (arith, few_wanted))
+  few_bytes bytes k h = grind (arith, few_wanted, length-drop, length-take, packet_is)
 
   joined_more : (got bytes : List ℕ) (n : ℕ) → got ≡ packets_joined max wanted answer n
       → packet_at max wanted answer n ≡ Some bytes
       → got ++ bytes ≡ packets_joined max wanted answer (n + 1)
-  joined_more got bytes n e h =
-      let next : suc n ≡ n + 1 = omega arith in
-      ap (λ x. x ++ bytes) e ∙ ap (λ o. packets_joined max wanted answer n ++ unwrap_or o [])
-      (sym h) ∙ ap (λ m. packets_joined max wanted answer m) next
+  joined_more got bytes n e h = grind arith
 
   module _ (tmax n : ℕ) (got last : List ℕ) (least : 8 ≤ max) (h : packet_at max wanted answer n
       ≡ Some last) (e : got ++ last ≡ packets_joined max wanted answer (n + 1)) where
@@ -341,23 +291,11 @@ module _ (max wanted : ℕ) (answer : List ℕ) where
         → ends_stage (length last) tmax (length bytes) wanted ≡ true → (max ≡ tmax) ⊎ (wanted ≤ 8)
         → bytes ≡ Wanted
     bytes_are_all bytes kept was_last same =
-        let pos : 0 < max = omega (arith, least) in
-        let few : length (take ((n + 1) * max) Wanted) ≤ wanted =
-        rw (length-take ((n + 1) * max) Wanted) (omega (arith, few_wanted)) in
-        let all : take wanted (packets_joined max wanted answer (n + 1)) ≡ packets_joined max wanted
-        answer (n + 1) = rw (packets_joined-is max wanted answer (n + 1) pos)
-        (take_all wanted (take ((n + 1) * max) Wanted) few) in
-        let is : bytes ≡ packets_joined max wanted answer (n + 1) = kept ∙ ap (take wanted) e
-        ∙ all in
-        is ∙ all_came (subst (λ b. ends_stage (length last) tmax (length b) wanted ≡ true) is
-        was_last) same
+        grind (arith, all_came, few_wanted, length-take, packets_joined-is, take_all)
 
 all_fit : (t : Target) (most wanted : ℕ) (answer : List ℕ) → 8 ≤ t.max → (most ≡ t.max)
     ⊎ (wanted ≤ 8) → Fits t most wanted answer
-all_fit t most wanted answer least (inl same) k bytes h =
-    omega (arith, packet-fits most wanted answer bytes k h, same)
-all_fit t most wanted answer least (inr few) k bytes h =
-    omega (arith, few_bytes most wanted answer bytes k h, least, few)
+all_fit t most wanted answer least same k bytes h = grind (arith, few_bytes, packet-fits)
 
 -- A device that accepted the request with these ports, as far as its transfer is
 
@@ -395,12 +333,7 @@ record AskedRead (t : Target) (request : Setup) (result : Result (Vec ℕ) PipeF
   frame : OnlyStage s v
   done : (bytes : Vec ℕ) → result ≡ Ok bytes → AnswerRead t request bytes.items old new j s v
   refused : result ≡ Err pipe_fault.Stalled → WasRefused t request old new j s
-  could : CanEnd s.spec result
-  answered : 8 ≤ t.max → NoThreeDamaged old → IsNoBusFault result → Listens t j s
-      → IsMaximum t request.length s → result ≢ Err pipe_fault.NoAnswer
-  waited : 8 ≤ t.max → NoThreeDamaged old → IsNoBusFault result → Listens t j s
-      → IsMaximum t request.length s → s.spec.busy ≡ false → s.spec.naks ≤ 200
-      → result ≢ Err pipe_fault.Busy
+  ends : MayEnd t ((8 ≤ t.max) × IsMaximum t request.length s) result old j s
   losses : IsNoBusFault result → new.losses ≡ old.losses
 
 module _ (t : Target) (request : Setup) (host : IsToHost request) (some : 1 ≤ request.length)
@@ -415,9 +348,7 @@ module _ (t : Target) (request : Setup) (host : IsToHost request) (some : 1 ≤ 
         stage = first_stage (row_of x.holder.below) s Wants
             (outcome s.spec s.registers request);
       }
-  accepted_is s u x = x.is ∙ ap (λ r. accepted s (row_of x.holder.below) r) same
-      ∙ asks_only s (row_of x.holder.below) Wants (outcome s.spec s.registers request)
-      (outcome-is_reading s.spec s.registers request host)
+  accepted_is s u x = grind (arith, asks_only, outcome-is_reading, x.is)
 
   told_first : {old first : World} (j : Location) (s u : State) → is_at s t ≡ true
       → Requested t request (Ok []) old first j s u
@@ -450,43 +381,26 @@ module _ (t : Target) (request : Setup) (host : IsToHost request) (some : 1 ≤ 
   module _ {n : ℕ} {got : List ℕ} {So : State → List ℕ → Type 0} {old first mid : World}
       {j : Location} {s u : State} (at : is_at s t ≡ true)
       (x : ReadTold t request n got So old first mid j s u) where
+    told_on : GoesOn t j s u
+    told_on = grind (arith, goes_on)
+
     told_at : is_at u t ≡ true
-    told_at = at_from t s u (ap (λ d. d.registers) x.frame) at
-
-    told_spec : u.spec ≡ s.spec
-    told_spec = ap (λ d. d.spec) x.frame
-
-    told_listens : Listens t j s → Listens t j u
-    told_listens l = listens_on t j s u told_spec (ap (λ d. d.registers) x.frame) l
-
-    told_calm : s.spec.busy ≡ false → u.spec.busy ≡ false
-    told_calm calm = ap (λ d. d.busy) told_spec ∙ calm
+    told_at = told_on.at at
 
     told_frame : (v : State) → OnlyStage u v → OnlyStage s v
-    told_frame v f = f ∙ ap {A = State} (λ d. record d {
-      memory = v.memory;
-      naks = v.naks;
-      stage = v.stage;
-    }) x.frame
+    told_frame v f = grind arith
 
     -- one more IN
     module _ {result : Result (List ℕ) TransFault} {new : World} {v : State}
         (y : ControlInAsked t (flips n One) result mid new j u v) where
       steady_on : v.registers ≡ u.registers
-      steady_on = elim x.far [
-        | refuses_at f h none ↦ y.leaves.rests h
-        | answers_at answer f r b so ↦ (y.steady answer Wants r.known r.stage).0
-      ]
+      steady_on = grind arith
 
       frame_then : OnlyStage s v
-      frame_then = told_frame v (only_stage u v y.leaves.frame steady_on)
+      frame_then = grind (arith, only_stage, steady_on, told_frame)
 
       losses_then : TransNotOfBus result → new.losses ≡ old.losses
-      losses_then sound = y.kept sound told_at
-          (λ a e. elim x.far [
-            | refuses_at f h none ↦ cc (sym h ∙ e)
-            | answers_at answer f r b so ↦ cc (sym r.stage ∙ e)
-          ]) ∙ x.losses
+      losses_then sound = grind (arith, told_at)
 
     -- a packet that came
     told_more : {bytes : List ℕ} {new : World} {v : State} (Q : State → List ℕ → Type 0)
@@ -498,15 +412,15 @@ module _ (t : Target) (request : Setup) (host : IsToHost request) (some : 1 ≤ 
       row = x.row;
       accepts = x.accepts;
       frame = frame_then y;
-      naks = omega (arith, x.naks, y.leaves.naks);
+      naks = omega (arith, x.naks, y.told.leaves.naks);
       losses = losses_then y tt;
       far = elim x.far [
-        | refuses_at f h none ↦ absurd ((y.leaves.refused h).1 told_at bytes refl)
+        | refuses_at f h none ↦ absurd ((y.told.leaves.refused h).1 told_at bytes refl)
         | answers_at answer f r b so ↦
             let on : ReadOn answer Wants n u (Some bytes) v =
-            y.leaves.reading told_at answer Wants n (flips_at n) r in
+            y.told.leaves.reading told_at answer Wants n (flips_at n) r in
             let came : packet_at (max_packet s.spec) Wants answer n ≡ Some bytes =
-            ap (λ d. packet_at (max_packet d) Wants answer n) (sym told_spec) ∙ on.0 in
+            ap (λ d. packet_at (max_packet d) Wants answer n) (sym told_on.spec) ∙ on.0 in
             let all : got ++ bytes ≡ packets_joined (max_packet s.spec) Wants answer (n + 1) =
             joined_more (max_packet s.spec) Wants answer got bytes n b came in
             answers_at answer f on.1 all (q answer came all)
@@ -523,43 +437,21 @@ module _ (t : Target) (request : Setup) (host : IsToHost request) (some : 1 ≤ 
   read_lost {n} {old = old} {first} {mid} fault undamaged since j s u v at x y = record {
     frame = frame_then at x y;
     done = λ b e. cc e;
-    refused = λ e.
-        let down : Fell fault trans.Stalled = fell fault trans.Stalled e in
-        let is_refused = elim x.far
-        as (λ _. first_stage x.row s Wants (outcome s.spec s.registers request)
-        ≡ refused) [
-          | refuses_at f h none ↦ f
-          | answers_at answer f r b so ↦
-              cc (sym (ap refuses_in r.stage) ∙ y.leaves.stalled (told_at at x) down)
-        ] in
-        record {
-          row = x.row;
-          moment = record { now = first; accepts = x.accepts; since = since down };
-          is = is_refused;
-        };
-    could = could_answer (Vec ℕ) s.spec (as_pipe_fault fault) fault refl
-        (subst (λ d. CanAnswer {A = List ℕ} d (Err fault)) (told_spec at x)
-        (y.leaves.could (told_at at x)));
-    answered = λ least three sound l m e.
-        (y.why (never_three old mid undamaged three) (sound_in (Vec ℕ) fault sound)).answered
-        (told_listens at x l) (has_next least m)
-        (fell fault trans.NoAnswer e);
-    waited = λ least three sound l m calm few e.
-        (y.why (never_three old mid undamaged three) (sound_in (Vec ℕ) fault sound)).waited
-        (told_listens at x l) (has_next least m) (told_calm at x calm)
-        (omega (arith, x.naks, few))
-        (fell fault trans.Busy e);
+    refused = grind (arith, fell, told_at, x.far, y.told.leaves.stalled, x.accepts);
+    ends = last_failed (as_pipe_fault fault) fault refl mid (HasNext t (flips n One) u)
+        (told_on at x) undamaged (y.told.leaves.could (told_at at x)) has_next
+        (λ three. (y.told.why three).answered) (λ three. (y.told.why three).waited);
     losses = λ sound. losses_then at x y (sound_in (Vec ℕ) fault sound);
   }
     where
-      has_next : 8 ≤ t.max → IsMaximum t Wants s → HasNext t (flips n One) u
-      has_next least m = elim x.far [
+      has_next : (8 ≤ t.max) × IsMaximum t Wants s → HasNext t (flips n One) u
+      has_next (least, m) = elim x.far [
         | refuses_at f h none ↦ HasNext.refusal h
         | answers_at answer f r b so ↦
             HasNext.data_stage answer Wants n (flips_at n) r
             (subst (λ d. is_some (packet_at (max_packet d) Wants answer n) ≡ true)
-            (sym (told_spec at x)) (so least m))
-            (subst (λ d. Fits t (max_packet d) Wants answer) (sym (told_spec at x))
+            (sym (told_on at x).spec) (so least m))
+            (subst (λ d. Fits t (max_packet d) Wants answer) (sym (told_on at x).spec)
             (all_fit t (max_packet s.spec) Wants answer least m))
       ]
 
@@ -572,10 +464,7 @@ module _ (t : Target) (request : Setup) (host : IsToHost request) (some : 1 ≤ 
     frame = frame_then at x y;
     done = λ b e. cc e;
     refused = λ e. cc e;
-    could = subst (λ d. CanAnswer {A = List ℕ} d (Ok last)) (told_spec at x)
-        (y.leaves.could (told_at at x));
-    answered = λ least three sound l m e. cc e;
-    waited = λ least three sound l m calm few e. cc e;
+    ends = grind (arith, not_failed, told_at, told_on, y.told.leaves.could);
     losses = λ sound. losses_then at x y tt;
   }
 
@@ -583,22 +472,17 @@ module _ (t : Target) (request : Setup) (host : IsToHost request) (some : 1 ≤ 
   read_unconfirmed : (n : ℕ) {got bytes : List ℕ} {old first mid new : World} (fault : TransFault)
       → mid.damages ≡ old.damages → (j : Location) (s u v : State) → is_at s t ≡ true
       → ReadTold t request (n + 1) got (Came t Wants bytes) old first mid j s u
-      → Confirmed t (Err fault) mid new j u v
+      → ControlOutAsked t One [] (Err fault) mid new j u v
       → AskedRead t request (Err (as_pipe_fault fault)) old new j s v
   read_unconfirmed n {old = old} {mid = mid} fault undamaged j s u v at x y = record {
-    frame = told_frame at x v y.leaves.frame;
+    frame = told_frame at x v (y.told.read refl refl).frame;
     done = λ b e. cc e;
-    refused = λ e. absurd (y.leaves.stalled (told_at at x) in_read (fell fault trans.Stalled e));
-    could = could_answer (Vec ℕ) s.spec (as_pipe_fault fault) fault refl
-        (subst (λ d. CanAnswer {A = List ℕ} d (Err fault)) (told_spec at x)
-        (y.leaves.could (told_at at x)));
-    answered = λ least three sound l m e.
-        (y.why (never_three old mid undamaged three) (sound_in (Vec ℕ) fault sound)).answered
-        (told_listens at x l) in_read (fell fault trans.NoAnswer e);
-    waited = λ least three sound l m calm few e.
-        (y.why (never_three old mid undamaged three) (sound_in (Vec ℕ) fault sound)).waited
-        (told_listens at x l) in_read (told_calm at x calm) (omega (arith, x.naks, few))
-        (fell fault trans.Busy e);
+    refused = λ e. absurd ((y.told.read refl refl).stalled (told_at at x) in_read
+        (fell fault trans.Stalled e));
+    ends = last_failed (as_pipe_fault fault) fault refl mid (IsInRead u) (told_on at x) undamaged
+        (y.told.leaves.could (told_at at x)) (λ suits. in_read)
+        (λ three. (y.told.read_why three refl refl).answered)
+        (λ three. (y.told.read_why three refl refl).waited);
     losses = λ sound. y.kept (sound_in (Vec ℕ) fault sound) ∙ x.losses;
   }
     where
@@ -612,9 +496,10 @@ module _ (t : Target) (request : Setup) (host : IsToHost request) (some : 1 ≤ 
   read_whole : (n : ℕ) {got : List ℕ} {old first mid new : World} (whole : Vec ℕ)
       → Course (IsBehind t) first new → (j : Location) (s u v : State) → is_at s t ≡ true
       → ReadTold t request (n + 1) got (Came t Wants whole.items) old first mid j s u
-      → Confirmed t (Ok []) mid new j u v → AskedRead t request (Ok whole) old new j s v
+      → ControlOutAsked t One [] (Ok []) mid new j u v → AskedRead t request (Ok whole) old new j s
+      v
   read_whole n {old = old} {first} {new = new} whole since j s u v at x y = record {
-    frame = told_frame at x v y.leaves.frame;
+    frame = told_frame at x v (y.told.read refl refl).frame;
     done = λ bytes e. let same : whole ≡ bytes = cc e in
         subst (λ (w : Vec ℕ). AnswerRead t request w.items old new j s v) same (elim x.far [
           | refuses_at f h none ↦ absurd (omega (arith, none))
@@ -625,14 +510,11 @@ module _ (t : Target) (request : Setup) (host : IsToHost request) (some : 1 ≤ 
                 answer = answer;
                 is = f;
                 came = so;
-                over = (y.leaves.done (told_at at x) [] refl).0;
+                over = ((y.told.read refl refl).done (told_at at x) [] refl).0;
               }
         ]);
     refused = λ e. cc e;
-    could = subst (λ d. CanAnswer {A = List ℕ} d (Ok [])) (told_spec at x)
-        (y.leaves.could (told_at at x));
-    answered = λ least three sound l m e. cc e;
-    waited = λ least three sound l m calm few e. cc e;
+    ends = grind (arith, not_failed, told_at, told_on, y.told.leaves.could);
     losses = λ sound. y.kept tt ∙ x.losses;
   }
 
@@ -646,13 +528,8 @@ module _ (t : Target) (request : Setup) (host : IsToHost request) (some : 1 ≤ 
       | inr a ↦ subst (λ d. OnlyStage s d) (sym (accepted_is s v a.at)) refl
     ];
     done = λ b e. cc e;
-    refused = λ e. absurd (subst (λ r. CanAccept {A = List ℕ} s.spec r) (fell fault trans.Stalled e)
-        (x.done.could at));
-    could = could_accept (Vec ℕ) s.spec (as_pipe_fault fault) fault refl (x.done.could at);
-    answered = λ least three sound l m e. (x.why three (sound_in (Vec ℕ) fault sound)).answered l
-        (fell fault trans.NoAnswer e);
-    waited = λ least three sound l m calm few e. subst (λ r. CanAccept {A = List ℕ} s.spec r)
-        (fell fault trans.Busy e) (x.done.could at);
+    refused = grind (arith, fell, x.done.could);
+    ends = set_up_failed (as_pipe_fault fault) fault refl (x.done.could at) x.why;
     losses = λ sound. x.kept (host_stretch request host) (sound_in (Vec ℕ) fault sound);
   }
 
@@ -668,7 +545,7 @@ module _ (t : Target) (request : Setup) (host : IsToHost request) (some : 1 ≤ 
       goes {mid = new} (packet {n} {got} {mid} bytes g asks on) =
           reached_more (ControlInAsked t (flips n One) (Ok bytes) mid new)
           (ReadTold t request (n + 1) (got ++ bytes) (Next t Wants (n + 1)) old first new) bytes
-          (λ j s v y. y.leaves.others)
+          (λ j s v y. y.told.leaves.others)
           (λ j s u v at y z. told_more at y (Next t Wants (n + 1)) z
           (λ answer came all least m. next_packet (max_packet s.spec) Wants answer t.max n got
           bytes (at_least_8 s.spec) came all least on m))
@@ -680,7 +557,7 @@ module _ (t : Target) (request : Setup) (host : IsToHost request) (some : 1 ≤ 
       over {bytes} {second} d =
           reached_more (ControlInAsked t (flips d.packets One) (Ok d.last) d.mid second)
           (ReadTold t request (d.packets + 1) (d.got ++ d.last) (Came t Wants bytes) old first
-          second) d.last (λ j s v y. y.leaves.others)
+          second) d.last (λ j s v y. y.told.leaves.others)
           (λ j s u v at y z. told_more at y (Came t Wants bytes) z
           (λ answer came all m. bytes_are_all (max_packet s.spec) Wants answer t.max d.packets
           d.got d.last (at_least_8 s.spec) came all bytes d.kept d.ends m))
@@ -695,10 +572,11 @@ module _ (t : Target) (request : Setup) (host : IsToHost request) (some : 1 ≤ 
           → ReadEnds result
       each_read (Ok bytes) x =
           let d = x.data_stage in
-          reached_last (Confirmed t (Ok []) x.second new) (AskedRead t request (Ok bytes) old new) _
-          _ _ (Ok []) (λ j s v y. y.leaves.others)
+          reached_last (ControlOutAsked t One [] (Ok []) x.second new) (AskedRead t request (Ok
+          bytes) old new) _
+          _ _ (Ok []) (λ j s v y. y.told.leaves.others)
           (read_whole d.packets bytes (course_joined (stage_behind d) (out_behind x.status)))
-          (over x.set_up d) x.status (confirmed_leaves t (Ok []) x.second new x.status) single
+          (over x.set_up d) x.status (put_leaves t One [] (Ok []) x.second new x.status) single
       each_read (Err why) (inl x) =
           subst (λ w. ReadEnds (Err w)) (sym x.told)
           (only_first t request (AskedRead t request (Err (as_pipe_fault x.fault)) old new)
@@ -709,7 +587,7 @@ module _ (t : Target) (request : Setup) (host : IsToHost request) (some : 1 ≤ 
             subst (λ w. ReadEnds (Err w)) (sym d.told)
             (reached_last (ControlInAsked t (flips d.packets One) (Err d.fault) d.mid new)
             (AskedRead t request (Err (as_pipe_fault d.fault)) old new) _ _ _ (Err d.fault)
-            (λ j s v y. y.leaves.others)
+            (λ j s v y. y.told.leaves.others)
             (read_lost d.fault r.damages (λ e. course_joined (goes_behind d.before)
             (in_behind (flips d.packets One) (ended_stalled d.fault d.lost e))))
             r d.lost (asked_leaves t (flips d.packets One) (Err d.fault) d.mid new d.lost) single)
@@ -717,7 +595,7 @@ module _ (t : Target) (request : Setup) (host : IsToHost request) (some : 1 ≤ 
             subst (λ w. ReadEnds (Err w)) (sym d.told)
             (reached_last (ControlInAsked t (flips d.packets One) (Ok d.last) d.mid new)
             (AskedRead t request (Err pipe_fault.Memory) old new) _ _ _ (Ok d.last)
-            (λ j s v y. y.leaves.others) read_full
+            (λ j s v y. y.told.leaves.others) read_full
             (goes x.set_up d.before) d.came (asked_leaves t (flips d.packets One) (Ok d.last) d.mid
             new d.came) single)
       ]
@@ -725,11 +603,11 @@ module _ (t : Target) (request : Setup) (host : IsToHost request) (some : 1 ≤ 
           let d = x.data_stage in
           let r = over x.set_up d in
           subst (λ w. ReadEnds (Err w)) (sym x.told)
-          (reached_last (Confirmed t (Err x.fault) x.second new)
+          (reached_last (ControlOutAsked t One [] (Err x.fault) x.second new)
           (AskedRead t request (Err (as_pipe_fault x.fault)) old new) _ _ _ (Err x.fault)
-          (λ j s v y. y.leaves.others)
+          (λ j s v y. y.told.leaves.others)
           (read_unconfirmed d.packets x.fault r.damages)
-          r x.status (confirmed_leaves t (Err x.fault) x.second new x.status) single)
+          r x.status (put_leaves t One [] (Err x.fault) x.second new x.status) single)
 
 -- A whole read
 
@@ -747,35 +625,14 @@ module _ (t : Target) (request : Setup) (result : Result (Vec ℕ) PipeFault) (o
   pub read_leaves : IsToHost request → 1 ≤ request.length → setup_of (bytes_of request) ≡ request
       → IsSettled old.roots → Reads t request old result new → new.shared ≡ false
       → EachWas (ReadLeaves t request result old new) old new
-  read_leaves = each_read_told (ReadLeaves t request result old new) (λ j s v y. record {
-    others = y.others;
-    frame = elim (decided (is_at s t)) [
-      | inl at ↦ (y.mine at).frame
-      | inr off ↦ subst (λ d. OnlyStage s d) (sym (y.others off)) refl
-    ];
-    done = λ at. (y.mine at).done;
-    refused = λ at. (y.mine at).refused;
-    could = λ at. (y.mine at).could;
-  })
+  read_leaves = grind (arith, decided, each_read_told)
 
   pub read_why : 8 ≤ t.max → IsToHost request → 1 ≤ request.length
       → setup_of (bytes_of request) ≡ request
       → IsSettled old.roots → NoThreeDamaged old → Reads t request old result new
       → IsNoBusFault result → new.shared ≡ false
       → EachWas (ControlReadFailure t request result) old new
-  read_why least host some same settled three x sound single =
-      each_read_told (ControlReadFailure t request result)
-      (λ j s v y. record {
-        answered = λ l. (y.mine l.at).answered least three sound l;
-        waited = λ l. (y.mine l.at).waited least three sound l;
-      }) host some same settled x single
-
-  pub read_losses : IsToHost request → 1 ≤ request.length → setup_of (bytes_of request) ≡ request
-      → IsSettled old.roots → Reads t request old result new → IsNoBusFault result
-      → new.shared ≡ false → EachWas (LossesKept t old new) old new
-  read_losses host some same settled x sound single =
-      each_read_told (LossesKept t old new) (λ j s v y at. (y.mine at).losses sound) host some same
-      settled x single
+  read_why least host some same settled three x sound single = grind (arith, each_read_told)
 
 -- What a request without data tells of the device that it asked
 record AskedWrite (t : Target) (request : Setup) (result : Result (Unit {0}) PipeFault)
@@ -784,18 +641,13 @@ record AskedWrite (t : Target) (request : Setup) (result : Result (Unit {0}) Pip
       → EffectOrNone t request fault old j s v
   done : request.length ≡ 0 → (u : Unit {0}) → result ≡ Ok u → EffectDone t request old new j s v
   refused : request.length ≡ 0 → result ≡ Err pipe_fault.Stalled → WasRefused t request old new j s
-  could : CanEnd s.spec result
-  answered : request.length ≡ 0 → NoThreeDamaged old → IsNoBusFault result → Listens t j s
-      → result ≢ Err pipe_fault.NoAnswer
-  waited : request.length ≡ 0 → NoThreeDamaged old → IsNoBusFault result → Listens t j s
-      → s.spec.busy ≡ false → s.spec.naks ≤ 200 → result ≢ Err pipe_fault.Busy
+  ends : MayEnd t (request.length ≡ 0) result old j s
   losses : begins_no_stretch request ≡ true → IsNoBusFault result
       → LossesOf t request result old new j s v
 
 effect_or_none_same : (t : Target) (request : Setup) (fault : PipeFault) (old : World)
     (j : Location) (s v : State) → v ≡ s → EffectOrNone t request fault old j s v
-effect_or_none_same t request fault old j s v e =
-    EffectOrNone.none (subst (λ d. OnlyControl s d) (sym e) refl) (ap (λ d. d.registers) e)
+effect_or_none_same t request fault old j s v e = grind arith
 
 module _ (t : Target) (request : Setup) (same : setup_of (bytes_of request) ≡ request) where
   abbrev Took : World → World → Relation
@@ -822,10 +674,13 @@ module _ (t : Target) (request : Setup) (same : setup_of (bytes_of request) ≡ 
     taken_spec = ap (λ d. d.spec) taken_is ∙ spec_stays s taken_asked
 
     taken_address : address_of u ≡ address_of s
-    taken_address = ap (λ d. address_of d) taken_is ∙ register_address s.registers taken_asked
+    taken_address = grind (arith, register_address, taken_is)
+
+    taken_on : GoesOn t j s u
+    taken_on = grind (arith, listens_at, taken_address, taken_is, taken_spec)
 
     taken_at : is_at u t ≡ true
-    taken_at = ap (λ n. n == t.addr) taken_address ∙ at
+    taken_at = taken_on.at at
 
     -- a status stage or a refusal
     taken_next : request.length ≡ 0 → HasNext t One u
@@ -866,8 +721,7 @@ module _ (t : Target) (request : Setup) (same : setup_of (bytes_of request) ≡ 
               moment = record { now = mid; accepts = taken_accepts; since = since };
               address = address_at_end taken_asked;
               is = h;
-              given = subst (λ d. StatusGiven (address_at_end taken_asked) d v) taken_is
-                  (y.status taken_at refl (address_at_end taken_asked) (taken_stage ∙ h)).1;
+              given = grind (arith, taken_at, taken_is, taken_stage, y.status);
               rest = subst (λ d. OnlyControl d v) taken_is y.frame;
             }
           ]
@@ -876,28 +730,15 @@ module _ (t : Target) (request : Setup) (same : setup_of (bytes_of request) ≡ 
       module _ (before : mid.losses ≡ old.losses) where
         none_counted : {result : Result (List ℕ) TransFault} → LossesIn t result mid new j u v
             → ((n : ℕ) → taken_asked ≢ takes_address n) → new.losses ≡ old.losses
-        none_counted l unasked = l.none taken_at
-            (λ n e. unasked n (first_stage-address (row_of x.holder.below) s
-            request.length taken_asked n (sym taken_stage ∙ e))) ∙ before
+        none_counted l unasked = grind (arith, first_stage-address, taken_at, taken_stage, l.none)
 
         failed_counted : {fault : TransFault} → LossesIn t (Err fault) mid new j u v → (st : Stage)
             → u.stage ≡ st → new.losses ≡ old.losses
-        failed_counted {fault} l (ending (Some n)) e = l.failed taken_at n e fault refl ∙ before
-        failed_counted l st e = l.none taken_at (λ n f. cc (sym e ∙ f)) ∙ before
+        failed_counted l st e = grind (arith, taken_at)
 
         took_or_lost : {given : List ℕ} → LossesIn t (Ok given) mid new j u v → (n : ℕ)
             → taken_asked ≡ takes_address n → TookItOrLost n old new s v
-        took_or_lost {given} l n o =
-            let kept : u.registers ≡ s.registers = ap (λ d. d.registers) taken_is
-            ∙ ap (registers_at_setup s.registers) o in
-            elim (l.done taken_at n (taken_stage
-            ∙ ap (first_stage (row_of x.holder.below) s request.length) o) given refl) [
-              | transaction.took idles registers losses ↦
-                  TookItOrLost.took (registers ∙ ap {A = Registers} (λ g. record g { address = n })
-                  kept) (losses ∙ before)
-              | transaction.lost waits registers losses ↦
-                  TookItOrLost.lost (registers ∙ kept) (losses ∙ ap one_more before)
-            ]
+        took_or_lost l n o = grind (arith, taken_at, taken_is, taken_stage, l.done)
 
   -- its status stage is done
   write_whole : {given : List ℕ} (unit : Unit {0}) {old mid new : World}
@@ -906,12 +747,9 @@ module _ (t : Target) (request : Setup) (same : setup_of (bytes_of request) ≡ 
       → ControlInAsked t One (Ok given) mid new j u v → AskedWrite t request (Ok unit) old new j s v
   write_whole {given} unit since j s u v at (x, before) y = record {
     failed = λ nothing fault e. cc e;
-    done = λ nothing d e. effect_done at x v given since nothing y.leaves;
+    done = λ nothing d e. effect_done at x v given since nothing y.told.leaves;
     refused = λ nothing e. cc e;
-    could = subst (λ d. CanAnswer {A = List ℕ} d (Ok given)) (taken_spec at x)
-        (y.leaves.could (taken_at at x));
-    answered = λ nothing three sound l e. cc e;
-    waited = λ nothing three sound l calm few e. cc e;
+    ends = grind (arith, not_failed, taken_at, taken_spec, y.told.leaves.could);
     losses = λ plain sound. record {
       done = λ at d e. took_or_lost at x v (before plain) (y.losses tt refl);
       failed = λ at why e. cc e;
@@ -927,7 +765,7 @@ module _ (t : Target) (request : Setup) (same : setup_of (bytes_of request) ≡ 
       → AskedWrite t request (Err (as_pipe_fault fault)) old new j s v
   write_failed fault {old} {mid} undamaged since j s u v at (x, before) y = record {
     failed = λ nothing f e. subst (λ w. EffectOrNone t request w old j s v) (cc e)
-        (effect_then at x nothing fault v y.leaves);
+        (effect_then at x nothing fault v y.told.leaves);
     done = λ nothing d e. cc e;
     refused = λ nothing e.
         let down : Fell fault trans.Stalled = fell fault trans.Stalled e in
@@ -938,21 +776,13 @@ module _ (t : Target) (request : Setup) (same : setup_of (bytes_of request) ≡ 
               nothing) [
                 | inl h ↦ h
                 | inr h ↦ cc (sym (ap refuses_in (taken_stage at x ∙ h))
-                    ∙ y.leaves.stalled (taken_at at x) down)
+                    ∙ y.told.leaves.stalled (taken_at at x) down)
               ];
         };
-    could = could_answer (Unit {0}) s.spec (as_pipe_fault fault) fault refl
-        (subst (λ d. CanAnswer {A = List ℕ} d (Err fault)) (taken_spec at x)
-        (y.leaves.could (taken_at at x)));
-    answered = λ nothing three sound l e.
-        (y.why (never_three old mid undamaged three) (sound_in (Unit {0}) fault sound)).answered
-        (listens l) (taken_next at x nothing)
-        (fell fault trans.NoAnswer e);
-    waited = λ nothing three sound l calm few e.
-        (y.why (never_three old mid undamaged three) (sound_in (Unit {0}) fault sound)).waited
-        (listens l) (taken_next at x nothing) (ap (λ d. d.busy) (taken_spec at x) ∙ calm)
-        (subst (λ n. n ≤ 200) (sym (ap (λ d. d.naks) (taken_is at x))) few)
-        (fell fault trans.Busy e);
+    ends = last_failed (as_pipe_fault fault) fault refl mid (HasNext t One u) (taken_on at x)
+        undamaged
+        (y.told.leaves.could (taken_at at x)) (taken_next at x)
+        (λ three. (y.told.why three).answered) (λ three. (y.told.why three).waited);
     losses = λ plain sound.
         let l = y.losses (sound_in (Unit {0}) fault sound) refl in
         record {
@@ -961,9 +791,6 @@ module _ (t : Target) (request : Setup) (same : setup_of (bytes_of request) ≡ 
           none = λ at. none_counted at x v (before plain) l;
         };
   }
-    where
-      listens : Listens t j s → Listens t j u
-      listens l = listens_at t j s u (taken_spec at x) (taken_address at x) l
 
   -- setup data that were not acknowledged
   write_no_set_up : (fault : TransFault) {old new : World} (j : Location) (s v : State)
@@ -975,16 +802,9 @@ module _ (t : Target) (request : Setup) (same : setup_of (bytes_of request) ≡ 
       | inr a ↦ kept_then at a.at f v refl refl
     ];
     done = λ nothing d e. cc e;
-    refused = λ nothing e. absurd (subst (λ r. CanAccept {A = List ℕ} s.spec r)
-        (fell fault trans.Stalled e) (x.done.could at));
-    could = could_accept (Unit {0}) s.spec (as_pipe_fault fault) fault refl (x.done.could at);
-    answered = λ nothing three sound l e. (x.why three (sound_in (Unit {0}) fault sound)).answered l
-        (fell fault trans.NoAnswer e);
-    waited = λ nothing three sound l calm few e. subst (λ r. CanAccept {A = List ℕ} s.spec r)
-        (fell fault trans.Busy e)
-        (x.done.could at);
-    losses = λ plain sound. let kept = x.kept plain (sound_in (Unit {0}) fault sound) in
-        record { done = λ at d e. cc e; failed = λ at why e. kept; none = λ at unasked. kept };
+    refused = grind (arith, fell, x.done.could);
+    ends = set_up_failed (as_pipe_fault fault) fault refl (x.done.could at) x.why;
+    losses = grind (arith, sound_in, x.kept);
   }
 
   -- The worlds of a write
@@ -1002,7 +822,8 @@ module _ (t : Target) (request : Setup) (same : setup_of (bytes_of request) ≡ 
         → WriteEnds result
     each_write (Ok unit) x =
         reached_last (ControlInAsked t One (Ok x.given) x.mid new)
-        (AskedWrite t request (Ok unit) old new) _ _ _ (Ok x.given) (λ j s v y. y.leaves.others)
+        (AskedWrite t request (Ok unit) old new) _ _ _ (Ok x.given) (λ j s v y.
+        y.told.leaves.others)
         (write_whole unit (in_behind One x.status)) (began x.set_up) x.status
         (asked_leaves t One (Ok x.given) x.mid new x.status) single
     each_write (Err why) (inl x) =
@@ -1013,7 +834,7 @@ module _ (t : Target) (request : Setup) (same : setup_of (bytes_of request) ≡ 
         subst (λ w. WriteEnds (Err w)) (sym x.told)
         (reached_last (ControlInAsked t One (Err x.fault) x.mid new)
         (AskedWrite t request (Err (as_pipe_fault x.fault)) old new) _ _ _ (Err x.fault)
-        (λ j s v y. y.leaves.others)
+        (λ j s v y. y.told.leaves.others)
         (write_failed x.fault (ended_damages x.set_up)
         (λ e. in_behind One (ended_stalled x.fault x.status e)))
         (began x.set_up) x.status (asked_leaves t One (Err x.fault) x.mid new x.status) single)
@@ -1022,50 +843,50 @@ module _ (t : Target) (request : Setup) (same : setup_of (bytes_of request) ≡ 
 
 module _ (t : Target) (request : Setup) (result : Result (Unit {0}) PipeFault) (old new : World)
   where
-    each_write_told : (R : Relation) → ((j : Location) (s v : State)
-        → Only t (AskedWrite t request result old new) j s v → R j s v)
-        → setup_of (bytes_of request) ≡ request
+    -- what it leaves, and why it fails
+    pub each_write_told : request.length ≡ 0 → setup_of (bytes_of request) ≡ request
         → IsSettled old.roots → Writes t request old result new → new.shared ≡ false
-        → EachSpared t request R old new
-    each_write_told R f same settled x single =
-        spared_wider t request (Only t (AskedWrite t request result old new)) R f old new
-        (each_write t request same old new settled single result x)
+        → EachSpared t request
+        (DeviceTold (WriteLeaves t request result old new) (WriteFailure t result) old) old new
+    each_write_told nothing same settled x single =
+        spared_wider t request _ _ (λ j s v y. record {
+          leaves = record {
+            others = y.others;
+            failed = λ fault e. elim (decided (is_at s t)) [
+              | inl at ↦ (y.mine at).failed nothing fault e
+              | inr off ↦ effect_or_none_same t request fault old j s v (y.others off)
+            ];
+            done = λ at. (y.mine at).done nothing;
+            refused = λ at. (y.mine at).refused nothing;
+            could = λ at. (y.mine at).ends.could;
+          };
+          why = grind (arith, y.mine);
+        }) old new (each_write t request same old new settled single result x)
 
     pub write_leaves : request.length ≡ 0 → setup_of (bytes_of request) ≡ request
         → IsSettled old.roots → Writes t request old result new → new.shared ≡ false
         → EachSpared t request (WriteLeaves t request result old new) old new
-    write_leaves nothing = each_write_told (WriteLeaves t request result old new)
-        (λ j s v y. record {
-          others = y.others;
-          failed = λ fault e. elim (decided (is_at s t)) [
-            | inl at ↦ (y.mine at).failed nothing fault e
-            | inr off ↦ effect_or_none_same t request fault old j s v (y.others off)
-          ];
-          done = λ at. (y.mine at).done nothing;
-          refused = λ at. (y.mine at).refused nothing;
-          could = λ at. (y.mine at).could;
-        })
+    write_leaves nothing same settled x single =
+        spared_wider t request _ _ (λ j s v y. y.leaves) old new
+        (each_write_told nothing same settled x single)
 
     pub write_why : request.length ≡ 0 → setup_of (bytes_of request) ≡ request
         → IsSettled old.roots → NoThreeDamaged old → Writes t request old result new
         → IsNoBusFault result → new.shared ≡ false
         → EachSpared t request (WriteFailure t result) old new
     write_why nothing same settled three x sound single =
-        each_write_told (WriteFailure t result)
-        (λ j s v y. record {
-          answered = λ l. (y.mine l.at).answered nothing three sound l;
-          waited = λ l. (y.mine l.at).waited nothing three sound l;
-        }) same settled x single
+        spared_wider t request _ _ (λ j s v y. y.why three) old new
+        (each_write_told nothing same settled x single)
 
     pub write_losses : setup_of (bytes_of request) ≡ request → begins_no_stretch request ≡ true
         → IsSettled old.roots → Writes t request old result new → IsNoBusFault result
         → new.shared ≡ false → EachSpared t request (LossesOf t request result old new) old new
     write_losses same plain settled x sound single =
-        each_write_told (LossesOf t request result old new) (λ j s v y. record {
+        spared_wider t request _ _ (λ j s v y. record {
           done = λ at. ((y.mine at).losses plain sound).done at;
           failed = λ at. ((y.mine at).losses plain sound).failed at;
           none = λ at. ((y.mine at).losses plain sound).none at;
-        }) same settled x single
+        }) old new (each_write t request same old new settled single result x)
 
 -- A data stage, packet by packet, as its call makes it
 
@@ -1099,13 +920,7 @@ pub onward_went : {t : Target} {wanted : ℕ} {old mid new : World} {before r s 
     {got : List ℕ} {toggle : Toggle} → ReadProgress t wanted old before got toggle mid r
     → StepRun transaction_bound mid r new s
     → StepRun (transaction_bound + byte_bound t.max * wanted) old before new s
-onward_went {t} {wanted} {old} {mid} {new} {got = got} o went = record {
-  spends = spends_wider (byte_bound t.max * length got + transaction_bound) _ old new
-      (spends_then (byte_bound t.max * length got) transaction_bound old mid new o.spends
-      went.spends)
-      (omega (arith, bound_grows t.max (length got) wanted (omega (arith, o.few))));
-  traced = traced_then o.traced went.traced;
-}
+onward_went = grind (arith, bound_grows, spends_then, spends_wider, traced_then)
 
 -- what is kept is all that was wanted of what came
 kept_front : (wanted : ℕ) (got bytes : List ℕ) → length got < wanted
@@ -1124,18 +939,8 @@ pub grown_full : (max wanted : ℕ) (got : List ℕ) {kept : List ℕ} (bytes : 
     → length got ≤ wanted
     → kept ≡ got ++ take (wanted - length got) bytes
     → ends_stage (length bytes) max (length kept) wanted ≡ false → length got + max ≤ length kept
-grown_full max wanted got {kept} bytes few is more =
-    let on = ends_stage-false (length bytes) max (length kept) wanted more in
-    let part = take (wanted - length got) bytes in
-    omega (
-      arith,
-      few,
-      on.0,
-      on.1,
-      ap length is,
-      length-append got part,
-      length-take (wanted - length got) bytes,
-    )
+grown_full max wanted got bytes few is more =
+    grind (arith, ends_stage-false, length-append, length-take)
 
 pub onward_more : {t : Target} {wanted : ℕ} {old mid new : World} {before r s : Option (List ℕ)}
     {got kept : List ℕ} {toggle next : Toggle} (bytes : List ℕ) → 1 ≤ t.max
@@ -1159,9 +964,7 @@ onward_more {t} {wanted} {old} {mid} {new} {got = got} {kept} {toggle} {next} by
           (subst (λ x. ends_stage (length bytes) t.max (length x) wanted ≡ false) whole more));
       turned = flips_more o.packets One toggle next o.turned f;
       few = on.1;
-      spends = spends_wider (byte_bound t.max * length got + transaction_bound) _ old new
-          (spends_then (byte_bound t.max * length got) transaction_bound old mid new o.spends
-          went.spends) (full_packet t.max (length got) (length kept) least grown);
+      spends = grind (arith, full_packet, spends_then, spends_wider, o.spends, went.spends);
       sound = λ _. o.sound worked.sound;
       traced = traced_then o.traced went.traced;
     }
@@ -1172,17 +975,7 @@ pub data_ends : {t : Target} {wanted : ℕ} {old mid new : World} {before r : Op
     → ReadProgress t wanted old before got toggle mid r → Asks t toggle mid (Ok last) new
     → kept ≡ got ++ take (wanted - length got) last
     → ends_stage (length last) t.max (length kept) wanted ≡ true → DataStage t wanted old kept new
-data_ends {t} {wanted} {mid = mid} {new} {got = got} last o asks is over =
-    record {
-      packets = o.packets;
-      got = got;
-      mid = mid;
-      before = o.goes;
-      last = last;
-      came = subst (λ x. Asks t x mid (Ok last) new) o.turned asks;
-      kept = is ∙ kept_front wanted got last o.few;
-      ends = over;
-    }
+data_ends = grind (arith, kept_front)
 
 -- one that does not come
 pub lost_ends : {t : Target} {wanted : ℕ} {old mid : World} (new : World)
@@ -1191,17 +984,7 @@ pub lost_ends : {t : Target} {wanted : ℕ} {old mid : World} (new : World)
     → IsErrAnd result (λ why. why ≡ as_pipe_fault fault)
     → ReadProgress t wanted old before got toggle mid r → Asks t toggle mid (Err fault) new
     → DataEnds t wanted old result new
-lost_ends {t} {mid = mid} new {got = got} fault (Err why) err said o asks =
-    inl (record {
-      packets = o.packets;
-      got = got;
-      mid = mid;
-      before = o.goes;
-      fault = fault;
-      told = said;
-      lost = subst (λ x. Asks t x mid (Err fault) new) o.turned asks;
-    })
-lost_ends new fault (Ok bytes) err said o asks = cc
+lost_ends = grind arith
 
 -- one for which there is no memory
 pub no_room_ends : {t : Target} {wanted : ℕ} {old mid new : World} {before r : Option (List ℕ)}
@@ -1230,9 +1013,7 @@ SendsSetup t bytes old answer new = Transacted set_up_as (setup_attempt t bytes)
 taken_request : (t : Target) (request : Setup) {old new : World} (bytes given : List ℕ)
     → bytes ≡ bytes_of request → given ≡ [] → SendsSetup t bytes old (Ok given) new
     → SetUp t request old (Ok []) new
-taken_request t request {old} {new} bytes given is nothing x =
-    subst (λ g. SetUp t request old (Ok g) new) nothing
-    (subst (λ b. SendsSetup t b old (Ok given) new) is x)
+taken_request t request bytes given is nothing x = grind arith
 
 pub read_at_status : (t : Target) (request : Setup) {old first second : World} (new : World)
     (fault : TransFault) (bytes given : List ℕ) (got : Vec ℕ) (result : Result (Vec ℕ) PipeFault)
@@ -1240,34 +1021,16 @@ pub read_at_status : (t : Target) (request : Setup) {old first second : World} (
     → IsErrAnd result (λ why. why ≡ as_pipe_fault fault) → SendsSetup t bytes old (Ok given) first
     → DataEnds t request.length first (Ok got) second → Confirms t second (Err fault) new
     → Reads t request old result new
-read_at_status t request {old} {first} {second} new fault bytes given got (Err why) is nothing err
-    told x y z =
-    inr (inr (record {
-      first = first;
-      set_up = taken_request t request bytes given is nothing x;
-      second = second;
-      bytes = got.items;
-      data_stage = y;
-      fault = fault;
-      told = told;
-      status = z;
-    }))
-read_at_status t request new fault bytes given got (Ok other) is nothing err told x y z = cc
+read_at_status t request new fault bytes given got result is nothing err told x y z =
+    grind (arith, taken_request)
 
 pub control_read_done : (t : Target) (request : Setup) {old first second new : World}
     (bytes given confirmed : List ℕ) (got : Vec ℕ) → bytes ≡ bytes_of request → given ≡ []
     → confirmed ≡ [] → SendsSetup t bytes old (Ok given) first
     → DataEnds t request.length first (Ok got) second → Confirms t second (Ok confirmed) new
     → Reads t request old (Ok got) new
-control_read_done t request {old} {first} {second} {new} bytes given confirmed got is nothing
-    none_came x y z =
-    record {
-      first = first;
-      set_up = taken_request t request bytes given is nothing x;
-      second = second;
-      data_stage = y;
-      status = subst (λ b. Confirms t second (Ok b) new) none_came z;
-    }
+control_read_done t request bytes given confirmed got is nothing none_came x y z =
+    grind (arith, taken_request)
 
 pub read_told : (t : Target) (request : Setup) {old : World} (new : World) (bytes : List ℕ)
     (result : Result (Vec ℕ) PipeFault) → IsToHost request → 1 ≤ request.length
@@ -1275,36 +1038,16 @@ pub read_told : (t : Target) (request : Setup) {old : World} (new : World) (byte
     → MatchResult result (λ _. AttemptsMade 3 old new) (λ fault. FaultAfter 1 old fault new)
     → IfOk result (λ got. length got.items ≤ request.length) → Reads t request old result new
     → ControlRead t request old result new
-read_told t request {old} new bytes result host some is sent settled ended most x =
-    let same : setup_of (bytes_of request) ≡ request = subst (λ b. setup_of b ≡ request) is sent in
-    record {
-      ends = ended;
-      stages = x;
-      settled = settled;
-      most = most;
-      what = read_leaves t request result old new host some same settled x;
-      why = λ least three. read_why t request result old new least host some same settled three x;
-      who = elim result as (λ r. Reads t request old r new
-          → OnOk r (Unshared new (Answerer t old new)))
-          [ Ok got ↦ λ y. who_reads t request got old new host same settled y | Err why ↦ λ y. tt ]
-          x;
-      losses = read_losses t request result old new host some same settled x;
-    }
+read_told t request new bytes result host some is sent settled ended most x =
+    grind (arith, each_read_told, read_leaves, read_why, who_reads)
 
 pub write_at_status : (t : Target) (request : Setup) {old mid : World} (new : World)
     (fault : TransFault) (bytes given : List ℕ) (result : Result (Unit {0}) PipeFault)
     → bytes ≡ bytes_of request → given ≡ [] → IsErr result
     → IsErrAnd result (λ why. why ≡ as_pipe_fault fault) → SendsSetup t bytes old (Ok given) mid
     → Asks t One mid (Err fault) new → Writes t request old result new
-write_at_status t request {old} {mid} new fault bytes given (Err why) is nothing err told x y =
-    inr (record {
-      mid = mid;
-      set_up = taken_request t request bytes given is nothing x;
-      fault = fault;
-      told = told;
-      status = y;
-    })
-write_at_status t request new fault bytes given (Ok done) is nothing err told x y = cc
+write_at_status t request new fault bytes given result is nothing err told x y =
+    grind (arith, taken_request)
 
 pub write_told : (t : Target) (request : Setup) {old : World} (new : World) (bytes : List ℕ)
     (result : Result (Unit {0}) PipeFault) → request.length ≡ 0 → bytes ≡ bytes_of request

@@ -2,13 +2,13 @@
 use Rattle.std.proofs.Common.{◌≡◌, ◌≢◌, ◌⊎◌, inl, inr, refl, sym, ap, subst, ◌∙◌, arith, ℕ, ◌+◌}
 use Rattle.std.proofs.Common.{◌<◌, ◌≤◌, ◌==◌, ◌&&◌, not, nat_le, if◌then◌else◌, Bool, true, false}
 use Rattle.std.proofs.Common.{List, [], ◌++◌, length, take, slice_get, Option, None, Some, Result}
-use Rattle.std.proofs.Common.{Ok, Err, ap₂, length-append, MatchResult, OnOk}
+use Rattle.std.proofs.Common.{Ok, Err, length-append, MatchResult, OnOk}
 use Rattle.std.proofs.lemmas.List.{length-take, take_all}
 use Rattle.std.specs.Int.{div_ceil}
 use Rattle.std.proofs.lemmas.Bool.Decides.{nat_tests}
 use Rattle.std.proofs.lemmas.List.Quantifiers.{position-Some}
 use Rattle.std.proofs.lemmas.Option.{get_or_from_slice_get}
-use Rattle.usb_packet.specs.{Toggle, One, other, flips}
+use Rattle.usb_packet.specs.{One, flips}
 use Rattle.usb_port.specs.{PortState}
 use Rattle.usb_request.specs.{Setup, bytes_of, setup_of, IsToDevice, DEVICE_IN, DEVICE_OUT}
 use Rattle.usb_request.specs.{ENDPOINT_OUT, HUB_IN, PORT_IN, PORT_OUT, GET_DESCRIPTOR, GET_STATUS}
@@ -16,43 +16,39 @@ use Rattle.usb_request.specs.{GET_CONFIGURATION, SET_ADDRESS, SET_CONFIGURATION,
 use Rattle.usb_request.specs.{SET_FEATURE, ENDPOINT_HALT, INTERFACE_IN, INTERFACE_OUT, ENDPOINT_IN}
 use Rattle.usb_request.specs.{GET_INTERFACE, SET_INTERFACE}
 use Rattle.usb_descriptor.specs.{has_setting}
-use Rattle.usb_device.specs.declared.own_request.OwnAnswer.TheVariants.{RefuseData, RefuseStatus}
-use Rattle.usb_device.specs.declared.own_request.OwnAnswer.TheVariants.{Give, GiveTaken, Take}
 use Rattle.usb_device.specs.{OwnAnswer, OwnRequest, asked_at, asked_by_answer, asked_by_row, fits}
-use Rattle.usb_device.specs.{asked_own, goes_so, is_to_host, own_place}
-use Rattle.usb_device.specs.{Is, Outcome, Registers, Spec, State, Stage, Location, ServedEndpoint}
-use Rattle.usb_device.specs.{stalled, takes, halts, unhalts, outcome, on_endpoint, is_value, served}
-use Rattle.usb_device.specs.{first_stage, ends_if, writing, first_write, begun, accepted}
-use Rattle.usb_device.specs.{row_of, refused, Write, written_on, is_done, taken_with}
-use Rattle.usb_device.specs.{IsPacketOf, OnlyWrite, WritingAt, WriteAt, WriteEnded, level, ahead}
-use Rattle.usb_device.specs.{seen, unseen, OnlyControl, max_packet, items_at}
+use Rattle.usb_device.specs.{asked_own, goes_so, is_to_host, own_place, Is, Outcome, Registers}
+use Rattle.usb_device.specs.{Spec, State, Stage, Location, ServedEndpoint, stalled, takes, halts}
+use Rattle.usb_device.specs.{unhalts, outcome, on_endpoint, is_value, served, first_stage, ends_if}
+use Rattle.usb_device.specs.{writing, first_write, begun, row_of, refused, Write, written_on}
+use Rattle.usb_device.specs.{is_done, taken_with, IsPacketOf, OnlyWrite, WritingAt, WriteAt}
+use Rattle.usb_device.specs.{WriteEnded, level, ahead, seen, unseen, OnlyControl, max_packet}
+use Rattle.usb_device.specs.{items_at}
 use Rattle.usb_world.specs.{Course, World, is_harmless}
 use Rattle.usb_world.proofs.Interface.{course_joined}
 use Rattle.usb_tree.specs.{IsSettled}
 use Rattle.usb_tree.proofs.Interface.{decided}
-use Rattle.usb_transaction.specs.{Target, TransFault, AcceptedAt, CanAccept, CanAnswer, EachSpared}
-use Rattle.usb_transaction.specs.{Answerer, AttemptsMade, Expects, Listens, NoThreeDamaged}
-use Rattle.usb_transaction.specs.{IsNotOfBus as TransNotOfBus, WriteEnds, WriteOut, WriteOutFailure}
-use Rattle.usb_transaction.specs.{WriteStatusEnds, begins_no_stretch, data_write, heard_as}
-use Rattle.usb_transaction.specs.{heard_when_sent, in_attempt, is_at, out_attempt, refusal}
-use Rattle.usb_transaction.specs.{refused_write, refuses_in}
+use Rattle.usb_transaction.specs.{Target, TransFault, AcceptedAt, EachSpared, Answerer}
+use Rattle.usb_transaction.specs.{AttemptsMade, Expects, IsNotOfBus as TransNotOfBus, WriteEnds}
+use Rattle.usb_transaction.specs.{WriteOut, WriteStatusEnds, begins_no_stretch, data_write}
+use Rattle.usb_transaction.specs.{heard_as, heard_when_sent, in_attempt, is_at, out_attempt}
+use Rattle.usb_transaction.specs.{refused_write}
 use Rattle.usb_transaction.specs.declared.fault.TransFault.TheVariants as trans
-use Rattle.usb_transaction.proofs.Interface.{at_from, listens_on, spared_wider}
-use Rattle.usb_pipe.specs.{AcceptedIn, AllGone, Asks, CanEnd, DataRefused, DataTaken}
-use Rattle.usb_pipe.specs.{DataWrite, DataWriteFailure, FaultAfter, IsMaximum, IsNoBusFault}
-use Rattle.usb_pipe.specs.{DataWriteLeaves, Gave, IsBehindData, LossesKept, PipeFault}
-use Rattle.usb_pipe.specs.{Puts, PutsData, SetUp, Unshared, as_pipe_fault}
-use Rattle.usb_pipe.specs.{stage_begun}
+use Rattle.usb_transaction.proofs.Interface.{spared_wider}
+use Rattle.usb_pipe.specs.{AcceptedIn, AllGone, Asks, DataRefused, DataTaken, DataWrite, FaultAfter}
+use Rattle.usb_pipe.specs.{IsMaximum, IsNoBusFault, Gave, IsBehindData, PipeFault, Puts, PutsData}
+use Rattle.usb_pipe.specs.{SetUp, Unshared, as_pipe_fault, stage_begun}
 use Rattle.usb_pipe.specs.declared.fault.PipeFault.TheVariants as pipe_fault
 use Rattle.usb_pipe.specs.Moves as moves
-use Rattle.usb_pipe.proofs.ControlSteps.{Only, Requested, RequestReached, WritePacket, WriteStatus}
-use Rattle.usb_pipe.proofs.ControlSteps.{either_way, never_three, only_first, reached_first}
-use Rattle.usb_pipe.proofs.ControlSteps.{reached_last, reached_more, sound_told}
-use Rattle.usb_pipe.proofs.ControlSteps.{write_packet_leaves, write_status_asked}
+use Rattle.usb_pipe.proofs.ControlSteps.{Only, Requested, RequestReached, MayEnd, GoesOn, goes_on}
+use Rattle.usb_pipe.proofs.ControlSteps.{last_failed, not_failed, set_up_failed, ControlOutAsked}
+use Rattle.usb_pipe.proofs.ControlSteps.{ControlInAsked, put_leaves, asked_leaves, either_way}
+use Rattle.usb_pipe.proofs.ControlSteps.{only_first, reached_first, reached_last, reached_more}
+use Rattle.usb_pipe.proofs.ControlSteps.{sound_told}
 use Rattle.usb_pipe.proofs.ControlTransfers.{at_least_8}
 use Rattle.usb_pipe.proofs.DataWrites.{asked_behind, gave_behind, put_behind, who_puts}
 use Rattle.usb_pipe.proofs.MovedPackets.{flips_more}
-use Rattle.usb_pipe.proofs.TransactionFaults.{Fell, could_accept, could_answer, fell_same_fault}
+use Rattle.usb_pipe.proofs.TransactionFaults.{Fell, fell_same_fault}
 
 -- What a request with data to the device asks: its data, or a refusal
 
@@ -62,15 +58,11 @@ IsWriting (takes kept) = Unit {0}
 IsWriting o = ⊥
 
 not_so : (b : Bool) (x y : Outcome) → b ≡ false → IsWriting y → IsWriting (if b then x else y)
-not_so true x y e h = cc e
-not_so false x y e h = h
+not_so b x y e h = rw e h
 
 and_last : (a b : Bool) → b ≡ false → (a && b) ≡ false
 and_last true b e = e
 and_last false b e = refl
-
-reads_not : (type n : ℕ) (b : Bool) → 128 ≤ type → n < 128 → (n == type && b) ≡ false
-reads_not type n b h g = grind (arith, nat_tests, h, g)
 
 -- a request of the device's own whose data go to it
 
@@ -80,11 +72,7 @@ row_goes row r h = grind arith
 
 by_answer : (answer : OwnAnswer) (to_host : Bool) → to_host ≡ false → goes_so answer to_host ≡ true
     → IsWriting (asked_by_answer answer)
-by_answer RefuseData to_host e h = tt
-by_answer RefuseStatus to_host e h = tt
-by_answer (Give bytes) to_host e h = absurd (cc (sym e ∙ h))
-by_answer GiveTaken to_host e h = absurd (cc (sym e ∙ h))
-by_answer Take to_host e h = tt
+by_answer answer to_host e h = grind arith
 
 module _ (rows : List OwnRequest) (r : Setup) (way : is_to_host r ≡ false) where
   by_row : (i : ℕ) → own_place rows r ≡ Some i → (o : Option OwnRequest) → slice_get rows i ≡ o
@@ -99,25 +87,25 @@ module _ (rows : List OwnRequest) (r : Setup) (way : is_to_host r ≡ false) whe
   by_place (Some i) e = by_row i e (slice_get rows i) refl
 
   own_is_writing : (g : Registers) → IsWriting (asked_own rows g r)
-  own_is_writing g = either_way IsWriting (g.configuration == 0) _ _ tt
-      (by_place (own_place rows r) refl)
+  own_is_writing g = grind (arith, by_place, either_way)
 
 module _ (s : Spec) (g : Registers) (r : Setup) (way : IsToDevice r)
     (some : (r.length == 0) ≡ false) where
   no_endpoint : (f : ServedEndpoint → Outcome) (o : Option ServedEndpoint)
       → IsWriting (on_endpoint f (if r.value == ENDPOINT_HALT && r.length == 0 then o else None))
-  no_endpoint f o = subst (λ b. IsWriting (on_endpoint f (if b then o else None)))
-      (sym (and_last (r.value == ENDPOINT_HALT) (r.length == 0) some)) tt
+  no_endpoint f o = grind (arith, and_last)
+
+  -- a request whose data go to the host is another
+  no_read : (type request : ℕ) (x y : Outcome) → 128 ≤ type → IsWriting y
+      → IsWriting (if Is r type request then x else y)
+  no_read type request x y reads h = grind (arith, nat_tests, not_so)
 
   outcome-is_writing : IsWriting (outcome s g r)
   unfolding outcome
   outcome-is_writing =
-      not_so (Is r DEVICE_IN GET_DESCRIPTOR) _ _
-      (reads_not DEVICE_IN r.request_type _ (omega arith) way)
-      (not_so (Is r DEVICE_IN GET_STATUS) _ _
-      (reads_not DEVICE_IN r.request_type _ (omega arith) way)
-      (not_so (Is r DEVICE_IN GET_CONFIGURATION) _ _
-      (reads_not DEVICE_IN r.request_type _ (omega arith) way)
+      no_read DEVICE_IN GET_DESCRIPTOR _ _ (omega arith)
+      (no_read DEVICE_IN GET_STATUS _ _ (omega arith)
+      (no_read DEVICE_IN GET_CONFIGURATION _ _ (omega arith)
       (either_way IsWriting (Is r DEVICE_OUT SET_ADDRESS) _ _
       (either_way IsWriting s.stalls.address _ _ tt
       (not_so (nat_le r.value 127 && r.length == 0) _ _ (and_last (nat_le r.value 127)
@@ -126,24 +114,19 @@ module _ (s : Spec) (g : Registers) (r : Setup) (way : IsToDevice r)
       (either_way IsWriting s.stalls.set_config _ _ tt
       (not_so (not (g.address == 0) && is_value s.configs r.value && r.length == 0) _ _
       (grind (arith, some)) tt))
-      (not_so (Is r INTERFACE_IN GET_STATUS) _ _
-      (reads_not INTERFACE_IN r.request_type _ (omega arith) way)
-      (not_so (Is r INTERFACE_IN GET_INTERFACE) _ _
-      (reads_not INTERFACE_IN r.request_type _ (omega arith) way)
+      (no_read INTERFACE_IN GET_STATUS _ _ (omega arith)
+      (no_read INTERFACE_IN GET_INTERFACE _ _ (omega arith)
       (either_way IsWriting (Is r INTERFACE_OUT SET_INTERFACE) _ _
       (either_way IsWriting s.stalls.interface _ _ tt
       (not_so (r.length == 0 && has_setting r.index r.value (items_at s g)) _ _
       (ap (λ b. b && has_setting r.index r.value (items_at s g)) some) tt))
-      (not_so (Is r ENDPOINT_IN GET_STATUS) _ _
-      (reads_not ENDPOINT_IN r.request_type _ (omega arith) way)
+      (no_read ENDPOINT_IN GET_STATUS _ _ (omega arith)
       (either_way IsWriting (Is r ENDPOINT_OUT CLEAR_FEATURE) _ _
       (no_endpoint unhalts (served s g r.index))
       (either_way IsWriting (Is r ENDPOINT_OUT SET_FEATURE) _ _
       (no_endpoint halts (served s g r.index))
-      (not_so (Is r HUB_IN GET_DESCRIPTOR) _ _
-      (reads_not HUB_IN r.request_type _ (omega arith) way)
-      (not_so (Is r PORT_IN GET_STATUS) _ _
-      (reads_not PORT_IN r.request_type _ (omega arith) way)
+      (no_read HUB_IN GET_DESCRIPTOR _ _ (omega arith)
+      (no_read PORT_IN GET_STATUS _ _ (omega arith)
       (either_way IsWriting (Is r PORT_OUT SET_FEATURE) _ _
       (not_so (r.length == 0) _ _ some tt)
       (either_way IsWriting (Is r PORT_OUT CLEAR_FEATURE) _ _
@@ -156,9 +139,7 @@ asks_data_only : (s : State) (row : List PortState) (wanted : ℕ) (o : Outcome)
       naks = s.spec.naks;
       stage = first_stage row s wanted o;
     }
-asks_data_only s row wanted stalled h = refl
-asks_data_only s row wanted (takes kept) h = refl
-asks_data_only s row wanted o h = absurd h
+asks_data_only s row wanted o h = grind arith
 
 -- the stage that it begins
 data BeginsWrite (wanted : ℕ) (first : Stage) : Type 0 where
@@ -186,9 +167,7 @@ so_far-first wanted kept = refl
 
 so_far-more : (wanted : ℕ) (kept : Bool) (n : ℕ) (sent bytes : List ℕ)
     → written_on (so_far wanted kept n sent) bytes ≡ so_far wanted kept (n + 1) (sent ++ bytes)
-so_far-more wanted kept n sent bytes =
-    ap (λ (u : Toggle). record { wanted = wanted; got = sent ++ bytes; toggle = u; kept = kept })
-    (flips_more n One (flips n One) (other (flips n One)) refl refl)
+so_far-more wanted kept n sent bytes = grind (arith, flips_more)
 
 -- it refused; or it has the bytes of n packets
 data DataFar (wanted n : ℕ) (sent : List ℕ) (first : Stage) (s v : State) : Type 0 where
@@ -215,25 +194,14 @@ record DataAsked (t : Target) (request : Setup) (bytes : List ℕ)
     done : (u : Unit {0}) → result ≡ Ok u → DataTaken t request bytes old new j s v
     failed : (v.taken ≡ s.taken) ⊎ (v.taken ≡ s.taken ++ bytes)
     refuses : result ≡ Err pipe_fault.Stalled → DataRefused t request old new j s
-    could : CanEnd s.spec result
-    answered : NoThreeDamaged old → IsNoBusFault result → Listens t j s
-        → IsMaximum t request.length s → result ≢ Err pipe_fault.NoAnswer
-    waited : NoThreeDamaged old → IsNoBusFault result → Listens t j s
-        → IsMaximum t request.length s → s.spec.busy ≡ false → s.spec.naks ≤ 200
-        → result ≢ Err pipe_fault.Busy
+    ends : MayEnd t (IsMaximum t request.length s) result old j s
     losses : begins_no_stretch request ≡ true → IsNoBusFault result → new.losses ≡ old.losses
 
 -- the bytes are taken when as many have come as the host said, and not before
 taken_by : (old bytes got : List ℕ) (w : Write) → w.got ≡ got → w.wanted ≡ length bytes
     → (length got ≡ length bytes → got ≡ bytes) → (v : State) → v.taken ≡ taken_with old w
     → (v.taken ≡ old) ⊎ (v.taken ≡ old ++ bytes)
-taken_by old bytes got w e f whole v h = by_end (is_done w) refl
-  where
-    by_end : (b : Bool) → is_done w ≡ b → (v.taken ≡ old) ⊎ (v.taken ≡ old ++ bytes)
-    by_end true d =
-        let all : length got ≡ length bytes = grind (arith, nat_tests, d, e, f) in
-        inr (h ∙ ap (λ b. if b then old ++ w.got else old) d ∙ ap (λ x. old ++ x) (e ∙ whole all))
-    by_end false d = inl (h ∙ ap (λ b. if b then old ++ w.got else old) d)
+taken_by old bytes got w e f whole v h = grind (arith, nat_tests)
 
 nothing_yet : (old : List ℕ) (wanted : ℕ) (kept : Bool) → 1 ≤ wanted
     → taken_with old (so_far wanted kept 0 []) ≡ old
@@ -243,20 +211,11 @@ nothing_yet old wanted kept some =
 
 -- where the registers stay, only the transfer and what such transfers have brought change
 only_write : (s v : State) → OnlyControl s v → v.registers ≡ s.registers → OnlyWrite s v
-only_write s v f e = f ∙ ap₂ {C = State} (λ g k. record s {
-  memory = v.memory;
-  naks = v.naks;
-  stage = v.stage;
-  registers = g;
-  taken = k;
-}) e (sym (ap (λ d. d.taken) f))
+only_write s v f e = grind arith
 
 write_at : (old : List ℕ) (w : Write) (bytes : List ℕ) (fault : TransFault) (v : State)
     → WriteEnds old w bytes (Err fault) v → WriteAt old w bytes v
-write_at old w bytes trans.Stalled v h = absurd h
-write_at old w bytes trans.Busy v h = h
-write_at old w bytes trans.NoAnswer v h = h
-write_at old w bytes (trans.Bus fault) v h = h
+write_at old w bytes fault v h = grind arith
 
 taken_ended : (old : List ℕ) (w : Write) (v : State) → WriteEnded old w v
     → v.taken ≡ taken_with old w
@@ -265,36 +224,22 @@ taken_ended old w v (unseen at) = at.taken
 
 taken_failed : (old : List ℕ) (w : Write) (fault : TransFault) (v : State)
     → WriteStatusEnds old w (Err fault) v → v.taken ≡ taken_with old w
-taken_failed old w trans.Stalled v h = h.taken
-taken_failed old w trans.Busy v h = h.taken
-taken_failed old w trans.NoAnswer v h = h.taken
-taken_failed old w (trans.Bus fault) v h = taken_ended old w v h
+taken_failed old w fault v h = grind (arith, taken_ended)
 
 -- as many bytes as there are, of the first ones, are all
 all_sent : (bytes sent rest : List ℕ) (max : ℕ) → bytes ≡ sent ++ rest
     → length (sent ++ take max rest) ≡ length bytes → sent ++ take max rest ≡ bytes
-all_sent bytes sent rest max split e =
-    let few : length (take max rest) ≡ length rest = omega (
-      arith,
-      e,
-      ap length split,
-      length-append sent rest,
-      length-append sent (take max rest),
-    ) in
-    ap (λ x. sent ++ x) (take_all max rest (omega (arith, few, length-take max rest))) ∙ sym split
+all_sent bytes sent rest max split e = grind (arith, length-append, length-take, take_all)
 
 -- no packet is longer than the maximum of a device that takes packets so long, or all of the data
 -- in one
 packet_within : (t : Target) (wanted : ℕ) (s : State) (rest : List ℕ) → IsMaximum t wanted s
     → length rest ≤ wanted → length (take t.max rest) ≤ max_packet s.spec
-packet_within t wanted s rest (inl same) few = omega (arith, length-take t.max rest, same)
-packet_within t wanted s rest (inr little) few =
-    omega (arith, length-take t.max rest, few, little, at_least_8 s.spec)
+packet_within t wanted s rest fits few = grind (arith, at_least_8, length-take)
 
 not_all_sent : (bytes sent rest : List ℕ) → bytes ≡ sent ++ rest → 0 < length rest
     → length sent ≡ length bytes → sent ≡ bytes
-not_all_sent bytes sent rest split some e =
-    absurd (omega (arith, e, some, ap length split, length-append sent rest))
+not_all_sent bytes sent rest split some e = grind (arith, length-append)
 
 module _ (t : Target) (request : Setup) (way : IsToDevice request) (some : 1 ≤ request.length)
     (same : setup_of (bytes_of request) ≡ request) where
@@ -307,10 +252,7 @@ module _ (t : Target) (request : Setup) (way : IsToDevice request) (some : 1 ≤
         naks = s.spec.naks;
         stage = stage_begun (row_of x.holder.below) request s;
       }
-  data_accepted s u x = x.is ∙ ap (λ r. accepted s (row_of x.holder.below) r) same
-      ∙ asks_data_only s (row_of x.holder.below) request.length
-      (outcome s.spec s.registers request)
-      (outcome-is_writing s.spec s.registers request way wants_some)
+  data_accepted s u x = grind (arith, asks_data_only, outcome-is_writing, wants_some, x.is)
 
   told_data : {old first : World} (j : Location) (s u : State) → is_at s t ≡ true
       → Requested t request (Ok []) old first j s u → DataTold t request 0 [] old first first j s u
@@ -346,46 +288,31 @@ module _ (t : Target) (request : Setup) (way : IsToDevice request) (some : 1 ≤
     abbrev w : Bool → Write
     w kept = so_far request.length kept n sent
 
+    data_on : GoesOn t j s u
+    data_on = grind (arith, goes_on)
+
     data_at : is_at u t ≡ true
-    data_at = at_from t s u (ap (λ d. d.registers) x.frame) at
-
-    data_spec : u.spec ≡ s.spec
-    data_spec = ap (λ d. d.spec) x.frame
-
-    data_listens : Listens t j s → Listens t j u
-    data_listens l = listens_on t j s u data_spec (ap (λ d. d.registers) x.frame) l
-
-    data_calm : s.spec.busy ≡ false → u.spec.busy ≡ false
-    data_calm calm = ap (λ d. d.busy) data_spec ∙ calm
-
-    data_could : (result : Result (List ℕ) TransFault) → CanAnswer u.spec result
-        → CanAnswer s.spec result
-    data_could result c = subst (λ d. CanAnswer d result) data_spec c
+    data_at = data_on.at at
 
     data_frame : (v : State) → OnlyWrite u v → OnlyWrite s v
-    data_frame v f = f ∙ ap {A = State} (λ d. record d {
-      memory = v.memory;
-      naks = v.naks;
-      stage = v.stage;
-      taken = v.taken;
-    }) x.frame
+    data_frame v f = grind arith
 
     -- a packet that came
     data_more : (bytes : List ℕ) {new : World} {v : State}
-        → WritePacket t (flips n One) bytes (Ok []) now new j u v
+        → ControlOutAsked t (flips n One) bytes (Ok []) now new j u v
         → 1 ≤ length bytes → length sent + length bytes ≤ request.length
         → DataTold t request (n + 1) (sent ++ bytes) old first new j s v
     data_more bytes {v = v} y more within = record {
       row = x.row;
       accepts = x.accepts;
-      frame = data_frame v y.leaves.frame;
-      naks = omega (arith, x.naks, y.leaves.naks);
+      frame = data_frame v y.told.leaves.frame;
+      naks = omega (arith, x.naks, y.told.leaves.naks);
       losses = λ plain. y.kept tt ∙ x.losses plain;
       far = elim x.far [
-        | refuses_data f h k ↦ absurd ((y.leaves.refused h).2 data_at [] refl)
+        | refuses_data f h k ↦ absurd ((y.told.leaves.refused h).2 data_at [] refl)
         | writes_data kept f h ↦ writes_data kept f (subst (λ w. WritingAt s.taken w v)
             (so_far-more request.length kept n sent bytes)
-            (y.leaves.write data_at s.taken (so_far request.length kept n sent) refl
+            (y.told.leaves.write data_at s.taken (so_far request.length kept n sent) refl
             (record { some = more; within = within }) (level h)))
       ];
     }
@@ -394,55 +321,33 @@ module _ (t : Target) (request : Setup) (way : IsToDevice request) (some : 1 ≤
         → (stage_begun x.row request s ≡ refused)
         ⊎ (stage_begun x.row request s ≡ writing (first_write request.length false))
         → DataRefused t request old new j s
-    refused_data since is = record {
-      row = x.row;
-      moment = record { now = first; accepts = x.accepts; since = since };
-      is = is;
-    }
+    refused_data since is = grind arith
 
     -- a packet that did not come
     data_lost : (bytes rest : List ℕ) (fault : TransFault) (why : PipeFault)
         → why ≡ as_pipe_fault fault → request.length ≡ length bytes → bytes ≡ sent ++ rest
         → 0 < length rest → 1 ≤ t.max → now.damages ≡ old.damages → {new : World}
         → (Fell fault trans.Stalled → Course (IsBehindData t) first new) → (v : State)
-        → WritePacket t (flips n One) (take t.max rest) (Err fault) now new j u v
+        → ControlOutAsked t (flips n One) (take t.max rest) (Err fault) now new j u v
         → DataAsked t request bytes (Err why) old new j s v
     data_lost bytes rest fault why told all split more least undamaged {new} since v z = record {
       frame = data_frame v y.frame;
       done = λ z e. cc e;
-      failed = elim x.far [
-        | refuses_data f h k ↦ inl ((y.refused h).1 ∙ k)
-        | writes_data kept f h ↦
-            by_end kept (write_at s.taken (w kept) (part rest) fault v (ends kept h))
-      ];
-      refuses = λ e.
-          let stall = fell_same_fault (Unit {0}) why fault trans.Stalled told e in
-          elim x.far [
-            | refuses_data f h k ↦ refused_data (since stall) (inl f)
-            | writes_data kept f h ↦
-                absurd (subst (λ r. WriteEnds s.taken (w kept) (part rest) r v) stall (ends kept h))
-          ];
-      could = could_answer (Unit {0}) s.spec why fault told (data_could (Err fault) (y.could data_at));
-      answered = λ three sound l m e. (because three sound).answered (data_listens l) (expected m)
-          (fell_same_fault (Unit {0}) why fault trans.NoAnswer told e);
-      waited = λ three sound l m calm few e. (because three sound).waited (data_listens l)
-          (expected m) (data_calm calm) (omega (arith, x.naks, few))
-          (fell_same_fault (Unit {0}) why fault trans.Busy told e);
+      failed = grind (arith, by_end, ends, write_at, y, x.far, y.refused);
+      refuses = grind (arith, ends, fell_same_fault, refused_data, x.far);
+      ends = last_failed why fault told now (Expects (part rest) u) data_on undamaged (y.could
+          data_at)
+          expected (λ three. (z.told.why three).answered) (λ three. (z.told.why three).waited);
       losses = λ plain sound. z.kept (sound_told (Unit {0}) why fault told sound) ∙ x.losses plain;
     }
       where
         y : WriteOut t (flips n One) (part rest) (Err fault) j u v
-        y = z.leaves
-
-        because : NoThreeDamaged old → IsNoBusFault {A = Unit {0}} (Err why)
-            → WriteOutFailure t (part rest) (Err fault) j u v
-        because three sound = z.why (never_three old now undamaged three)
-            (sound_told (Unit {0}) why fault told sound)
+        y = z.told.leaves
 
         expected : IsMaximum t request.length s → Expects (part rest) u
         expected m =
             let fits : length (part rest) ≤ max_packet u.spec =
-            subst (λ d. length (part rest) ≤ max_packet d) (sym data_spec)
+            subst (λ d. length (part rest) ≤ max_packet d) (sym data_on.spec)
             (packet_within t request.length s rest m
             (omega (arith, all, ap length split, length-append sent rest))) in
             elim x.far [
@@ -476,75 +381,66 @@ module _ (t : Target) (request : Setup) (way : IsToDevice request) (some : 1 ≤
     -- The status stage, where all bytes have come
 
     status_losses : {result : Result (List ℕ) TransFault} {new : World} {v : State}
-        → WriteStatus t result now new j u v → TransNotOfBus result → new.losses ≡ now.losses
-    status_losses y sound = y.asked.kept sound data_at (λ a e. elim x.far [
-      | refuses_data f h k ↦ cc (sym h ∙ e)
-      | writes_data kept f h ↦ cc (sym h.stage ∙ e)
-    ])
+        → ControlInAsked t One result now new j u v → TransNotOfBus result
+        → new.losses ≡ now.losses
+    status_losses y sound = grind (arith, data_at, y.kept)
 
     data_unconfirmed : (bytes : List ℕ) (fault : TransFault) (why : PipeFault)
         → why ≡ as_pipe_fault fault → request.length ≡ length bytes → sent ≡ bytes
         → now.damages ≡ old.damages → {new : World}
         → (Fell fault trans.Stalled → Course (IsBehindData t) first new) → (v : State)
-        → WriteStatus t (Err fault) now new j u v
+        → ControlInAsked t One (Err fault) now new j u v
         → DataAsked t request bytes (Err why) old new j s v
     data_unconfirmed bytes fault why told all is undamaged since v y = record {
-      frame = data_frame v (only_write u v y.asked.leaves.frame (elim x.far [
-        | refuses_data f h k ↦ y.asked.leaves.rests h
-        | writes_data kept f h ↦ y.write.rests data_at s.taken (w kept) h
+      frame = data_frame v (only_write u v y.told.leaves.frame (elim x.far [
+        | refuses_data f h k ↦ y.told.leaves.rests h
+        | writes_data kept f h ↦ (y.told.write refl).rests data_at s.taken (w kept) h
       ]));
       done = λ z e. cc e;
-      failed = elim x.far [
-        | refuses_data f h k ↦ inl (ap (λ d. d.taken) y.asked.leaves.frame ∙ k)
-        | writes_data kept f h ↦ taken_by s.taken bytes sent (w kept) refl all (λ e. is) v
-            (taken_failed s.taken (w kept) fault v (y.write.status data_at s.taken (w kept) h))
-      ];
-      refuses = λ e.
-          let stall = fell_same_fault (Unit {0}) why fault trans.Stalled told e in
-          elim x.far [
-            | refuses_data f h k ↦ refused_data (since stall) (inl f)
-            | writes_data kept f h ↦ refused_data (since stall)
-                (inr (f ∙ ap (λ k. writing (first_write request.length k))
-                (not_kept kept (sym (ap refuses_in h.stage)
-                ∙ y.asked.leaves.stalled data_at stall))))
-          ];
-      could = could_answer (Unit {0}) s.spec why fault told
-          (data_could (Err fault) (y.asked.leaves.could data_at));
-      answered = λ three sound l m e.
-          let silent = fell_same_fault (Unit {0}) why fault trans.NoAnswer told e in
-          elim x.far [
-            | refuses_data f h k ↦ (y.asked.why (never three) (sound_then sound)).answered
-                (data_listens l) (refusal h) silent
-            | writes_data kept f h ↦ (y.why (never three) (sound_then sound)).answered
-                (data_listens l) (w kept) h.stage silent
-          ];
-      waited = λ three sound l m calm few e.
-          let busy = fell_same_fault (Unit {0}) why fault trans.Busy told e in
-          elim x.far [
-            | refuses_data f h k ↦ (y.asked.why (never three) (sound_then sound)).waited
-                (data_listens l) (refusal h) (data_calm calm) (omega (arith, x.naks, few)) busy
-            | writes_data kept f h ↦ (y.why (never three) (sound_then sound)).waited
-                (data_listens l) (w kept) h.stage (data_calm calm) (omega (arith, x.naks, few)) busy
-          ];
-      losses = λ plain sound. status_losses y (sound_then sound) ∙ x.losses plain;
+      failed = grind (
+        arith,
+        data_at,
+        taken_by,
+        taken_failed,
+        x.far,
+        y.told.leaves.frame,
+        y.told.write,
+      );
+      refuses = grind (
+        arith,
+        data_at,
+        fell_same_fault,
+        not_kept,
+        refused_data,
+        x.far,
+        y.told.leaves.stalled,
+      );
+      ends = grind (
+        arith,
+        data_at,
+        data_on,
+        last_failed,
+        x.far,
+        y.told.leaves.could,
+        y.told.why,
+        y.told.write_why,
+      );
+      losses = λ plain sound. status_losses y (sound_told (Unit {0}) why fault told sound)
+          ∙ x.losses plain;
     }
       where
-        never : NoThreeDamaged old → NoThreeDamaged now
-        never = never_three old now undamaged
-
-        sound_then : IsNoBusFault {A = Unit {0}} (Err why) → TransNotOfBus {A = List ℕ} (Err fault)
-        sound_then = sound_told (Unit {0}) why fault told
-
         not_kept : (kept : Bool) → not (is_done (w kept)) ≡ true → kept ≡ false
         not_kept true h = absurd (grind (arith, nat_tests, h, all, ap length is))
         not_kept false h = refl
 
     data_whole : (bytes given : List ℕ) → request.length ≡ length bytes → sent ≡ bytes
         → {new : World} → Course (IsBehindData t) first new → (v : State)
-        → WriteStatus t (Ok given) now new j u v → DataAsked t request bytes (Ok tt) old new j s v
+        → ControlInAsked t One (Ok given) now new j u v → DataAsked t request bytes (Ok tt) old new
+        j s v
     data_whole bytes given all is {new} since v y = elim x.far [
-      | refuses_data f h k ↦ absurd ((y.asked.leaves.refused h).1 data_at given refl)
-      | writes_data kept f h ↦ ended kept f h (y.write.status data_at s.taken (w kept) h)
+      | refuses_data f h k ↦ absurd ((y.told.leaves.refused h).1 data_at given refl)
+      | writes_data kept f h ↦ ended kept f h ((y.told.write refl).status data_at s.taken (w kept)
+          h)
     ]
       where
         is_kept : (kept : Bool) → is_done (w kept) ≡ true → kept ≡ true
@@ -559,19 +455,12 @@ module _ (t : Target) (request : Setup) (way : IsToDevice request) (some : 1 ≤
             let came : v.taken ≡ s.taken ++ bytes = taken_ended s.taken (w kept) v end
             ∙ ap (λ b. if b then s.taken ++ sent else s.taken) done ∙ ap (λ b. s.taken ++ b) is in
             record {
-              frame = data_frame v (only_write u v y.asked.leaves.frame
-                  (y.write.rests data_at s.taken (w kept) h));
-              done = λ z e. record {
-                row = x.row;
-                moment = record { now = first; accepts = x.accepts; since = since };
-                is = f ∙ ap (λ k. writing (first_write request.length k)) (is_kept kept done);
-                taken = came;
-              };
+              frame = data_frame v (only_write u v y.told.leaves.frame
+                  ((y.told.write refl).rests data_at s.taken (w kept) h));
+              done = grind (arith, is_kept, x.accepts);
               failed = inr came;
               refuses = λ e. cc e;
-              could = data_could (Ok given) (y.asked.leaves.could data_at);
-              answered = λ three sound l m e. cc e;
-              waited = λ three sound l m calm few e. cc e;
+              ends = grind (arith, data_at, data_on, not_failed, y.told.leaves.could);
               losses = λ plain sound. status_losses y tt ∙ x.losses plain;
             }
 
@@ -590,14 +479,8 @@ module _ (t : Target) (request : Setup) (way : IsToDevice request) (some : 1 ≤
       | inl e ↦ ap (λ d. d.taken) e
       | inr z ↦ ap (λ d. d.taken) (data_accepted s v z.at)
     ]);
-    refuses = λ e. absurd (subst (λ r. CanAccept {A = List ℕ} s.spec r)
-        (fell_same_fault (Unit {0}) why fault trans.Stalled told e) (y.done.could at));
-    could = could_accept (Unit {0}) s.spec why fault told (y.done.could at);
-    answered = λ three sound l m e.
-        (y.why three (sound_told (Unit {0}) why fault told sound)).answered l
-        (fell_same_fault (Unit {0}) why fault trans.NoAnswer told e);
-    waited = λ three sound l m calm few e. subst (λ r. CanAccept {A = List ℕ} s.spec r)
-        (fell_same_fault (Unit {0}) why fault trans.Busy told e) (y.done.could at);
+    refuses = grind (arith, fell_same_fault, y.done.could);
+    ends = set_up_failed why fault told (y.done.could at) y.why;
     losses = λ plain sound. y.kept plain (sound_told (Unit {0}) why fault told sound);
   }
 
@@ -610,11 +493,12 @@ module _ (t : Target) (request : Setup) (way : IsToDevice request) (some : 1 ≤
   data_gone moves.start r few = r
   data_gone {old} {first} (moves.packet {n} {sent} {mid} {new} bytes g full more fits puts) r few =
       let all : length (sent ++ bytes) ≡ length sent + length bytes = length-append sent bytes in
-      reached_more (WritePacket t (flips n One) bytes (Ok []) mid new)
-      (DataTold t request (n + 1) (sent ++ bytes) old first new) [] (λ j s v y. y.leaves.others)
+      reached_more (ControlOutAsked t (flips n One) bytes (Ok []) mid new)
+      (DataTold t request (n + 1) (sent ++ bytes) old first new) []
+      (λ j s v y. y.told.leaves.others)
       (λ j s u v at x y. data_more at x bytes y (omega (arith, more)) (omega (arith, few, all)))
       (data_gone g r (omega (arith, few, all))) puts
-      (write_packet_leaves t (flips n One) bytes (Ok []) mid new puts)
+      (put_leaves t (flips n One) bytes (Ok []) mid new puts)
 
   module _ (bytes : List ℕ) (all : request.length ≡ length bytes) (least : 1 ≤ t.max)
       (old new : World) (settled : IsSettled old.roots) (single : new.shared ≡ false) where
@@ -629,14 +513,15 @@ module _ (t : Target) (request : Setup) (way : IsToDevice request) (some : 1 ≤
         → (gone : AllGone t 0 One bytes first second) → Asks t One second result new
         → (second.damages ≡ old.damages → (j : Location) (s u v : State) → is_at s t ≡ true
         → DataTold t request gone.packets bytes old first second j s u
-        → WriteStatus t result second new j u v
+        → ControlInAsked t One result second new j u v
         → DataAsked t request bytes ended old new j s v)
         → EachSpared t request (Only t (DataAsked t request bytes ended old new)) old new
     data_last result ended {first} {second} set_up gone status f =
         let r = data_gone gone.gone (data_reached set_up) (omega (arith, all)) in
-        reached_last (WriteStatus t result second new) (DataAsked t request bytes ended old new)
-        (heard_as One) (in_attempt t 0) new result (λ j s v y. y.asked.leaves.others) (f r.damages)
-        r status (write_status_asked t result second new status) single
+        reached_last (ControlInAsked t One result second new) (DataAsked t request bytes ended old
+        new)
+        (heard_as One) (in_attempt t 0) new result (λ j s v y. y.told.leaves.others) (f r.damages)
+        r status (asked_leaves t One result second new status) single
 
     data_asked : (result : Result (Unit {0}) PipeFault) → PutsData t request bytes old result new
         → EachSpared t request (Only t (DataAsked t request bytes result old new)) old new
@@ -652,63 +537,23 @@ module _ (t : Target) (request : Setup) (way : IsToDevice request) (some : 1 ≤
         let d = x.data_stage in
         let whole = ap length d.split ∙ length-append d.sent d.rest in
         let r = data_gone d.before (data_reached x.set_up) (omega (arith, all, whole)) in
-        reached_last (WritePacket t (flips d.packets One) (take t.max d.rest) (Err d.fault) d.mid
-        new) (DataAsked t request bytes (Err why) old new) heard_when_sent
+        reached_last (ControlOutAsked t (flips d.packets One) (take t.max d.rest) (Err d.fault)
+        d.mid new) (DataAsked t request bytes (Err why) old new) heard_when_sent
         (out_attempt t 0 (flips d.packets One) (take t.max d.rest)) new (Err d.fault)
-        (λ j s v y. y.leaves.others)
+        (λ j s v y. y.told.leaves.others)
         (λ j s u v at y z. data_lost at y bytes d.rest d.fault why d.told all d.split d.some least
         r.damages
         (λ stall. course_joined (gave_behind t d.before) (put_behind t (flips d.packets One)
         (take t.max d.rest) (subst (λ r. Puts t 0 (flips d.packets One) (take t.max d.rest) d.mid r
         new) stall d.lost))) v z)
-        r d.lost (write_packet_leaves t (flips d.packets One) (take t.max d.rest) (Err d.fault)
-        d.mid new d.lost) single
+        r d.lost (put_leaves t (flips d.packets One) (take t.max d.rest) (Err d.fault) d.mid new
+        d.lost) single
     data_asked (Err why) (inr (inr x)) =
         data_last (Err x.fault) (Err why) x.set_up x.data_stage x.status
         (λ undamaged j s u v at y z. data_unconfirmed at y bytes x.fault why x.told all refl
         undamaged
         (λ stall. course_joined (gave_behind t x.data_stage.gone) (asked_behind t One
         (subst (λ r. Asks t One x.second r new) stall x.status))) v z)
-
-    pub data_write_leaves : (result : Result (Unit {0}) PipeFault)
-        → PutsData t request bytes old result new
-        → EachSpared t request (DataWriteLeaves t request bytes result old new) old new
-    data_write_leaves result x =
-        spared_wider t request (Only t (DataAsked t request bytes result old new))
-        (DataWriteLeaves t request bytes result old new)
-        (λ j s v y. record {
-          others = y.others;
-          frame = elim (decided (is_at s t)) [
-            | inl h ↦ (y.mine h).frame
-            | inr h ↦ subst (OnlyWrite s) (sym (y.others h)) refl
-          ];
-          done = λ h. (y.mine h).done;
-          failed = elim (decided (is_at s t)) [
-            | inl h ↦ (y.mine h).failed
-            | inr h ↦ inl (ap (λ d. d.taken) (y.others h))
-          ];
-          refused = λ h. (y.mine h).refuses;
-          could = λ h. (y.mine h).could;
-        }) old new (data_asked result x)
-
-    pub data_write_why : (result : Result (Unit {0}) PipeFault)
-        → PutsData t request bytes old result new → NoThreeDamaged old → IsNoBusFault result
-        → EachSpared t request (DataWriteFailure t request result) old new
-    data_write_why result x three sound =
-        spared_wider t request (Only t (DataAsked t request bytes result old new))
-        (DataWriteFailure t request result)
-        (λ j s v y. record {
-          answered = λ l. (y.mine l.at).answered three sound l;
-          waited = λ l. (y.mine l.at).waited three sound l;
-        }) old new (data_asked result x)
-
-    pub data_write_losses : (result : Result (Unit {0}) PipeFault)
-        → PutsData t request bytes old result new → begins_no_stretch request ≡ true
-        → IsNoBusFault result → EachSpared t request (LossesKept t old new) old new
-    data_write_losses result x plain sound =
-        spared_wider t request (Only t (DataAsked t request bytes result old new))
-        (LossesKept t old new) (λ j s v y h. (y.mine h).losses plain sound) old new
-        (data_asked result x)
 
 -- What its call tells
 
@@ -723,17 +568,33 @@ pub put_told : (t : Target) (request : Setup) (bytes sent : List ℕ) {old : Wor
 put_told t request bytes sent {old} new result least way some all is fields settled ended room x =
     let same : setup_of (bytes_of request) ≡ request =
     subst (λ b. setup_of b ≡ request) is fields in
+    let each = λ (single : new.shared ≡ false). data_asked t request way some same bytes all least
+    old new settled single result x in
     record {
       ends = ended;
       stages = x;
       settled = settled;
       room = room;
-      what = λ single. data_write_leaves t request way some same bytes all least old new settled
-          single result x;
-      why = λ three sound single. data_write_why t request way some same bytes all least old new
-          settled single result x three sound;
-      losses = λ plain sound single. data_write_losses t request way some same bytes all least old
-          new settled single result x plain sound;
+      what = λ single. spared_wider t request _ _ (λ j s v y. record {
+        others = y.others;
+        frame = elim (decided (is_at s t)) [
+          | inl h ↦ (y.mine h).frame
+          | inr h ↦ subst (OnlyWrite s) (sym (y.others h)) refl
+        ];
+        done = λ h. (y.mine h).done;
+        failed = elim (decided (is_at s t)) [
+          | inl h ↦ (y.mine h).failed
+          | inr h ↦ inl (ap (λ d. d.taken) (y.others h))
+        ];
+        refused = λ h. (y.mine h).refuses;
+        could = λ h. (y.mine h).ends.could;
+      }) old new (each single);
+      why = λ three sound single. spared_wider t request _ _ (λ j s v y. record {
+        answered = λ l m. (y.mine l.at).ends.answered m three l;
+        waited = λ l m. (y.mine l.at).ends.waited m three l;
+      }) old new (each single);
+      losses = λ plain sound single. spared_wider t request _ _
+          (λ j s v y h. (y.mine h).losses plain sound) old new (each single);
       who = elim result as (λ r. PutsData t request bytes old r new
           → OnOk r ((is_harmless request ≡ false → t.addr ≢ 0)
           → Unshared new (Answerer t old new))) [

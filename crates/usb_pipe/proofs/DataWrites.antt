@@ -1,21 +1,19 @@
 -- Control transfers with data to the device: which attempts they make, and who answers them.
-use Rattle.std.proofs.Common.{inl, inr, ◌≡◌, ◌≢◌, ℕ, List, [], take, Result, Ok, Err}
-use Rattle.std.proofs.Common.{refl, subst, false}
+use Rattle.std.proofs.Common.{inl, inr, ◌≡◌, ◌≢◌, ℕ, List, [], take, Result, Ok, Err, refl, subst}
+use Rattle.std.proofs.Common.{false}
 use Rattle.usb_packet.specs.{Toggle, One, flips}
 use Rattle.usb_request.specs.{Setup, bytes_of, setup_of}
 use Rattle.usb_world.specs.{here, Course, is_harmless, Step, World}
 use Rattle.usb_world.proofs.Interface.{course_joined, course_wider}
 use Rattle.usb_tree.specs.{IsSettled}
-use Rattle.usb_transaction.specs.{Answerer, heard_as, heard_when_sent, in_attempt}
-use Rattle.usb_transaction.specs.{out_attempt, set_up_as, setup_attempt, Target, Transacted}
-use Rattle.usb_transaction.specs.{TransactionDone}
-use Rattle.usb_transaction.proofs.Interface.{read_answered, trail_course}
-use Rattle.usb_pipe.specs.{AllGone, Asks, Gave, IsBehindData, IsOfDataWrite}
-use Rattle.usb_pipe.specs.{PipeFault, PutsData, SetUp, TransferAttempts}
+use Rattle.usb_transaction.specs.{Answerer, heard_as, heard_when_sent, in_attempt, out_attempt}
+use Rattle.usb_transaction.specs.{set_up_as, setup_attempt, Target, Transacted, TransactionDone}
+use Rattle.usb_transaction.proofs.Interface.{trail_course}
+use Rattle.usb_pipe.specs.{AllGone, Asks, Gave, IsBehindData, IsOfDataWrite, PipeFault, PutsData}
+use Rattle.usb_pipe.specs.{SetUp, TransferAttempts}
 use Rattle.usb_pipe.specs.Moves as moves
-use Rattle.usb_pipe.proofs.Answerers.{answerer_after_passed, gave_passed, passed_then, set_up_passed}
+use Rattle.usb_pipe.proofs.Answerers.{gave_passed, passed_then, set_up_passed, in_answered}
 use Rattle.usb_pipe.proofs.Attempts.{lost_kind}
-use Rattle.usb_pipe.proofs.ControlSteps.{ended_unshared}
 
 -- Attempts
 
@@ -76,10 +74,8 @@ pub who_puts : (t : Target) (request : Setup) (bytes : List ℕ) (u : Unit {0}) 
     → IsSettled old.roots → PutsData t request bytes old (Ok u) new → new.shared ≡ false
     → Answerer t old new
 who_puts t request bytes u old new same addressed settled x single =
-    answerer_after_passed
-    (passed_then (set_up_passed t request addressed same x.set_up)
-    (gave_passed t 0 One x.data_stage.gone)) settled (ended_unshared x.status single)
-    (λ h. read_answered t 0 One x.given x.second new h x.status single)
+    in_answered t 0 One (Ok x.given) (passed_then (set_up_passed t request addressed same x.set_up)
+    (gave_passed t 0 One x.data_stage.gone)) settled tt x.status single
 
 -- What its call tells, from what its stages' calls tell
 

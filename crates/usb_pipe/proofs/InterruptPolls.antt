@@ -7,24 +7,20 @@ use Rattle.arrayvec.specs.ArrayVec.{ArrayVec}
 use Rattle.usb_tree.specs.{IsSettled}
 use Rattle.usb_world.specs.{World, EachWas}
 use Rattle.usb_world.proofs.Interface.{each_wider}
-use Rattle.usb_transaction.specs.{TransFault, Answerer, NoThreeDamaged, PollFailure, ChangesIn}
-use Rattle.usb_transaction.specs.{PollEnds, ToldBy, IsNotOfBus as TransNotOfBus, in_attempt}
-use Rattle.usb_transaction.specs.{IsStatusEndpoint, is_at}
-use Rattle.usb_transaction.proofs.Interface.{poll_leaves, poll_why}
+use Rattle.usb_transaction.specs.{TransFault, Answerer, NoThreeDamaged, ChangesIn, PollEnds, ToldBy}
+use Rattle.usb_transaction.specs.{IsNotOfBus as TransNotOfBus, in_attempt, IsStatusEndpoint, is_at}
 use Rattle.usb_pipe.specs.{PipeFault, as_pipe_fault, PollingFailure, Interrupt, Polls, IsNoBusFault}
 use Rattle.usb_pipe.specs.{ToldOf, PollTells, PollLeaves, Unshared, InterruptPoll}
 use Rattle.usb_pipe.proofs.Answerers.{who_polls}
 use Rattle.usb_pipe.proofs.TransferLosses.{poll_losses}
+use Rattle.usb_transaction.proofs.Interface.{changes_told}
 
 -- the bytes of a packet are those of the bits that they tell
 same_bytes : (ports bits : ℕ) (got packet : ArrayVec ℕ) → got.items ≡ change_bytes ports bits
     → told_bits got.items ≡ bits
     → ◌≡◌ {A = Result (Option (ArrayVec ℕ)) PipeFault} (Ok (Some got)) (Ok (Some packet))
     → packet.items ≡ change_bytes ports (told_bits packet.items)
-same_bytes ports bits got packet came back same =
-    let is : got ≡ packet = cc same in
-    subst (λ (p : ArrayVec ℕ). p.items ≡ change_bytes ports (told_bits p.items)) is
-    (came ∙ ap (change_bytes ports) (sym back))
+same_bytes ports bits got packet came back same = grind arith
 
 -- what a poll of a status endpoint says, by its result
 abbrev TellsOf : Interrupt → Interrupt → World → World → Result (Option (ArrayVec ℕ)) PipeFault
@@ -58,17 +54,17 @@ pub poll_tells : (pipe : Interrupt) (result : Result (Option (ArrayVec ℕ)) Pip
     (left : Interrupt) (old new : World) → IsSettled old.roots → Polls pipe old result left new
     → new.shared ≡ false → EachWas (PollLeaves pipe old result left new) old new
 poll_tells pipe (Ok None) left old new settled x single =
-    each_wider _ _ (λ j s v y. leaves_by pipe left old new (Ok None) (Ok None) j s v y
+    each_wider _ _ (λ j s v y. leaves_by pipe left old new (Ok None) (Ok None) j s v y.leaves
     (λ counted told. (
       told.0,
       λ packet r. cc r,
       λ got r. subst (λ t. PollAt NeverTold t v) (sym (ap (λ l. l.toggle) x.pipe_left)) told.1,
     ))) old new
-    (poll_leaves pipe.target pipe.ep pipe.toggle (Ok None) old new settled x.asked single)
+    (changes_told pipe.target pipe.ep pipe.toggle (Ok None) old new settled x.asked single)
 poll_tells pipe (Ok (Some got)) left old new settled x single =
     let turned = ap (λ l. l.toggle) x.pipe_left in
     each_wider _ _
-    (λ j s v y. leaves_by pipe left old new (Ok (Some got)) (Ok (Some got.items)) j s v y
+    (λ j s v y. leaves_by pipe left old new (Ok (Some got)) (Ok (Some got.items)) j s v y.leaves
     (λ counted told.
     let came : got.items ≡ change_bytes (hub_ports s.spec.hub) told.bits =
     subst (λ n. got.items ≡ change_bytes n told.bits) counted told.came in
@@ -77,12 +73,13 @@ poll_tells pipe (Ok (Some got)) left old new settled x single =
       λ packet r. same_bytes (hub_ports s.spec.hub) told.bits got packet came back r,
       λ other r. subst (λ t. PollAt NeverTold t v) (sym turned) told.between,
     )))
-    old new (poll_leaves pipe.target pipe.ep pipe.toggle (Ok (Some got.items)) old new settled
+    old new (changes_told pipe.target pipe.ep pipe.toggle (Ok (Some got.items)) old new settled
     x.asked single)
 poll_tells pipe (Err why) left old new settled x single =
-    each_wider _ _ (λ j s v y. leaves_by pipe left old new (Err why) (Err x.asked.fault) j s v y
+    each_wider _ _ (λ j s v y. leaves_by pipe left old new (Err why) (Err x.asked.fault) j s v
+    y.leaves
     (λ counted told. (tt, λ packet r. cc r, λ got r. cc r))) old new
-    (poll_leaves pipe.target pipe.ep pipe.toggle (Err x.asked.fault) old new settled x.asked.polled
+    (changes_told pipe.target pipe.ep pipe.toggle (Err x.asked.fault) old new settled x.asked.polled
     single)
 
 -- Why it fails
@@ -99,12 +96,13 @@ polling_why pipe (Ok got) left old new settled three x sound single =
     (poll_tells pipe (Ok got) left old new settled x single)
 polling_why pipe (Err why) left old new settled three x sound single =
     let n = x.asked in
-    each_wider (PollFailure pipe.target pipe.ep pipe.toggle (Err n.fault)) _
+    each_wider _ _
     (λ j s v y. record {
-      answered = λ l h at quiet other e. y.answered l h at quiet n.fault refl;
+      answered = λ l h at quiet other e. (y.why three
+          (poll-not_of_bus (Option (ArrayVec ℕ)) why n.fault n.told sound)).answered l h at quiet
+          n.fault refl;
     }) old new
-    (poll_why pipe.target pipe.ep pipe.toggle (Err n.fault) old new settled three n.polled
-    (poll-not_of_bus (Option (ArrayVec ℕ)) why n.fault n.told sound) single)
+    (changes_told pipe.target pipe.ep pipe.toggle (Err n.fault) old new settled n.polled single)
 
 -- The record of a poll: the pipe is as it was read
 pub poll_told : (read pipe : Interrupt) (result : Result (Option (ArrayVec ℕ)) PipeFault)

@@ -1,10 +1,9 @@
 -- How the packets of a bulk transfer join.
-use Rattle.std.proofs.Common.{◌≡◌, ◌≢◌, ◌∙◌, ◌⊎◌, inl, inr, refl, sym, ap, subst, arith, ℕ}
-use Rattle.std.proofs.Common.{zero, suc, ◌+◌, ◌-◌}
-use Rattle.std.proofs.Common.{◌*◌, ◌<◌, ◌≤◌, min, List, [], ◌++◌, length, take, drop, Option, None}
-use Rattle.std.proofs.Common.{Result, Ok, Err, IsErr, IsErrAnd, add-one, append_assoc, append-nil}
-use Rattle.std.proofs.Common.{length-append, length-drop, length-take, lt_of_mul-lt-mul_right}
-use Rattle.std.proofs.Common.{mul-le-mul_right, take-append-drop}
+use Rattle.std.proofs.Common.{◌≡◌, ◌≢◌, ◌∙◌, ◌⊎◌, inl, inr, refl, sym, ap, subst, arith, ℕ, zero}
+use Rattle.std.proofs.Common.{suc, ◌+◌, ◌-◌, ◌*◌, ◌<◌, ◌≤◌, min, List, [], ◌++◌, length, take, drop}
+use Rattle.std.proofs.Common.{Option, None, Result, Ok, Err, IsErr, IsErrAnd, add-one, append_assoc}
+use Rattle.std.proofs.Common.{append-nil, length-append, length-drop, length-take}
+use Rattle.std.proofs.Common.{lt_of_mul-lt-mul_right, mul-le-mul_right, take-append-drop}
 use Rattle.std.specs.Global.{Vec}
 use Rattle.std.specs.Int.{div_ceil}
 use Rattle.std.proofs.lemmas.Grind.{div_ceil_times}
@@ -16,7 +15,7 @@ use Rattle.usb_bus.specs.{StepRun}
 use Rattle.usb_bus.proofs.Interface.{went_none, went_then, went_wider}
 use Rattle.usb_transaction.specs.{AsksIn, SendsOut, Ends, AttemptsMade, transaction_bound, Target}
 use Rattle.usb_transaction.specs.{TransFault}
-use Rattle.usb_pipe.specs.{packets_of, Turned, FaultAfter, as_pipe_fault, Puts, Gave, Fetches, Came}
+use Rattle.usb_pipe.specs.{packets_of, Turned, FaultAfter, as_pipe_fault, Gave, Fetches, Came}
 use Rattle.usb_pipe.specs.{AllCame, PacketsSent, PacketsReceived, PipeFault}
 use Rattle.usb_pipe.specs.Moves.{start, packet}
 use Rattle.usb_pipe.specs.declared.fault.PipeFault.TheVariants.{Memory}
@@ -39,19 +38,12 @@ pub record Moved (n : ℕ) (first toggle : Toggle) (old : World) (t : Option (Li
 
 moved_none : (first : Toggle) (w : World) (t : Option (List ℕ)) → Moved 0 first first w t w t
 unfolding flips
-moved_none first w t = record {
-  went = went_none;
-  least = omega arith;
-  sound = λ e. e;
-  still = λ lt. absurd (omega arith);
-  turned = refl;
-}
+moved_none first w t = grind (arith, went_none)
 
 module _ {n : ℕ} {first toggle : Toggle} {old mid : World} {t r : Option (List ℕ)}
     (m : Moved n first toggle old t mid r) where
   pub moved_all : {more : ℕ} → n ≤ more → StepRun (transaction_bound * more) old t mid r
-  moved_all {more} le = went_wider (transaction_bound * n) (transaction_bound * more) m.went
-      (omega (arith, le))
+  moved_all le = grind (arith, went_wider)
 
   -- one packet more, whether it was moved or not
   pub moved_went : {more : ℕ} {new : World} {s : Option (List ℕ)} → n < more
@@ -66,11 +58,7 @@ module _ {n : ℕ} {first toggle : Toggle} {old mid : World} {t r : Option (List
   moved_more next w worked e = grind (arith, moved_went, flips_more)
 
   worked_then : {k : ℕ} {new : World} → AttemptsMade k mid new → AttemptsMade k old new
-  worked_then w = record {
-    sound = m.sound w.sound;
-    least = omega (arith, m.least, w.least);
-    still = w.still;
-  }
+  worked_then w = grind (arith, w.sound, w.least, w.still)
 
   lost_ends : (fault : TransFault) (new : World) → Ends {A = List ℕ} mid (Err fault) new
       → FaultAfter 0 old (as_pipe_fault fault) new
@@ -78,11 +66,11 @@ module _ {n : ℕ} {first toggle : Toggle} {old mid : World} {t r : Option (List
 
   -- where the transaction of a further packet left the toggle
   moved_turned : {more : ℕ} {next : Toggle} → n < more → next ≡ toggle → Turned more first next
-  moved_turned lt same = record { packets = n; few = lt; turned = same ∙ m.turned }
+  moved_turned lt same = grind arith
 
 moved_worked : {n : ℕ} {first toggle : Toggle} {old now : World} {t r : Option (List ℕ)} → 0 < n
     → Moved n first toggle old t now r → AttemptsMade n old now
-moved_worked lt m = record { sound = m.sound (m.still lt); least = m.least; still = m.still lt }
+moved_worked lt m = grind (arith, m.sound, m.still, m.least)
 
 -- How many packets
 
@@ -98,8 +86,7 @@ gave_packets t ep first (packet {n} {sent} bytes g full more fits puts) some =
 
 -- full packets leave something over
 pub few_full : (n max total : ℕ) → 1 ≤ max → n * max < total → n < div_ceil total max
-few_full n max total some less = let c = div_ceil_times total max some in
-    lt_of_mul-lt-mul_right max (omega (arith, c, less))
+few_full n max total some less = grind (arith, div_ceil_times, lt_of_mul-lt-mul_right)
 
 -- a packet less is one less of them
 less_by : (p a b c : ℕ) → p * b < c + b → c ≡ a - b → 0 < a → p * b < a
@@ -109,9 +96,7 @@ less_by (suc k) a b c lt is some = let more : suc k * b ≡ k * b + b = omega ar
 
 pub one_packet_less : (total max : ℕ) → 1 ≤ max → 0 < total → (rest : ℕ) → rest ≡ total - max
     → div_ceil rest max + 1 ≤ div_ceil total max
-one_packet_less total max least some rest is = let c = div_ceil_times rest max least in
-    let few = few_full (div_ceil rest max) max total least
-    (less_by (div_ceil rest max) total max rest c.1 is some) in omega (arith, few)
+one_packet_less total max least some rest is = grind (arith, div_ceil_times, few_full, less_by)
 
 pub came_full : {t : Target} {ep : ℕ} {first : Toggle} {old : World} {n : ℕ} {got : List ℕ}
     {new : World} → Came t ep first old n got new → length got ≡ n * t.max
@@ -129,12 +114,10 @@ module _ {t : Target} {ep : ℕ} {first : Toggle} {wanted : ℕ} {old new : Worl
   all_size = grind (arith, ap length a.kept, length-append, came_full a.before)
 
   pub all_packets : 1 ≤ t.max → packets_of (length bytes) t.max wanted ≡ a.packets + 1
-  all_packets least = ap (λ k. packets_of k t.max wanted) all_size
-      ∙ came_packets a.packets (length a.last) t.max wanted least a.few a.ends
+  all_packets least = grind (arith, all_size, came_packets)
 
   all_most : length bytes ≤ wanted * t.max
-  all_most = let wide : (a.packets + 1) * t.max ≤ wanted * t.max =
-      mul-le-mul_right t.max (omega (arith, a.few)) in omega (arith, all_size, a.fits, wide)
+  all_most = grind (arith, all_size, mul-le-mul_right)
 
 -- Packets that are sent
 
@@ -209,8 +192,7 @@ module _ (t : Target) (ep : ℕ) (first : Toggle) (total : List ℕ) (least : 1 
           sent = g.sent ++ take k rest;
           before = packet (take k rest) g.before full (omega (arith, l, is)) (omega (arith, l, is))
               (rw (g.moved.turned, front, x.nothing) at x.heard);
-          split = g.split ∙ ap (λ z. g.sent ++ z) (sym (take-append-drop k rest))
-              ∙ sym (append_assoc g.sent (take k rest) (drop k rest));
+          split = grind (arith, append_assoc, take-append-drop, g.split);
           full = λ more. omega (arith, j, l, d, is, full);
           moved = moved_more g.moved next went x.ends e;
         })
@@ -231,20 +213,7 @@ module _ (t : Target) (ep : ℕ) (first : Toggle) (total : List ℕ) (least : 1 
           record {
             ends = subst (λ w. FaultAfter 0 old w new) (sym said)
                 (lost_ends g.moved fault new x.ends);
-            moves = record {
-              packets = g.packets;
-              sent = g.sent;
-              rest = rest;
-              mid = mid;
-              before = g.before;
-              full = g.full some;
-              split = g.split;
-              some = some;
-              fault = fault;
-              told = said;
-              lost = subst (λ z. Puts t ep z (take t.max rest) mid (Err fault) new) g.moved.turned
-                  (subst (λ z. Puts t ep toggle z mid (Err fault) new) (front ∙ fitting) x.heard);
-            };
+            moves = grind (arith, g.before, g.full, g.split, g.moved.turned, x.heard);
             behind = same ∙ g.moved.turned;
             room = room;
             turned = tt;
@@ -371,17 +340,7 @@ module _ (t : Target) (ep : ℕ) (first : Toggle) {old : World} {text : Option (
         → next ≡ other toggle → PacketsReceived t ep first wanted old result next new
     room_received last (Err why) err said x e = record {
       ends = subst (λ w. FaultAfter 0 old w new) (sym said) (worked_then c.moved x.ends);
-      moves = inr (record {
-        packets = n;
-        few = few;
-        got = got;
-        mid = mid;
-        before = c.came;
-        last = last;
-        told = said;
-        came = rw c.moved.turned at x.heard;
-        fits = x.short;
-      });
+      moves = grind (arith, c.came, c.moved.turned, x.heard, x.short);
       behind = flips_more n first toggle next c.moved.turned e;
       most = tt;
       turned = tt;

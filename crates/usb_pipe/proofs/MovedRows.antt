@@ -14,11 +14,11 @@ use Rattle.usb_packet.specs.{Toggle, other, flips}
 use Rattle.usb_world.specs.{World}
 use Rattle.usb_bus.specs.{StepRun}
 use Rattle.usb_bus.proofs.Interface.{went_then, went_wider}
-use Rattle.usb_transaction.specs.{AskedFull, AttemptsMade, Ends, RowCame, RowGone, RowKept}
-use Rattle.usb_transaction.specs.{RowLost, SentFull, Target, TransFault, none_asked}
-use Rattle.usb_transaction.specs.{none_sent, one_asked, one_sent, transaction_bound}
-use Rattle.usb_pipe.specs.{Came, FaultAfter, Fetches, Gave, PacketsReceived, PacketsSent}
-use Rattle.usb_pipe.specs.{PipeFault, Puts, as_pipe_fault}
+use Rattle.usb_transaction.specs.{AskedFull, AttemptsMade, Ends, RowCame, RowGone, RowKept, RowLost}
+use Rattle.usb_transaction.specs.{SentFull, Target, TransFault, none_asked, none_sent, one_asked}
+use Rattle.usb_transaction.specs.{one_sent, transaction_bound}
+use Rattle.usb_pipe.specs.{Came, FaultAfter, Fetches, Gave, PacketsReceived, PacketsSent, PipeFault}
+use Rattle.usb_pipe.specs.{Puts, as_pipe_fault}
 use Rattle.usb_pipe.specs.Moves.{packet}
 use Rattle.usb_pipe.specs.declared.fault.PipeFault.TheVariants.{Memory}
 use Rattle.usb_pipe.proofs.MovedPackets.{Coming, Moved, PacketsMoving, all_received, few_full}
@@ -26,11 +26,7 @@ use Rattle.usb_pipe.proofs.MovedPackets.{Coming, Moved, PacketsMoving, all_recei
 -- How many packets
 
 ceil_least : (a max n : ℕ) → 1 ≤ max → n * max < a + max → n ≤ div_ceil a max
-ceil_least a max n least lt =
-    let c = div_ceil_times a max least in
-    let more : suc (div_ceil a max) * max ≡ div_ceil a max * max + max = omega arith in
-    let less : n < suc (div_ceil a max) = lt_of_mul-lt-mul_right max (omega (arith, c, more, lt)) in
-    omega (arith, less)
+ceil_least a max n least lt = grind (arith, div_ceil_times, lt_of_mul-lt-mul_right)
 
 both_times : (p n max rest after row : ℕ) → p * max < after + max → n * max < row + max → row ≤ rest
     → after ≡ rest - min rest (n * max) → (p + n) * max < rest + max
@@ -52,8 +48,7 @@ rows_less max rest n row after least le few is =
 
 -- fewer bytes are no more packets
 pub fewer_packets : (max row rest : ℕ) → 1 ≤ max → row ≤ rest → div_ceil row max ≤ div_ceil rest max
-fewer_packets max row rest least le = let d = div_ceil_times row max least in
-    ceil_least rest max (div_ceil row max) least (omega (arith, d, le))
+fewer_packets max row rest least le = grind (arith, ceil_least, div_ceil_times)
 
 -- packets after full ones
 more_packets : (n max row rest total : ℕ) → 1 ≤ max → row ≤ rest → total ≡ n * max + rest
@@ -122,10 +117,7 @@ record Lasted (n : ℕ) (old new : World) : Type 0 where
 
 one_more : {n : ℕ} {old mid new : World} → Lasted n old mid → AttemptsMade 1 mid new
     → Lasted (n + 1) old new
-one_more l w = record {
-  least = omega (arith, l.least, w.least);
-  sound = λ _. l.sound w.sound;
-}
+one_more l w = grind (arith, l.least, l.sound, w.least, w.sound)
 
 none_lasted : (w : World) → Lasted 0 w w
 none_lasted w = record { least = omega arith; sound = λ e. e }
@@ -147,11 +139,7 @@ module _ {n : ℕ} {first toggle : Toggle} {old mid : World} {t r : Option (List
 
   -- or without
   row_worked : {k : ℕ} {new : World} → AttemptsMade k now new → AttemptsMade k old new
-  row_worked w = record {
-    sound = m.sound (l.sound w.sound);
-    least = omega (arith, m.least, l.least, w.least);
-    still = w.still;
-  }
+  row_worked w = grind (arith, w.sound, w.least, w.still)
 
   row_ends : (fault : TransFault) (new : World) → Ends {A = List ℕ} now (Err fault) new
       → FaultAfter 0 old (as_pipe_fault fault) new
@@ -207,17 +195,10 @@ module _ (t : Target) (ep : ℕ) (first : Toggle) (total : List ℕ) (least : 1 
     row_before = sent_more g.before (g.full some) g.moved.turned s
 
     row_full : length (g.sent ++ sent) ≡ (g.packets + full) * t.max
-    row_full = omega (
-      arith,
-      length-append g.sent sent,
-      g.full some,
-      long,
-      add-mul g.packets full t.max,
-    )
+    row_full = grind (arith, add-mul, length-append)
 
     row_due : flips full toggle ≡ flips (g.packets + full) first
-    row_due = ap (λ z. flips full z) g.moved.turned
-        ∙ sym (flips_add full g.packets (g.packets + full) first refl)
+    row_due = grind (arith, flips_add)
 
     -- a row has at most 64 packets
     full_few : full < 64
@@ -227,8 +208,7 @@ module _ (t : Target) (ep : ℕ) (first : Toggle) (total : List ℕ) (least : 1 
 
     gone_parts : (n : ℕ) → n ≡ full + 1
         → sent ++ take t.max left ≡ take (min (length rest) (n * t.max)) rest
-    gone_parts n count = row_parts rest row sent left m full n t.max cut size split long count
-        (omega (arith, full_few, count))
+    gone_parts n count = grind (arith, full_few, row_parts)
 
   -- some packets went
   pub going_row : {new : World} {written : Option (List ℕ)} {next : Toggle} (n c : ℕ)
@@ -258,18 +238,8 @@ module _ (t : Target) (ep : ℕ) (first : Toggle) (total : List ℕ) (least : 1 
         sent = g.sent ++ take c rest;
         before = subst P count (subst (λ z. Gave t ep first old (g.packets + x.full + 1) z new)
             whole gave);
-        split = g.split ∙ ap (λ z. g.sent ++ z) (sym (take-append-drop c rest))
-            ∙ sym (append_assoc g.sent (take c rest) (drop c rest));
-        full = λ still. omega (
-          arith,
-          length-append g.sent (take c rest),
-          length-take c rest,
-          length-drop c rest,
-          g.full some,
-          is,
-          still,
-          add-mul g.packets n t.max,
-        );
+        split = grind (arith, append_assoc, take-append-drop, g.split);
+        full = grind (arith, add-mul, length-append, length-drop, length-take, g.full);
         moved = row_moved g.moved (sent_lasted f.before) n next x.count went x.went.ends x.turned;
       })
 
@@ -304,8 +274,7 @@ module _ (t : Target) (ep : ℕ) (first : Toggle) (total : List ℕ) (least : 1 
       in
       let due = row_due f.sent f.rest f.split f.size f.some f.before in (
         record {
-          ends = subst (λ w. FaultAfter 0 old w new) (sym said)
-              (row_ends g.moved (sent_lasted f.before) fault new x.lost.ends);
+          ends = grind (arith, row_ends, sent_lasted, g.moved, x.lost.ends);
           moves = record {
             packets = packets;
             sent = g.sent ++ f.sent;
@@ -379,8 +348,7 @@ module _ (t : Target) (ep : ℕ) (first : Toggle) {old : World} {text : Option (
     asked_before = came_more g.coming.came g.coming.moved.turned s
 
     asked_due : flips full toggle ≡ flips (g.packets + full) first
-    asked_due = ap (λ z. flips full z) g.coming.moved.turned
-        ∙ sym (flips_add full g.packets (g.packets + full) first refl)
+    asked_due = grind (arith, flips_add)
 
     asked_few : g.packets + full < wanted
     asked_few = omega (arith, g.count, few, less)
@@ -395,19 +363,14 @@ module _ (t : Target) (ep : ℕ) (first : Toggle) {old : World} {text : Option (
         x.came.heard
 
     row_kept : kept ≡ (got ++ x.got) ++ x.last
-    row_kept = is ∙ ap (λ z. got ++ z) x.kept ∙ sym (append_assoc got x.got x.last)
+    row_kept = grind (arith, append_assoc)
 
     row_next_moved : Moved (g.packets + n) first next old text new written
     row_next_moved = row_moved g.coming.moved (asked_lasted x.before) n next x.count went
         x.came.ends x.turned
 
     came_size : length row ≡ x.full * t.max + length x.last
-    came_size = omega (
-      arith,
-      ap length x.kept,
-      length-append x.got x.last,
-      asked_size x.before,
-    )
+    came_size = grind (arith, asked_size, length-append)
 
     came_one : n * t.max ≡ x.full * t.max + t.max
     came_one = rw x.count (omega (arith, add-mul x.full 1 t.max))
@@ -490,8 +453,7 @@ module _ (t : Target) (ep : ℕ) (first : Toggle) {old : World} {text : Option (
       let due = asked_due x.few x.before in
       let less = asked_few x.few x.before in
       record {
-        ends = subst (λ w. FaultAfter 0 old w new) (sym said)
-            (row_ends g.coming.moved (asked_lasted x.before) fault new x.lost.ends);
+        ends = grind (arith, asked_lasted, row_ends, g.coming.moved, x.lost.ends);
         moves = inl (record {
           packets = g.packets + x.full;
           few = less;

@@ -1,29 +1,26 @@
 -- A poll of an endpoint that gives packets: what it leaves of each device, why it fails, and the
 -- record of a call.
-use Rattle.std.proofs.Common.{◌≡◌, ◌≢◌, ◌∙◌, refl, sym, ap, subst, arith, true, false, ℕ, ◌≤◌, List}
-use Rattle.std.proofs.Common.{Option, None, Some, Result, Ok, Err, OnOk}
+use Rattle.std.proofs.Common.{◌≡◌, ◌≢◌, ◌∙◌, refl, sym, subst, arith, true, false, ℕ, ◌≤◌, List}
+use Rattle.std.proofs.Common.{Option, None, Some, Result, Ok, Err}
 use Rattle.arrayvec.specs.ArrayVec.{ArrayVec}
-use Rattle.usb_device.specs.{Location, State, SourceAt, in_end, next_place}
+use Rattle.usb_device.specs.{Location, State, SourceAt, next_place}
 use Rattle.usb_tree.specs.{IsSettled}
-use Rattle.usb_world.specs.{World, EachWas}
+use Rattle.usb_world.specs.{World, EachWas, Relation}
 use Rattle.usb_world.proofs.Interface.{each_none, each_wider}
-use Rattle.usb_transaction.specs.{Target, TransFault, Answerer, NoThreeDamaged, SourcePolled}
+use Rattle.usb_transaction.specs.{TransFault, Answerer, NoThreeDamaged, SourcePolled}
 use Rattle.usb_transaction.specs.{SourcePollFailure, is_at, toggle_after}
 use Rattle.usb_transaction.specs.declared.fault.TransFault.TheVariants as trans
-use Rattle.usb_transaction.proofs.Interface.{source_kept, source_poll_why, source_polled}
+use Rattle.usb_transaction.proofs.Interface.{source_kept, DeviceTold, told_leaves, told_why}
+use Rattle.usb_transaction.proofs.Interface.{source_poll_told}
 use Rattle.usb_pipe.specs.{InPipeInSync, IsNoBusFault, PacketFailure, PacketLeaves, PipeFault}
-use Rattle.usb_pipe.specs.{PipePoll, PipePolls, PipeState, PollsOnce, Polls, Unshared}
-use Rattle.usb_pipe.specs.{as_pipe_fault, is_broken, packet_target, pipe_known, polled_pipe}
+use Rattle.usb_pipe.specs.{PipePoll, PipePolls, PipeState, PollsOnce, Polls, as_pipe_fault}
+use Rattle.usb_pipe.specs.{is_broken, pipe_known, polled_pipe}
 use Rattle.usb_pipe.specs.declared.condition.Condition.TheVariants.{Ready, Broken}
 use Rattle.usb_pipe.specs.declared.fault.PipeFault.TheVariants as pipe_fault
 use Rattle.usb_pipe.proofs.Answerers.{of_device, who_polls}
-use Rattle.usb_pipe.proofs.BulkCalls.{poll_by, ready_or}
+use Rattle.usb_pipe.proofs.BulkCalls.{poll_by, ready_or, end_of}
 use Rattle.usb_pipe.proofs.BulkTransfers.{listens_packet}
 use Rattle.usb_pipe.proofs.TransferLosses.{losses_same, poll_losses}
-
--- the device, at the endpoint of a pipe
-abbrev end_of : PipeState → Target
-end_of pipe = packet_target pipe.target pipe.max
 
 -- the answer of a poll, as a call and as its transaction tell it
 abbrev Answer : Type 0
@@ -43,9 +40,7 @@ turned pipe result = record pipe { toggle = toggle_after pipe.toggle result }
 
 pipe_turned : (pipe : PipeState) (result : Answer) (left : PipeState) (old new : World)
     → PollsOnce pipe old result left new → left ≡ turned pipe result
-pipe_turned pipe result left old new x = x.pipe_left
-    ∙ ap {A = _} {B = PipeState} (λ toggle. record pipe { toggle = toggle })
-    (ap (λ l. l.toggle) x.polls.pipe_left)
+pipe_turned pipe result left old new x = grind (arith, x.pipe_left, x.polls.pipe_left)
 
 -- One device and its pipe
 
@@ -59,8 +54,7 @@ module _ (pipe : PipeState) (least : 1 ≤ pipe.max) (works : pipe.condition ≢
   still told y h got f at = record {
     endpoint = source_kept pipe.ep pipe.max s v (y.frame pipe.max f.endpoint) f.endpoint;
     level = at;
-    halted = λ r. ap (λ q. (in_end q pipe.ep).state.halted)
-        (y.halted h pipe.max f.endpoint (f.halted r)).0 ∙ f.halted r;
+    halted = grind (arith, y.halted, f.halted);
   }
 
   failed_still : (why : PipeFault) (fault : TransFault) → why ≡ as_pipe_fault fault
@@ -140,90 +134,67 @@ module _ (pipe : PipeState) (least : 1 ≤ pipe.max) (works : pipe.condition ≢
 -- a call that makes no attempt
 idle_leaves : (pipe : PipeState) (j : Location) (s : State)
     → PacketLeaves pipe (Err pipe_fault.Broken) pipe j s s
-idle_leaves pipe j s = record {
-  others = λ h. refl;
-  frame = λ i. record { rest = refl; others = λ a h. refl };
-  gave = λ h got f. record { behind = got; come = refl; level = f };
-  none = λ h i few each e. cc e;
-  stalled = λ h i e. cc e;
-  halted = λ h i c. (refl, λ got e. cc e);
-  paced = λ h limit i p. p;
-}
-
--- A call
-
-asked_leaves : (pipe : PipeState) (result : Answer) (left : PipeState) (old new : World)
-    → 1 ≤ pipe.max → pipe.condition ≢ Broken → PollsOnce pipe old result left new
-    → new.shared ≡ false → EachWas (PacketLeaves pipe result (turned pipe result)) old new
-asked_leaves pipe (Ok None) left old new least works x single =
-    each_wider _ _ (none_came pipe least works) old new
-    (source_polled (end_of pipe) pipe.ep pipe.toggle (Ok None) old new x.settled x.polls.asked
-    single)
-asked_leaves pipe (Ok (Some packet)) left old new least works x single =
-    each_wider _ _ (λ j s v. one_came pipe least works j s v packet) old new
-    (source_polled (end_of pipe) pipe.ep pipe.toggle (Ok (Some packet.items)) old new x.settled
-    x.polls.asked single)
-asked_leaves pipe (Err why) left old new least works x single =
-    let n = x.polls.asked in
-    each_wider _ _ (λ j s v. failed pipe least works j s v why n.fault n.told) old new
-    (source_polled (end_of pipe) pipe.ep pipe.toggle (Err n.fault) old new x.settled n.polled
-    single)
-
-pub packet_leaves : (pipe : PipeState) (result : Answer) (left : PipeState) (old new : World)
-    → 1 ≤ pipe.max → PipePolls pipe old result left new → new.shared ≡ false
-    → EachWas (PacketLeaves pipe result left) old new
-packet_leaves pipe result left old new least x single =
-    poll_by (EachWas (PacketLeaves pipe result left) old new)
-    (λ i. rw (i.answer, i.pipe_kept, i.world_kept) (each_none _ (idle_leaves pipe) old))
-    (λ works y. rw (pipe_turned pipe result left old new y)
-    (asked_leaves pipe result left old new least works y single)) x
+idle_leaves pipe j s = grind arith
 
 -- why it fails
 
 never_failed : (pipe : PipeState) (result : Answer) → result ≢ Err pipe_fault.NoAnswer
-    → result ≢ Err pipe_fault.Busy → (j : Location) (s v : State) → PacketFailure pipe result j s v
-never_failed pipe result answered waited j s v = record {
-  answered = λ l i short. (answered, waited);
-  halted = λ l i c. (answered, waited);
-}
+    → result ≢ Err pipe_fault.Busy → {j : Location} {s v : State} → PacketFailure pipe result j s v
+never_failed pipe result answered waited = grind arith
 
 failed_why : (pipe : PipeState) (why : PipeFault) (fault : TransFault) → why ≡ as_pipe_fault fault
     → (j : Location) (s v : State)
     → SourcePollFailure (end_of pipe) pipe.ep pipe.toggle (Err fault) j s v
     → PacketFailure pipe (Err why) j s v
-failed_why pipe why fault told j s v y = record {
-  answered = λ l i short.
-      let z = y.answered (listens_packet pipe.target pipe.max j s s refl refl l) pipe.max i short in (
-        λ e. z.0 (same_told why fault trans.NoAnswer told e),
-        λ e. z.1 (same_told why fault trans.Busy told e),
-      );
-  halted = λ l i c.
-      let z = y.halted (listens_packet pipe.target pipe.max j s s refl refl l) pipe.max i c in (
-        λ e. z.0 (same_told why fault trans.NoAnswer told e),
-        λ e. z.1 (same_told why fault trans.Busy told e),
-      );
-}
+failed_why pipe why fault told j s v y =
+    grind (arith, listens_packet, same_told, y.answered, y.halted)
 
-module _ (pipe : PipeState) (left : PipeState) (old new : World) (least : 1 ≤ pipe.max)
+-- A call
+
+module _ (pipe left : PipeState) (old new : World) (least : 1 ≤ pipe.max)
     (single : new.shared ≡ false) where
-  not_failed : (result : Answer) → PipePolls pipe old result left new
-      → result ≢ Err pipe_fault.NoAnswer → result ≢ Err pipe_fault.Busy
-      → EachWas (PacketFailure pipe result) old new
-  not_failed result x answered waited =
-      each_wider (PacketLeaves pipe result left) _
-      (λ j s v y. never_failed pipe result answered waited j s v) old new
-      (packet_leaves pipe result left old new least x single)
+  abbrev PacketSaid : PipeState → Answer → Relation
+  PacketSaid now result = DeviceTold (PacketLeaves pipe result now) (PacketFailure pipe result) old
+
+  asked_told : (result : Answer) → pipe.condition ≢ Broken → PollsOnce pipe old result left new
+      → EachWas (PacketSaid (turned pipe result) result) old new
+  asked_told (Ok None) works x =
+      each_wider _ _ (λ j s v y. record {
+        leaves = none_came pipe least works j s v y.leaves;
+        why = λ three. never_failed pipe (Ok None) (λ e. cc e) (λ e. cc e);
+      }) old new
+      (source_poll_told (end_of pipe) pipe.ep pipe.toggle (Ok None) old new x.settled x.polls.asked
+      single)
+  asked_told (Ok (Some packet)) works x =
+      each_wider _ _ (λ j s v y. record {
+        leaves = one_came pipe least works j s v packet y.leaves;
+        why = λ three. never_failed pipe (Ok (Some packet)) (λ e. cc e) (λ e. cc e);
+      }) old new
+      (source_poll_told (end_of pipe) pipe.ep pipe.toggle (Ok (Some packet.items)) old new x.settled
+      x.polls.asked single)
+  asked_told (Err why) works x =
+      let n = x.polls.asked in
+      each_wider _ _ (λ j s v y. record {
+        leaves = failed pipe least works j s v why n.fault n.told y.leaves;
+        why = λ three. failed_why pipe why n.fault n.told j s v (y.why three);
+      }) old new
+      (source_poll_told (end_of pipe) pipe.ep pipe.toggle (Err n.fault) old new x.settled n.polled
+      single)
+
+  each_packet : (result : Answer) → PipePolls pipe old result left new
+      → EachWas (PacketSaid left result) old new
+  each_packet result x =
+      grind (arith, asked_told, each_none, idle_leaves, never_failed, pipe_turned, poll_by)
 
   pub packet_why : (result : Answer) → NoThreeDamaged old → PipePolls pipe old result left new
       → EachWas (PacketFailure pipe result) old new
-  packet_why (Ok got) three x = not_failed (Ok got) x (λ e. cc e) (λ e. cc e)
-  packet_why (Err why) three x =
-      poll_by (EachWas (PacketFailure pipe (Err why)) old new)
-      (λ i. not_failed (Err why) x (λ e. cc (i.answer, e)) (λ e. cc (i.answer, e)))
-      (λ works y. let n = y.polls.asked in
-      each_wider _ _ (failed_why pipe why n.fault n.told) old new
-      (source_poll_why (end_of pipe) pipe.ep pipe.toggle (Err n.fault) old new y.settled three
-      n.polled single)) x
+  packet_why result three x = told_why old new three (each_packet result x)
+
+pub packet_leaves : (pipe : PipeState) (result : Answer) (left : PipeState) (old new : World)
+    → 1 ≤ pipe.max → PipePolls pipe old result left new → new.shared ≡ false
+    → EachWas (PacketLeaves pipe result left) old new
+packet_leaves pipe result left old new least x single =
+    told_leaves old new (each_packet pipe left old new least single result x)
 
 -- who answered, and the losses
 
@@ -248,18 +219,8 @@ packet_losses pipe result left old new other x sound =
 
 pub packet_told : (pipe : PipeState) (result : Answer) (left : PipeState) (old new : World)
     → 1 ≤ pipe.max → PipePolls pipe old result left new → PipePoll pipe old result left new
-packet_told pipe result left old new least x = record {
-  polls = x;
-  what = packet_leaves pipe result left old new least x;
-  why = λ three sound single. packet_why pipe left old new least single result three x;
-  who = who result x;
-  losses = λ other. packet_losses pipe result left old new other x;
-}
-  where
-    who : (r : Answer) → PipePolls pipe old r left new
-        → OnOk r (Unshared new (Answerer pipe.target old new))
-    who (Ok got) x = who_packets pipe got left old new x
-    who (Err why) x = tt
+packet_told pipe result left old new least x =
+    grind (arith, packet_leaves, packet_losses, packet_why, who_packets)
 
 -- one that was made, and one that a broken pipe refuses; the pipe is as it was read
 
@@ -277,9 +238,4 @@ polls_by read pipe result left old new same least works x is settled =
 
 pub polls_broken : (pipe : PipeState) (w : World) → 1 ≤ pipe.max
     → is_broken pipe.condition ≡ true → PipePoll pipe w (Err pipe_fault.Broken) pipe w
-polls_broken pipe w least e =
-    let broken : pipe.condition ≡ Broken = grind arith in
-    packet_told pipe (Err pipe_fault.Broken) pipe w w least (record {
-      broken = λ e. record { answer = refl; pipe_kept = refl; world_kept = refl };
-      asked = λ works. absurd (works broken);
-    })
+polls_broken pipe w least e = grind (arith, packet_told)

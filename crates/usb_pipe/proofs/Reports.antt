@@ -1,6 +1,6 @@
 -- Polls through one pipe, one after another: what they tell are the next packets of the endpoint.
-use Rattle.std.proofs.Common.{◌≡◌, ◌≢◌, ◌∙◌, refl, sym, ap, subst, arith, true, false}
-use Rattle.std.proofs.Common.{ℕ, List, [], ◌++◌, Option, None, Some, Result, Ok, Err, append-nil}
+use Rattle.std.proofs.Common.{◌≡◌, ◌≢◌, ◌∙◌, refl, ap, subst, arith, true, false, ℕ, List, [], ◌++◌}
+use Rattle.std.proofs.Common.{Option, None, Some, Result, Ok, Err, append-nil}
 use Rattle.arrayvec.specs.ArrayVec.{ArrayVec}
 use Rattle.usb_device.specs.{GivesOn, IsSource, Location, OnlySource, State, in_data}
 use Rattle.usb_device.proofs.Interface.{gives-append}
@@ -10,9 +10,9 @@ use Rattle.usb_world.proofs.Interface.{each_joined, each_none}
 use Rattle.usb_transaction.specs.{in_attempt, is_at, polled_as}
 use Rattle.usb_transaction.proofs.Interface.{others_stay_then, source_at_kept, source_kept}
 use Rattle.usb_transaction.proofs.Interface.{trail_unshared, transacted_unshared}
-use Rattle.usb_pipe.specs.{FaultAfter, GaveReports, InPipeInSync, Interrupt, PacketLeaves, PipeFault}
-use Rattle.usb_pipe.specs.{PipePolls, PipeState, PollAsked, PollsInTurn, ReportsLeave}
-use Rattle.usb_pipe.specs.{pipe_known, polled_pipe, report_in}
+use Rattle.usb_pipe.specs.{FaultAfter, GaveReports, InPipeInSync, Interrupt, PacketLeaves}
+use Rattle.usb_pipe.specs.{PipeFault, PipePolls, PipeState, PollAsked, PollsInTurn, ReportsLeave}
+use Rattle.usb_pipe.specs.{pipe_known, report_in}
 use Rattle.usb_pipe.specs.Reports.{start, poll}
 use Rattle.usb_pipe.specs.declared.fault.PipeFault.TheVariants as pipe_fault
 use Rattle.usb_pipe.proofs.BulkCalls.{poll_by}
@@ -33,16 +33,12 @@ asked_unshared pipe (Err why) old new settled x single =
 
 poll_unshared : {pipe left : PipeState} {result : Answer} {old new : World}
     → PipePolls pipe old result left new → new.shared ≡ false → old.shared ≡ false
-poll_unshared {pipe} {left} {result} {old} {new} x single =
-    poll_by (old.shared ≡ false) (λ i. ap (λ w. w.shared) (sym i.world_kept) ∙ single)
-    (λ works y. asked_unshared (polled_pipe pipe) result old new y.settled y.polls.asked single) x
+poll_unshared x single = grind (arith, asked_unshared, poll_by)
 
 -- of a pipe only the toggle changes
 poll_keeps : {pipe left : PipeState} {result : Answer} {old new : World}
     → PipePolls pipe old result left new → left ≡ record pipe { toggle = left.toggle }
-poll_keeps {pipe} {left} x =
-    poll_by (left ≡ record pipe { toggle = left.toggle }) (λ i. rw i.pipe_kept refl)
-    (λ works y. y.pipe_left) x
+poll_keeps x = grind (arith, poll_by)
 
 -- a bus that has given up tells no packet, and does not go on
 module _ (why : PipeFault) (old new : World) (fault : BusFault) where
@@ -52,28 +48,12 @@ module _ (why : PipeFault) (old new : World) (fault : BusFault) where
 none_told : {pipe left : PipeState} {old new : World} (result : Answer) (fault : BusFault)
     → old.fault ≡ Some fault → PipePolls pipe old result left new
     → (report_in result ≡ []) × (new.fault ≢ None)
-none_told {old = old} {new = new} (Ok got) fault gone x =
-    poll_by _ (λ i. cc i.answer) (λ works y. cc (sym gone ∙ y.polls.ends.sound)) x
-none_told {old = old} {new = new} (Err why) fault gone x =
-    poll_by _ (λ i. (refl, λ e. cc (sym gone ∙ ap (λ w. w.fault) (sym i.world_kept) ∙ e)))
-    (λ works y. (refl, given_up why old new fault y.polls.ends gone)) x
+none_told = grind (arith, given_up, poll_by)
 
 -- while the bus is at work the pipe that is left is the one that is known
 known_left : {pipe left : PipeState} {old new : World} (result : Answer) → new.fault ≡ None
     → PipePolls pipe old result left new → pipe_known result left ≡ left
-known_left (Ok got) works x = refl
-known_left {left = left} {old = old} {new = new} (Err why) works x =
-    poll_by _ (λ i. by_answer why i.answer) (λ able y. by_fault why y.polls.ends) x
-  where
-    by_answer : (why : PipeFault) → ◌≡◌ {A = Answer} (Err why) (Err pipe_fault.Broken)
-        → pipe_known {A = Option (ArrayVec ℕ)} (Err why) left ≡ left
-    by_answer (pipe_fault.Bus fault) e = cc e
-    by_answer why e = refl
-
-    by_fault : (why : PipeFault) → FaultAfter 0 old why new
-        → pipe_known {A = Option (ArrayVec ℕ)} (Err why) left ≡ left
-    by_fault (pipe_fault.Bus fault) ends = cc (sym works ∙ ends.told)
-    by_fault why ends = refl
+known_left result works x = grind (arith, poll_by)
 
 -- Polls in turn
 
@@ -93,17 +73,13 @@ module _ (pipe mid left : PipeState) (packets : List (List ℕ)) (result : Answe
     source_then = source_kept pipe.ep pipe.max s u (x.frame i) i
 
     frame_then : OnlySource pipe.ep u v
-    frame_then = subst (λ q. IsSource q.ep q.max u → OnlySource q.ep u v) kept y.frame source_then
+    frame_then = grind (arith, source_then)
 
     same_data : in_data u pipe.ep ≡ in_data s pipe.ep
     same_data = ap (λ q. in_data q pipe.ep) (x.frame i).rest
 
     frame_both : OnlySource pipe.ep s v
-    frame_both = record {
-      rest = frame_then.rest ∙ ap {A = State} (λ q. record q { memory = v.memory; ins = v.ins })
-          (x.frame i).rest;
-      others = λ a h. frame_then.others a h ∙ (x.frame i).others a h;
-    }
+    frame_both = grind (arith, frame_then)
 
     at_then : is_at s pipe.target ≡ true → is_at u mid.target ≡ true
     at_then h = rw kept (source_at_kept pipe.target s u (x.frame i) h)
@@ -130,27 +106,17 @@ module _ (pipe mid left : PipeState) (packets : List (List ℕ)) (result : Answe
           (subst (λ q. GivesOn (in_data u q.ep) q.max before.behind (report_in result) z.behind)
           kept z.come) in record {
             behind = z.behind;
-            come = gives-append (in_data s pipe.ep) pipe.max got before.behind z.behind packets
-                (report_in result) before.come come;
+            come = grind (arith, gives-append, before.behind, z.behind, before.come);
             level = λ works. subst (λ q. InPipeInSync q z.behind v) (known_left result works p)
                 z.level;
           }
 
   reports_then : ReportsLeave pipe (packets ++ report_in result) left new j s v
-  reports_then = record {
-    others = λ h. others_stay_then pipe.target s u v x.others
-        (subst (λ q. is_at u q.target ≡ false → v ≡ u) kept y.others) h;
-    frame = frame_both;
-    gave = gave_then;
-  }
+  reports_then = grind (arith, frame_both, gave_then, others_stay_then)
 
 reports_none : (pipe : PipeState) (w : World) (j : Location) (s : State)
     → ReportsLeave pipe [] pipe w j s s
-reports_none pipe w j s = record {
-  others = λ h. refl;
-  frame = λ i. record { rest = refl; others = λ a h. refl };
-  gave = λ h got f. record { behind = got; come = refl; level = λ works. f };
-}
+reports_none pipe w j s = grind arith
 
 pub reports_leave : (pipe : PipeState) (old : World) (packets : List (List ℕ)) (left : PipeState)
     (new : World) → PollsInTurn pipe old packets left new → new.shared ≡ false

@@ -1,5 +1,5 @@
 -- How calls over a bus join.
-use Rattle.std.proofs.Common.{◌≤◌, ◌+◌, ◌∙◌, ℕ, Bool, List, Option, arith, refl}
+use Rattle.std.proofs.Common.{◌≤◌, ◌+◌, ◌∙◌, ℕ, Bool, List, Option, arith}
 use Rattle.usb_world.specs.{BusFault, World}
 use Rattle.usb_bus.specs.{Steps}
 use Rattle.usb_bus.proofs.Interface.{went_none, went_then, went_wider}
@@ -11,25 +11,17 @@ module _ {S : Type 0} {modelled : Bool} {spent ports : S → ℕ} {failed : S �
       {old new : S} → UsesBus modelled Went spent ports failed n Told old new
       → (Told (failed new) → To (failed new))
       → UsesBus modelled Went spent ports failed n To old new
-  uses_as u so = record { spends = u.spends; told = so u.told; steps = u.steps }
+  uses_as u so = grind (arith, u.spends, u.told, u.steps)
 
   module _ {world : S → World} {trace : S → Option (List ℕ)} where
     pub uses_none : {n : ℕ} {Told : Option BusFault → Type 0} {old : S} → Told (failed old)
         → UsesBus modelled (Steps world trace) spent ports failed n Told old old
-    uses_none {n = n} told = record {
-      spends = (omega arith, refl);
-      told = told;
-      steps = λ known. went_wider 0 n went_none (omega arith);
-    }
+    uses_none = grind (arith, went_none, went_wider)
 
     pub uses_wider : {m n : ℕ} {Told : Option BusFault → Type 0} {old new : S}
         → UsesBus modelled (Steps world trace) spent ports failed m Told old new → m ≤ n
         → UsesBus modelled (Steps world trace) spent ports failed n Told old new
-    uses_wider {m = m} {n = n} u le = record {
-      spends = (omega (arith, u.spends.0, le), u.spends.1);
-      told = u.told;
-      steps = λ known. went_wider m n (u.steps known) le;
-    }
+    uses_wider = grind (arith, went_wider)
 
     pub uses_then : {m n : ℕ} {Told To : Option BusFault → Type 0} {old mid new : S}
         → UsesBus modelled (Steps world trace) spent ports failed m Told old mid

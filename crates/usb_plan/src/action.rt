@@ -11,6 +11,7 @@ ghost use Rattle.usb_plan.specs.declared.entry_fault.EntryFault.TheVariants.{Mem
 
 use crate::endpoints::address_at;
 use crate::entry_fault::{EntryFault, fault_in_part, least_fault};
+use crate::keys::MOST_PACKETS;
 use crate::members::EventMembers;
 use crate::path::{free_path, read_path, taken_path};
 use crate::quirks::flag_at;
@@ -45,7 +46,7 @@ fn bytes_at(alloc: Global, value: Option<&Value>) -> Result<SentBytes, EntryFaul
 fn packets_at(value: Option<&Value>) -> Result<u16, EntryFault>
     ensures { result ≡ packets_at (option_map (λ v. view v.now) value.entry) }
 {
-    let packets = number_at(0, 1000, value)?;
+    let packets = number_at(0, MOST_PACKETS, value)?;
     Ok(packets as u16)
 }
 

@@ -7,6 +7,7 @@ ghost use Rattle.usb_plan.specs.Bulk.{source_at, halt_in, halt_at, bulk_with, re
 ghost use Rattle.usb_plan.specs.declared.entry_fault.EntryFault.TheVariants.{Memory};
 
 use crate::entry_fault::{EntryFault, fault_in_part, least_fault};
+use crate::keys::MOST_BEFORE_HALT;
 use crate::value::{hex_in, number_in, value_at};
 use std::alloc::Global;
 use toml::{Table, Value};
@@ -28,7 +29,7 @@ fn source_at(alloc: Global, value: Option<&Value>) -> Result<Bytes<65535>, Entry
 fn halt_in(number: Option<i64>) -> Result<Option<u16>, EntryFault>
     ensures { result ≡ halt_in number }
 {
-    let packets = number_in(1, 65535, number)?;
+    let packets = number_in(1, MOST_BEFORE_HALT, number)?;
     Ok(Some(packets as u16))
 }
 

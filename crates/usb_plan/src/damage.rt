@@ -9,17 +9,11 @@ ghost use Rattle.usb_plan.specs.Damage.{attempt_at, packet_number, way_named, wa
 
 use crate::entry_fault::{EntryFault, entry_at, fault_in_part, least_fault};
 use crate::fault::{Place, PlanFault};
-use crate::keys::{keys_at, no_when};
+use crate::keys::{LAST_ATTEMPT, LAST_BIT, LAST_PACKET, MOST_DAMAGES, keys_at, no_when};
 use crate::value::{number_at, read_text, value_at};
 use std::alloc::Global;
 use toml::{Table, Value};
 use usb_world::{Damage, Damages, Harm};
-
-/// The last attempt that a number of the document can name.
-const LAST_ATTEMPT: u64 = (1 << 63) - 1;
-
-/// The most damages of a plan.
-const MOST_DAMAGES: usize = 10_000;
 
 /// The key `attempt`: after the last one.
 #[tactic(auto, unfolding(crate::specs::Damage::attempt_at))]
@@ -35,7 +29,7 @@ fn attempt_at(last: u64, value: Option<&Value>) -> Result<u64, EntryFault>
 fn packet_number(value: Option<&Value>) -> Result<u8, EntryFault>
     ensures { result ≡ packet_number (option_map (λ v. view v.now) value.entry) }
 {
-    let packet = number_at(1, 3, value)?;
+    let packet = number_at(1, LAST_PACKET, value)?;
     Ok(packet as u8)
 }
 
@@ -84,7 +78,7 @@ fn no_bit(harm: Harm, bit: Option<&Value>) -> Result<Harm, EntryFault>
 fn flip_at(bit: Option<&Value>) -> Result<Harm, EntryFault>
     ensures { result ≡ flip_at (option_map (λ v. view v.now) bit.entry) }
 {
-    let bit = number_at(0, 535, bit)?;
+    let bit = number_at(0, LAST_BIT, bit)?;
     Ok(Harm::Flip(bit as u16))
 }
 

@@ -15,7 +15,7 @@ use crate::endpoints::endpoints_of;
 use crate::entry_fault::{EntryFault, entry_at, fault_in_part, least_fault};
 use crate::fault::{Place, PlanFault};
 use crate::hub::{class_at, hub_at};
-use crate::keys::keys_at;
+use crate::keys::{MOST_DEVICES, keys_at};
 use crate::own_requests::requests_of;
 use crate::quirks::{Quirks, quirks_of};
 use crate::texts::texts_in;
@@ -25,9 +25,6 @@ use toml::{Table, Value};
 use usb_device::{
     Bytes, ConfigTexts, DeviceSpec, Devices, EndpointSpecs, HubSpec, Name, OwnRequests, StringTexts,
 };
-
-/// The most devices of a plan.
-const MOST_DEVICES: usize = 127;
 
 /// A name that is not empty and that no earlier device has.
 #[tactic(auto, unfolding(crate::specs::Device::name_in))]

@@ -12,16 +12,13 @@ ghost use Rattle.usb_plan.specs.declared.entry_fault.EntryFault.TheVariants.{Mem
 
 use crate::bulk::halt_at;
 use crate::entry_fault::{EntryFault, fault_in_part, least_fault};
-use crate::keys::keys_at;
+use crate::keys::{MOST_ENDPOINT_NAKS, MOST_ENDPOINTS, keys_at};
 use crate::texts::texts_in;
 use crate::value::{byte_at, hex_in, number_or, tables_in, value_at};
 use std::alloc::Global;
 use toml::{Table, Value};
 use usb_device::{Bytes, EndpointData, EndpointSpec, EndpointSpecs};
 use usb_request::EndpointAddress;
-
-/// The most tables of endpoints.
-const MOST_ENDPOINTS: usize = 30;
 
 /// The key `address`.
 #[tactic(auto, unfolding(crate::specs::Endpoints::address_at))]
@@ -93,7 +90,7 @@ fn data_of(alloc: Global, table: &Table) -> Result<EndpointData, EntryFault>
 fn endpoint_naks(value: Option<&Value>) -> Result<u16, EntryFault>
     ensures { result ≡ endpoint_naks (option_map (λ v. view v.now) value.entry) }
 {
-    let naks = number_or(0, 0, 300, value)?;
+    let naks = number_or(0, 0, MOST_ENDPOINT_NAKS, value)?;
     Ok(naks as u16)
 }
 

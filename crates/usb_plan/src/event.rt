@@ -15,7 +15,7 @@ ghost use Rattle.usb_plan.specs.Event.{after_at, event_room, event_with, event_g
 use crate::action::keys_given;
 use crate::entry_fault::{EntryFault, entry_at, fault_in_part, least_fault};
 use crate::fault::{Place, PlanFault};
-use crate::keys::no_when;
+use crate::keys::{LONGEST_WAIT, MOST_EVENTS, no_when};
 use crate::members::EventMembers;
 use crate::scene::{Scene, all_said};
 use crate::value::{number_or, value_at};
@@ -24,12 +24,6 @@ use std::alloc::Global;
 use toml::{Table, Value};
 use usb_device::DeviceSpec;
 use usb_world::{Action, Event, Events};
-
-/// The most events of a plan.
-const MOST_EVENTS: usize = 10_000;
-
-/// The most attempts between two events.
-const LONGEST_WAIT: u64 = 1_000_000_000;
 
 /// The key `after`: attempts since the last event.
 #[tactic(auto, unfolding(crate::specs::Event::after_at))]

@@ -9,6 +9,7 @@ ghost use Rattle.usb_device.specs.DeviceSpecs.{agrees};
 ghost use Rattle.usb_plan.specs.Hub.{no_hub, is_agreed, built_ports, hub_with, hub_of, hub_in, hub_at, is_low_speed, is_other, class_at};
 
 use crate::entry_fault::EntryFault;
+use crate::keys::{MOST_PORTS, MOST_WIDE_PORTS};
 use crate::value::{hex_in, number_in};
 use std::alloc::Global;
 use toml::Value;
@@ -17,10 +18,10 @@ use usb_device::{Bytes, HubSpec, has_hub_class};
 use usb_request::descriptor_length::HUB_LENGTH;
 
 /// The most ports that a hub may have: 7, and 15 with wide hubs (11.23.2.1).
-pub(crate) fn most_ports(wide: bool) -> u8
+pub fn most_ports(wide: bool) -> u8
     ensures { result ≡ most_ports wide }
 {
-    if wide { 15 } else { 7 }
+    if wide { MOST_WIDE_PORTS } else { MOST_PORTS }
 }
 
 /// Without `ports` there is no `hub_descriptor`.

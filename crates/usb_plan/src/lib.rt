@@ -36,6 +36,11 @@ mod verb;
 pub use attempts::bound;
 pub use damage::placed_damage;
 pub use fault::{Place, PlanFault};
-pub use keys::only_named;
+pub use hub::most_ports;
+pub use keys::{
+    LAST_ATTEMPT, LAST_BIT, LAST_PACKET, LONGEST_WAIT, MOST_ATTEMPTS, MOST_BEFORE_HALT,
+    MOST_DAMAGES, MOST_DEVICES, MOST_ENDPOINT_NAKS, MOST_ENDPOINTS, MOST_EVENTS, MOST_NAKS,
+    MOST_PACKETS, MOST_PORTS, MOST_REQUESTS, MOST_ROOTS, MOST_WIDE_PORTS, only_named,
+};
 pub use plan::{entries_of, plan_of_entries, plan_of_table, read_plan};
 pub use usb_world::Plan;

@@ -9,16 +9,13 @@ ghost use Rattle.usb_plan.specs.Texts.{items_from, with_item};
 ghost use Rattle.usb_plan.specs.declared.entry_fault.EntryFault.TheVariants.{Memory};
 
 use crate::entry_fault::{EntryFault, fault_in_part, least_fault};
-use crate::keys::keys_at;
+use crate::keys::{MOST_REQUESTS, keys_at};
 use crate::quirks::flag_at;
 use crate::value::{byte_at, hex_in, number_in, tables_in, text_in, value_at};
 use std::alloc::Global;
 use toml::{Table, Value};
 use usb_device::{OwnAnswer, OwnRequest, OwnRequests};
 use usb_request::endpoint_address::DIRECTION_IN;
-
-/// The most requests of a device's own.
-const MOST_ROWS: usize = 64;
 
 /// A field of a request, of two bytes: 0 to 65,535.
 #[tactic(auto, unfolding(crate::specs::OwnRequests::word_in))]
@@ -342,7 +339,7 @@ fn rows_of(alloc: Global, values: &[Value]) -> Result<OwnRequests, EntryFault>
 fn requests_in(alloc: Global, value: &Value) -> Result<OwnRequests, EntryFault>
     ensures { EqualUnless Memory result (requests_in (view value.now)) }
 {
-    rows_of(alloc, tables_in(MOST_ROWS, value)?)
+    rows_of(alloc, tables_in(MOST_REQUESTS, value)?)
 }
 
 /// The key of them, which may be absent.

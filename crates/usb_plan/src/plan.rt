@@ -13,15 +13,12 @@ use crate::device::devices_of;
 use crate::entry_fault::{EntryFault, entry_at, fault_in_part, least_fault};
 use crate::event::events_of;
 use crate::fault::{Place, PlanFault};
-use crate::keys::keys_at;
+use crate::keys::{MOST_ATTEMPTS, MOST_ROOTS, keys_at};
 use crate::quirks::flag_at;
 use crate::value::{are_tables, number_at, read_items, value_at};
 use std::alloc::Global;
 use toml::{Table, Value};
 use usb_world::Plan;
-
-/// The most attempts that a plan may allow.
-const MOST_ATTEMPTS: u64 = 100_000_000_000_000;
 
 /// The key `limit`.
 #[tactic(auto, unfolding(crate::specs::Plan::limit_at))]
@@ -36,7 +33,7 @@ fn limit_at(value: Option<&Value>) -> Result<u64, EntryFault>
 fn roots_at(value: Option<&Value>) -> Result<u8, EntryFault>
     ensures { result ≡ roots_at (option_map (λ v. view v.now) value.entry) }
 {
-    let roots = number_at(1, 7, value)?;
+    let roots = number_at(1, MOST_ROOTS, value)?;
     Ok(roots as u8)
 }
 

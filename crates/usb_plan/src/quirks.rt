@@ -6,6 +6,7 @@ ghost use Rattle.toml.specs.View.{view, table_view};
 ghost use Rattle.usb_plan.specs.Quirks.{is_word, flag_at, naks_at, names, is_stall, stalls_named, stalls_in, stalls_at, quirks_with, quirks_of};
 
 use crate::entry_fault::{EntryFault, fault_in_part, least_fault};
+use crate::keys::MOST_NAKS;
 use crate::value::{number_or, read_items, value_at};
 use toml::{Table, Value};
 use usb_device::Stalls;
@@ -26,7 +27,7 @@ pub(crate) fn flag_at(value: Option<&Value>) -> Result<bool, EntryFault>
 fn naks_at(value: Option<&Value>) -> Result<u8, EntryFault>
     ensures { result ≡ naks_at (option_map (λ v. view v.now) value.entry) }
 {
-    let naks = number_or(0, 0, 200, value)?;
+    let naks = number_or(0, 0, MOST_NAKS, value)?;
     Ok(naks as u8)
 }
 

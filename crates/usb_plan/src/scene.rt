@@ -7,6 +7,7 @@ ghost use Rattle.usb_plan.specs.Scene.{is_port, ports_at, ports_said};
 ghost use Rattle.usb_world.specs.PluggedDevices.{is_rooted, device_indexed, spec_port_count, plugged_after};
 ghost use Rattle.usb_world.specs.Plans.{is_taken};
 
+use crate::keys::MOST_WIDE_PORTS;
 use crate::plugged::Plugged;
 use crate::value::{number_or, value_at};
 use std::alloc::{AllocError, Global};
@@ -156,7 +157,7 @@ fn ports_said(table: &Value) -> u64
 {
     match table.as_table() {
         None => 0,
-        Some(table) => match number_or(0, 1, 15, value_at(table, "ports")) {
+        Some(table) => match number_or(0, 1, u64::from(MOST_WIDE_PORTS), value_at(table, "ports")) {
             Ok(ports) => ports,
             Err(_) => 0,
         },

@@ -12,8 +12,8 @@ pub use TransferLines.{choice_text, done_end, end_text, endpoint_text, failed_en
 pub use TransferLines.{look_end, one_news_line, place_text, polled_end, received_end, sent_end}
 pub use TransferLines.{setting_text, task_word}
 unfoldable pub use TransferLines.{answer_line, news_lines}
-pub use Run.{IsBegun, IsCaused, RunsOn, Spent, entry_said, items_left, listing_of, round_fault}
-pub use Run.{run_fault, said_if}
+pub use Run.{GoesOn, IsBegun, IsCaused, RunsOn, Spent, entry_said, items_left, listing_of}
+pub use Run.{round_fault, run_fault, said_if}
 pub use ItemLines.{item_lines, number_of}
 pub use NewsCalls.{AllNews, SomeNews, SomeNewsAre, no_news, one_news}
 pub use Transfers.{CallGives, CallTells, Does, Gives, IsItemOf, IsOfCall, ItemOfCall, StopsAt}

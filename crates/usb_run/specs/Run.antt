@@ -5,7 +5,7 @@ use Rattle.usb_world.specs.{PlanData, World, AttemptsWithin, to_come, BusFault}
 use Rattle.usb_world.specs.declared.types.BusFault.TheVariants as bus
 use Rattle.usb_enum.specs.{Finding}
 use Rattle.usb_table.specs.{Table, said_at}
-use Rattle.usb_host.specs.{HostFault, HostState, table_in}
+use Rattle.usb_host.specs.{HostFault, HostMapHolds, HostState, table_in}
 use Rattle.usb_host.specs.declared.fault.HostFault.TheVariants as host
 use Rattle.usb_run.specs.declared.item.Item.{Item}
 use Rattle.usb_run.specs.declared.item.Item.TheVariants.{Listing}
@@ -43,6 +43,12 @@ pub record RunsOn {A : Type 0} (Goes : HostState → Result A RunFault → HostS
   pub goes : Goes old result new
   pub running : OnOk result (new.stopped ≡ false)
   pub caused : IfErr result (λ fault. IsCaused fault new.world)
+
+-- and the map of its host still holds
+pub record GoesOn {A : Type 0} (Goes : HostState → Result A RunFault → HostState → Type 0)
+    (old : HostState) (result : Result A RunFault) (new : HostState) : Type 0 where
+  pub on : RunsOn Goes old result new
+  pub owning : HostMapHolds old → HostMapHolds new
 
 -- attempts were made within the limit, and no event was added
 abbrev pub Spent : HostState → HostState → Type 0

@@ -23,19 +23,20 @@ unfoldable pub listings : List Item → ℕ
 listings [] = 0
 listings (item ∷ items) = number_of item (listings items)
 
--- the text of an item, its lines; those made before it are given, the newest first
-abbrev pub item_text : List Item → Item → List ℕ
-item_text items item = lines_text (item_lines (number_of item (listings items)) item)
+-- the text of an item in such lines, which take the number of a listing; those made before it are
+-- given, the newest first
+abbrev pub item_text : (ℕ → Item → List (List ℕ)) → List Item → Item → List ℕ
+item_text lines items item = lines_text (lines (number_of item (listings items)) item)
 
--- the text of items, of which the newest stands first
-unfoldable pub items_text : List Item → List ℕ
-items_text [] = []
-items_text (item ∷ items) = items_text items ++ item_text items item
+-- the text of items in such lines, of which the newest stands first
+unfoldable pub items_text : (ℕ → Item → List (List ℕ)) → List Item → List ℕ
+items_text lines [] = []
+items_text lines (item ∷ items) = items_text lines items ++ item_text lines items item
 
 -- what stands of an item in the text of a run: its lines, where attempts and events have theirs
 abbrev pub shown : Mode → List Item → Item → List ℕ
 shown Tree items item = []
-shown Run items item = item_text items item
+shown Run items item = item_text item_lines items item
 
 -- how the next item is made: an event asks for it, and the host does what the event asks and no
 -- more; the last one behind all events, and the run is over

@@ -2,7 +2,7 @@
 ghost use Rattle.std.specs.Prelude.{◌≡◌, Some, false};
 ghost use Rattle.usb_world.specs.declared.event.Ask.{Ask};
 ghost use Rattle.usb_host.specs.Ownership.{HostMapHolds};
-ghost use Rattle.usb_run.specs.Run.{RunsOn};
+ghost use Rattle.usb_run.specs.Run.{GoesOn, RunsOn};
 ghost use Rattle.usb_run.specs.Transfers.{Does, Gives};
 
 use crate::item::{Item, Task, TaskEnd};
@@ -57,8 +57,7 @@ fn send<T: Trace>(
     bytes: &[u8],
 ) -> Result<Item, RunFault>
     requires running { host.old.stopped ≡ false }
-    ensures on { RunsOn (Gives (Ask.Send path bytes.now)) host.old result host.new }
-    ensures owning { HostMapHolds host.old → HostMapHolds host.new }
+    ensures { GoesOn (Gives (Ask.Send path bytes.now)) host.old result host.new }
 {
     let sent = answered(host.send(&path, bytes))?;
     let task = Task::Send(EndpointChoice::FirstBulk);
@@ -72,8 +71,7 @@ fn receive<T: Trace>(
     packets: u16,
 ) -> Result<Item, RunFault>
     requires running { host.old.stopped ≡ false }
-    ensures on { RunsOn (Gives (Ask.Receive path packets)) host.old result host.new }
-    ensures owning { HostMapHolds host.old → HostMapHolds host.new }
+    ensures { GoesOn (Gives (Ask.Receive path packets)) host.old result host.new }
 {
     let received = answered(host.receive(&path, packets))?;
     let task = Task::Receive(EndpointChoice::FirstBulk);
@@ -83,8 +81,7 @@ fn receive<T: Trace>(
 /// Clears the halts of the device at a path.
 fn clear<T: Trace>(host: &mut Host<SimBus<T>>, path: PortPath) -> Result<Item, RunFault>
     requires running { host.old.stopped ≡ false }
-    ensures on { RunsOn (Gives (Ask.Clear path)) host.old result host.new }
-    ensures owning { HostMapHolds host.old → HostMapHolds host.new }
+    ensures { GoesOn (Gives (Ask.Clear path)) host.old result host.new }
 {
     let cleared = answered(host.clear_halt(&path))?;
     Ok(Item::Answer(path, Task::Clear, TaskEnd::Done(cleared)))
@@ -97,8 +94,7 @@ fn read<T: Trace>(
     request: ReadRequest,
 ) -> Result<Item, RunFault>
     requires running { host.old.stopped ≡ false }
-    ensures on { RunsOn (Gives (Ask.ControlIn path request)) host.old result host.new }
-    ensures owning { HostMapHolds host.old → HostMapHolds host.new }
+    ensures { GoesOn (Gives (Ask.ControlIn path request)) host.old result host.new }
 {
     let bytes = answered(host.control_in(&path, request.setup()))?;
     Ok(Item::Answer(path, Task::ControlIn, TaskEnd::Received(bytes)))
@@ -111,8 +107,7 @@ fn write<T: Trace>(
     request: &WriteRequest,
 ) -> Result<Item, RunFault>
     requires running { host.old.stopped ≡ false }
-    ensures on { RunsOn (Gives (Ask.ControlOut path request.now)) host.old result host.new }
-    ensures owning { HostMapHolds host.old → HostMapHolds host.new }
+    ensures { GoesOn (Gives (Ask.ControlOut path request.now)) host.old result host.new }
 {
     let bytes = request.bytes();
     let written = answered(host.control_out(&path, request.setup(), bytes))?;
@@ -128,8 +123,7 @@ fn send_to<T: Trace>(
     bytes: &[u8],
 ) -> Result<Item, RunFault>
     requires running { host.old.stopped ≡ false }
-    ensures on { RunsOn (Gives (Ask.SendTo path endpoint bytes.now)) host.old result host.new }
-    ensures owning { HostMapHolds host.old → HostMapHolds host.new }
+    ensures { GoesOn (Gives (Ask.SendTo path endpoint bytes.now)) host.old result host.new }
 {
     let sent = answered(host.send_to(&path, endpoint, bytes))?;
     let task = Task::Send(EndpointChoice::At(endpoint));
@@ -144,8 +138,7 @@ fn receive_from<T: Trace>(
     packets: u16,
 ) -> Result<Item, RunFault>
     requires running { host.old.stopped ≡ false }
-    ensures on { RunsOn (Gives (Ask.ReceiveFrom path endpoint packets)) host.old result host.new }
-    ensures owning { HostMapHolds host.old → HostMapHolds host.new }
+    ensures { GoesOn (Gives (Ask.ReceiveFrom path endpoint packets)) host.old result host.new }
 {
     let received = answered(host.receive_from(&path, endpoint, packets))?;
     let task = Task::Receive(EndpointChoice::At(endpoint));
@@ -159,8 +152,7 @@ fn poll<T: Trace>(
     endpoint: EndpointAddress,
 ) -> Result<Item, RunFault>
     requires running { host.old.stopped ≡ false }
-    ensures on { RunsOn (Gives (Ask.Poll path endpoint)) host.old result host.new }
-    ensures owning { HostMapHolds host.old → HostMapHolds host.new }
+    ensures { GoesOn (Gives (Ask.Poll path endpoint)) host.old result host.new }
 {
     let polled = answered(host.poll(&path, endpoint))?;
     Ok(Item::Answer(path, Task::Poll(endpoint), TaskEnd::Polled(polled)))
@@ -173,8 +165,7 @@ fn clear_of<T: Trace>(
     endpoint: EndpointAddress,
 ) -> Result<Item, RunFault>
     requires running { host.old.stopped ≡ false }
-    ensures on { RunsOn (Gives (Ask.ClearOf path endpoint)) host.old result host.new }
-    ensures owning { HostMapHolds host.old → HostMapHolds host.new }
+    ensures { GoesOn (Gives (Ask.ClearOf path endpoint)) host.old result host.new }
 {
     let cleared = answered(host.clear_halt_of(&path, endpoint))?;
     Ok(Item::Answer(path, Task::ClearOf(endpoint), TaskEnd::Done(cleared)))
@@ -188,9 +179,7 @@ fn set_interface<T: Trace>(
     setting: u8,
 ) -> Result<Item, RunFault>
     requires running { host.old.stopped ≡ false }
-    ensures on { RunsOn (Gives (Ask.SetInterface path interface setting)) host.old result
-        host.new }
-    ensures owning { HostMapHolds host.old → HostMapHolds host.new }
+    ensures { GoesOn (Gives (Ask.SetInterface path interface setting)) host.old result host.new }
 {
     let set = answered(host.set_interface(&path, interface, setting))?;
     let task = Task::SetInterface(interface, setting);

@@ -4,4 +4,3 @@ pub mod ServedItems
 pub mod ServedThrough
 pub mod Refused
 pub mod WrittenEnough
-pub mod Interface

@@ -1,30 +1,33 @@
 -- A line of report is cut only where the writer failed.
-use Rattle.std.proofs.Common.{◌≡◌, ◌≢◌, ◌∙◌, refl, sym, ap, inl, inr, Option, None, Some, Ok, Err}
-use Rattle.std.proofs.Common.{◌⊎◌, IsSome, is_some}
+use Rattle.std.proofs.Common.{◌≡◌, ◌≢◌, ◌∙◌, refl, sym, ap, inl, inr, List, ℕ, Option, None, Some}
+use Rattle.std.proofs.Common.{◌⊎◌, Ok, Err, IsSome, is_some}
 use Rattle.usb_world.specs.{BusFault, LineEnds, PutLine, World}
+use Rattle.usb_world.specs.declared.types.BusFault.TheVariants as bus
 use Rattle.usb_host.specs.{HostState}
-use Rattle.usb_serve.specs.{ServeFault, report_fault}
-use Rattle.usb_serve.specs.declared.serving.ServeFault.TheVariants as serve
-
-pub is_write : (fault : ServeFault) → (fault ≡ serve.Write) ⊎ (fault ≢ serve.Write)
-is_write serve.Read = inr (λ e. cc e)
-is_write serve.TooLong = inr (λ e. cc e)
-is_write (serve.Plan fault) = inr (λ e. cc e)
-is_write (serve.Run fault) = inr (λ e. cc e)
-is_write serve.Write = inl refl
-is_write serve.Memory = inr (λ e. cc e)
+use Rattle.usb_run.specs.{CutsText, IsCaused, run_fault}
+use Rattle.usb_serve.specs.{LinesPut, report_fault}
 
 -- where another fault is told of lines, none of them was written: the bus had told its fault before
 -- the first one
-pub line_kept : (fault : BusFault) (said : ServeFault) (first h l : HostState)
-    → PutLine h.world (Err fault) l.world → (IsSome h.world.fault → l ≡ h) → (h ≡ first)
-    ⊎ (h.world.fault ≡ None) → said ≡ report_fault fault → said ≢ serve.Write → l ≡ first
-line_kept fault said first h l step again calm is other = split h.world.fault refl
+line_kept : (fault : BusFault) (first h l : HostState) → PutLine h.world (Err fault) l.world
+    → (IsSome h.world.fault → l ≡ h) → (h ≡ first) ⊎ (h.world.fault ≡ None)
+    → fault ≢ bus.Failed → l ≡ first
+line_kept fault first h l step again calm other = split h.world.fault refl
   where
     split : (x : Option BusFault) → h.world.fault ≡ x → l ≡ first
-    split None e = absurd (other (is ∙ ap report_fault (step.told e)))
+    split None e = absurd (other (step.told e))
     split (Some before) e = again (ap is_some e)
         ∙ elim calm [ inl same ↦ same | inr none ↦ absurd (cc (sym none ∙ e)) ]
+
+pub lines_fail : (fault : BusFault) (text : List ℕ) (first h l : HostState)
+    → IsCaused (run_fault fault) l.world → PutLine h.world (Err fault) l.world
+    → (IsSome h.world.fault → l ≡ h) → (h ≡ first) ⊎ (h.world.fault ≡ None)
+    → CutsText text first l → LinesPut text first (Err (report_fault fault)) l
+lines_fail bus.Limit text first h l caused step again calm cuts =
+    (caused, inr (λ e. cc e, line_kept bus.Limit first h l step again calm (λ e. cc e)))
+lines_fail bus.Memory text first h l caused step again calm cuts =
+    (tt, inr (λ e. cc e, line_kept bus.Memory first h l step again calm (λ e. cc e)))
+lines_fail bus.Failed text first h l caused step again calm cuts = (caused, inl (refl, cuts))
 
 pub line_calm : (first h l : HostState) → LineEnds h.world (Ok tt) l.world → (l ≡ first)
     ⊎ (l.world.fault ≡ None)

@@ -1,167 +1,167 @@
--- What serving a plan writes, item by item.
-use Rattle.std.proofs.Common.{◌≡◌, ◌≢◌, ◌∙◌, refl, sym, ap, subst, inl, inr, arith, ℕ, ◌+◌, ◌≤◌}
+-- What a run writes, item by item.
+use Rattle.std.proofs.Common.{◌≡◌, ◌∙◌, refl, sym, ap, subst, inl, inr, arith, ℕ, ◌+◌, ◌≤◌}
 use Rattle.std.proofs.Common.{◌<◌, List, [], ◌∷◌, ◌++◌, map, Bool, true, false, Option}
-use Rattle.std.proofs.Common.{None, Some, Result, Ok, Err, IsErrAnd, ◌⊎◌, IfErr, OnOk}
+use Rattle.std.proofs.Common.{None, Some, Result, Ok, Err, IsErrAnd, IsSome, is_some, IfErr}
 use Rattle.std.specs.Global.{Vec}
 use Rattle.std.proofs.lemmas.List.Folds.{flat_map-map}
 use Rattle.std.specs.Io.KnownBytes.{Appends}
 use Rattle.std.proofs.KnownBytes.{Appends-nil, Appends-trans}
-use Rattle.usb_bus.specs.{AppendsFront}
+use Rattle.usb_bus.specs.{AppendsFront, PutsText}
 use Rattle.usb_bus.proofs.Interface.{front_after_first}
-use Rattle.usb_world.specs.{PlanData, World, to_come}
+use Rattle.usb_world.specs.{PlanData, to_come}
 use Rattle.usb_host.specs.{HostState}
 use Rattle.usb_plan.specs.{bound_of}
-use Rattle.usb_run.specs.{Answer, Item, Listing, RunFault}
+use Rattle.usb_run.specs.{Answer, AppendsText, CutsText, Item, Knows, Listing, Mode, Next, Opens}
+use Rattle.usb_run.specs.{RunFault, RunsTo, Tree, begun, behind, item_lines, item_text, items_left}
+use Rattle.usb_run.specs.{StoppedRun, items_text, listings, never, number_of, shown}
 use Rattle.usb_run.specs.declared.item.Item.TheVariants.{News}
-use Rattle.usb_run.specs.{Tree, IsCaused}
-use Rattle.usb_run.specs.{items_left, Opens, item_lines, number_of, Knows, CutsText, RunsTo, Next}
-use Rattle.usb_run.specs.{AppendsText, StoppedRun, begun, behind, never, item_text, items_text}
-use Rattle.usb_run.specs.{listings}
 use Rattle.usb_run.specs.declared.runs.RunFault.TheVariants as run
 use Rattle.usb_run.specs.declared.mode.Mode.TheVariants.{Run}
-use Rattle.usb_serve.specs.{ServeFault, IsWritten, TreeText, IsCausedInRun, IsCausedInTree, RunEnds}
-use Rattle.usb_serve.specs.{at_write, of_run}
+use Rattle.usb_run.specs.Transcript.{Transcript}
+use Rattle.usb_serve.specs.{IsCausedInRun, IsCausedInTree, IsWritten, ItemsWritten}
+use Rattle.usb_serve.specs.{LinesPut, RunEnds, ServeFault, TextWritten, UntracedRun, at_write}
+use Rattle.usb_serve.specs.{of_run}
 use Rattle.usb_serve.specs.declared.serving.ServeFault.TheVariants as serve
 use Rattle.usb_text.specs.{bound_line, lines_text, written_lines}
-use Rattle.usb_run.specs.Transcript.{Transcript}
-use Rattle.usb_run.proofs.Interface.{at_fault, run_limit, knows_opened, limit_opened, makes_knows}
-use Rattle.usb_run.proofs.Interface.{puts_knows, run_lists_right, cut_next}
-use Rattle.usb_run.proofs.Interface.{ends_failed, over_next, appends_no_text, stopped_next}
-use Rattle.usb_run.proofs.Interface.{told_next, unwritten_next}
-use Rattle.usb_serve.proofs.LineFaults.{is_write}
+use Rattle.usb_run.proofs.Interface.{appends_no_text, at_fault, cut_next, knows_opened}
+use Rattle.usb_run.proofs.Interface.{limit_opened, makes_knows, over_next, puts_knows, run_limit}
+use Rattle.usb_run.proofs.Interface.{run_lists_right, stopped_next, told_next, unwritten_next}
 
--- a run whose listings so far are this many; with those to come they are not too many to count
-pub record ItemsNumbered (items : List Item) (number : ℕ) (over : Bool) (w : World) : Type 0 where
+-- The run so far
+
+-- a run with its items, of which so many are listings; with those to come they are not too many to
+-- count
+pub record RunSoFar (mode : Mode) (was : Bool) (old : HostState) (items : List Item) (number : ℕ)
+    (over : Bool) (new : HostState) : Type 0 where
+  pub so_far : Transcript mode was old items over new
+  pub knows : over ≡ false → Knows new
   pub number_is : number ≡ listings items
-  pub few : number + items_left over w ≤ 10001
+  pub few : number + items_left over new.world ≤ 10001
 
--- the number of a listing that is made, and where a number was counted up for it
-next_number : (number next : ℕ) (item : Item) (items : List Item) → number ≡ listings items
-    → number ≤ 10001 → (number < 18446744073709551615 → next ≡ number_of item number)
-    → next ≡ number_of item (listings items)
-next_number number next item items is few counted = counted (omega (arith, few))
-    ∙ ap (λ n. number_of item n) is
+few_left : (over : Bool) (h : HostState) → h.world.taken + to_come h.world ≤ 10000
+    → 0 + items_left over h.world ≤ 10001
+few_left true h few = omega (arith, few)
+few_left false h few = omega (arith, few)
+
+pub run_begun : (mode : Mode) (was : Bool) (old : HostState) → (was ≡ false → Knows old)
+    → old.world.taken + to_come old.world ≤ 10000 → RunSoFar mode was old [] 0 was old
+unfolding listings
+run_begun mode was old knows few = record {
+  so_far = begun;
+  knows = knows;
+  number_is = refl;
+  few = few_left was old few;
+}
 
 counts_one : (item : Item) (n : ℕ) → number_of item n ≤ n + 1
 counts_one (Listing entries taken said) n = omega arith
 counts_one (News news) n = omega arith
 counts_one (Answer path task end) n = omega arith
 
-pub number_next : {items : List Item} {number : ℕ} {over : Bool} {w : World}
-    (n : ItemsNumbered items number over w) (next : ℕ) (item : Item)
-    → (number < 18446744073709551615 → next ≡ number_of item number)
-    → next ≡ number_of item (listings items)
-number_next {items} {number} {over} {w} n next item counted =
-    next_number number next item items n.number_is (omega (arith, n.few)) counted
+-- what was made, if that is known
+pub run_makes : {mode : Mode} {was : Bool} {old : HostState} {items : List Item} {number : ℕ}
+    {over : Bool} {h : HostState} → RunSoFar mode was old items number over h
+    → (x y : Option Item) → x ≡ y → (on : Bool) (k : HostState)
+    → ((over ≡ false → Knows h) → Next over h (Ok x) on k) → Next over h (Ok y) on k
+run_makes {over = over} {h = h} r x y is on k makes =
+    subst (λ z. Next over h (Ok z) on k) is (makes r.knows)
 
--- one item more
-pub numbered_next : {items : List Item} {number : ℕ} {over : Bool} {w : World}
-    (n : ItemsNumbered items number over w) (next : ℕ) (item : Item) (on : Bool) (v u : World)
+-- the next item was made, and the number of the last listing is counted
+pub record Made (items : List Item) (over : Bool) (h : HostState) (item : Item) (next : ℕ)
+    (on : Bool) (k : HostState) : Type 0 where
+  pub makes : Next over h (Ok (Some item)) on k
+  pub number_is : next ≡ number_of item (listings items)
+  pub few : next + items_left on k.world ≤ 10001
+
+pub made : {mode : Mode} {was : Bool} {old : HostState} {items : List Item} {number : ℕ}
+    {over : Bool} {h : HostState} {x : Option Item} {item : Item}
+    → RunSoFar mode was old items number over h → x ≡ Some item → (on : Bool) (k : HostState)
+    → ((over ≡ false → Knows h) → Next over h (Ok x) on k)
+    → (IsSome x → items_left on k.world < items_left over h.world) → (next : ℕ)
     → (number < 18446744073709551615 → next ≡ number_of item number)
-    → items_left on v < items_left over w → u ≡ v → ItemsNumbered (item ∷ items) next on u
+    → Made items over h item next on k
+made {number = number} {x = x} {item = item} r is on k makes fewer next counted =
+    let counts = counted (omega (arith, r.few)) in
+    record {
+      makes = run_makes r x (Some item) is on k makes;
+      number_is = counts ∙ ap (number_of item) r.number_is;
+      few = omega (arith, counts, counts_one item number, fewer (ap is_some is), r.few);
+    }
+
+-- its text
+text_next : {items : List Item} {over on : Bool} {h k : HostState} {item : Item} {next : ℕ}
+    → Made items over h item next on k → (lines : ℕ → Item → List (List ℕ))
+    → lines_text (lines next item) ≡ item_text lines items item
+text_next {item = item} made lines = ap (λ n. lines_text (lines n item)) made.number_is
+
+-- and it is one more
+run_told : {mode : Mode} {was : Bool} {old : HostState} {items : List Item} {number next : ℕ}
+    {over on : Bool} {h k : HostState} {item : Item} (new : HostState)
+    → RunSoFar mode was old items number over h → Made items over h item next on k
+    → AppendsText (shown mode items item) k new
+    → RunSoFar mode was old (item ∷ items) next on new
 unfolding listings
-numbered_next {items} {number} {over} {w} n next item on v u counted fewer same = record {
-  number_is = number_next n next item counted;
+run_told {on = on} {k = k} new r made puts = record {
+  so_far = told_next r.so_far made.makes puts;
+  knows = λ _. puts_knows puts (makes_knows made.makes.1);
+  number_is = made.number_is;
   few =
-      let one : next ≤ number + 1 = subst (λ m. m ≤ number + 1)
-      (sym (counted (omega (arith, n.few)))) (counts_one item number) in
-      let left : items_left on v ≡ items_left on u = ap (items_left on) (sym same) in
-      omega (arith, one, left, fewer, n.few);
+      let left : items_left on new.world ≡ items_left on k.world =
+      ap (λ (x : HostState). items_left on x.world) puts.rest in
+      omega (arith, left, made.few);
 }
 
--- the text of an item's lines
-pub text_next : (items : List Item) (next : ℕ) (item : Item) (vs : List (Vec ℕ))
-    → map (λ v. v.items) vs ≡ item_lines next item → next ≡ number_of item (listings items)
-    → written_lines vs ≡ item_text items item
-text_next items next item vs lines is =
-    sym (flat_map-map (λ line. line ++ 10 ∷ []) (λ v. v.items) vs) ∙ ap lines_text lines
-    ∙ ap (λ n. lines_text (item_lines n item)) is
-
-pub few_left : (over : Bool) (w : World) → w.taken + to_come w ≤ 10000
-    → 0 + items_left over w ≤ 10001
-few_left true w few = omega (arith, few)
-few_left false w few = omega (arith, few)
+-- lines in memory, as they are written
+lines_are : (vs : List (Vec ℕ)) (lines : List (List ℕ)) → map (λ v. v.items) vs ≡ lines
+    → written_lines vs ≡ lines_text lines
+lines_are vs lines is =
+    sym (flat_map-map (λ line. line ++ 10 ∷ []) (λ v. v.items) vs) ∙ ap lines_text is
 
 -- In mode Run
 
--- the run so far
-pub record RunSoFar (was : Bool) (old : HostState) (number : ℕ) (over : Bool) (new : HostState) :
-    Type 0 where
+-- the run so far, with some items
+pub record TracedSoFar (was : Bool) (old : HostState) (number : ℕ) (over : Bool)
+    (new : HostState) : Type 0 where
   pub items : List Item
-  pub so_far : Transcript Run was old items over new
-  pub knows : over ≡ false → Knows new
-  pub numbered : ItemsNumbered items number over new.world
+  pub run : RunSoFar Run was old items number over new
 
-pub run_begun : (was : Bool) (old : HostState) → (was ≡ false → Knows old)
-    → old.world.taken + to_come old.world ≤ 10000 → RunSoFar was old 0 was old
-unfolding listings
-run_begun was old knows few = record {
-  items = [];
-  so_far = begun;
-  knows = knows;
-  numbered = record { number_is = refl; few = few_left was old.world few };
-}
-
-pub run_told : {was : Bool} {old : HostState} {number : ℕ} {over : Bool} {h : HostState}
-    (r : RunSoFar was old number over h) (next : ℕ) (item : Item) (on : Bool) (k new : HostState)
-    (vs : List (Vec ℕ)) → (number < 18446744073709551615 → next ≡ number_of item number)
-    → Next over h (Ok (Some item)) on k → items_left on k.world < items_left over h.world
-    → map (λ v. v.items) vs ≡ item_lines next item
-    → AppendsText (written_lines vs) k new → RunSoFar was old next on new
-run_told r next item on k new vs counted makes fewer lines puts = record {
+-- the lines of the next item were put behind it
+pub run_put : {was : Bool} {old : HostState} {number next : ℕ} {over on : Bool} {h k : HostState}
+    {item : Item} (r : TracedSoFar was old number over h) → Made r.items over h item next on k
+    → (vs : List (Vec ℕ)) → map (λ v. v.items) vs ≡ item_lines next item
+    → (still : Bool) (new : HostState) → still ≡ on → AppendsText (written_lines vs) k new
+    → TracedSoFar was old next still new
+run_put {was} {old} {next = next} {k = k} {item} r made vs lines still new same puts = record {
   items = item ∷ r.items;
-  knows = λ _. puts_knows puts (makes_knows makes.1);
-  so_far = told_next r.so_far makes (subst (λ t. AppendsText t k new)
-      (text_next r.items next item vs lines (number_next r.numbered next item counted)) puts);
-  numbered = numbered_next r.numbered next item on k.world new.world counted fewer
-      (ap (λ (x : HostState). x.world) puts.rest);
+  run = subst (λ o. RunSoFar Run was old (item ∷ r.items) next o new) (sym same)
+      (run_told new r.run made (subst (λ t. AppendsText t k new)
+      (lines_are vs (item_lines next item) lines ∙ text_next made item_lines) puts));
 }
 
-pub run_stopped : {was : Bool} {old : HostState} {number : ℕ} {over : Bool} {h : HostState}
-    (r : RunSoFar was old number over h) (on : Bool) (k : HostState) (fault : RunFault)
-    (result : Result (Unit {0}) ServeFault)
-    → IsErrAnd result (λ e. e ≡ serve.Run fault) → Next over h (Err fault) on k
-    → RunEnds was old result k
-run_stopped r on k fault result is next =
-    record {
-      items = r.items;
-      ends = ends_failed of_run at_write result (serve.Run fault) is
-          (stopped_next on fault refl r.so_far next);
-    }
-
--- where nothing is written of an item
-pub run_unwritten : {was : Bool} {old : HostState} {number : ℕ} {over : Bool} {h : HostState}
-    (r : RunSoFar was old number over h) (item : Item) (on : Bool) (k : HostState)
-    (result : Result (Unit {0}) ServeFault)
-    → (said : ServeFault) → said ≢ serve.Write → IsErrAnd result (λ e. e ≡ said)
-    → Next over h (Ok (Some item)) on k → RunEnds was old result k
-run_unwritten r item on k result said other is next =
-    record {
-      items = r.items;
-      ends = ends_failed of_run at_write result said is (unwritten_next other r.so_far next);
-    }
-
-pub run_cut : {was : Bool} {old : HostState} {number : ℕ} {over : Bool} {h : HostState}
-    (r : RunSoFar was old number over h) (next : ℕ) (item : Item) (on : Bool) (k new : HostState)
-    (vs : List (Vec ℕ)) (result : Result (Unit {0}) ServeFault)
-    → (number < 18446744073709551615 → next ≡ number_of item number)
-    → Next over h (Ok (Some item)) on k → map (λ v. v.items) vs ≡ item_lines next item
-    → CutsText (written_lines vs) k new
-    → (said : ServeFault) → (said ≢ serve.Write → new ≡ k) → IsErrAnd result (λ e. e ≡ said)
+-- a run that stopped
+pub run_stopped : {was : Bool} {old new : HostState} {items : List Item}
+    (result : Result (Unit {0}) ServeFault) (said : ServeFault) → IsErrAnd result (λ e. e ≡ said)
+    → StoppedRun Run (λ why. said ≡ of_run why) (at_write said) was old items new
     → RunEnds was old result new
-run_cut {was} {old} r next item on k new vs result counted makes lines cuts said kept is =
-    split (is_write said)
-  where
-    split : (said ≡ serve.Write) ⊎ (said ≢ serve.Write) → RunEnds was old result new
-    split (inl write) = record {
-      items = item ∷ r.items;
-      ends = ends_failed of_run at_write result said is
-          (cut_next write r.so_far makes (subst (λ t. CutsText t k new)
-          (text_next r.items next item vs lines (number_next r.numbered next item counted))
-          cuts));
-    }
-    split (inr other) = subst (RunEnds was old result) (sym (kept other))
-        (run_unwritten r item on k result said other is makes)
+run_stopped {was} {old} {new} {items} result said is stopped =
+    at_fault (λ x. RunEnds was old x new) result said is
+    (record { items = items; ends = stopped })
+
+-- the lines of the next item were not all put behind it
+pub run_cut : {was : Bool} {old : HostState} {number next : ℕ} {over on : Bool} {h k : HostState}
+    {item : Item} (r : TracedSoFar was old number over h) → Made r.items over h item next on k
+    → (vs : List (Vec ℕ)) → map (λ v. v.items) vs ≡ item_lines next item
+    → (said : ServeFault) (new : HostState) → LinesPut (written_lines vs) k (Err said) new
+    → (result : Result (Unit {0}) ServeFault) → IsErrAnd result (λ e. e ≡ said)
+    → RunEnds was old result new
+run_cut {was} {old} {next = next} {k = k} {item} r made vs lines said new puts result is =
+    elim puts.1 [
+      | inl cut ↦ run_stopped result said is (cut_next cut.0 r.run.so_far made.makes
+          (subst (λ t. CutsText t k new) (lines_are vs (item_lines next item) lines
+          ∙ text_next made item_lines) cut.1))
+      | inr none ↦ subst (λ n. RunEnds was old result n) (sym none.1)
+          (run_stopped result said is (unwritten_next none.0 r.run.so_far made.makes))
+    ]
 
 pub run_written : (plan : PlanData) (before : Option (List ℕ)) (over : Bool) (h k : HostState)
     (result : Result (Unit {0}) ServeFault) (now : Option (List ℕ)) → Opens plan before h
@@ -184,176 +184,174 @@ run_written plan before over h k result now opens at_work goes caused single tex
       text = text;
     })
 
-pub run_unopened : (plan : PlanData) (before now : Option (List ℕ)) → now ≡ before
-    → IsWritten Run plan before (Err (serve.Run run.Memory)) now
-run_unopened plan before now same = inl (record { refused = refl; nothing = same })
-
--- In mode Tree
+-- With no trace
 
 -- the run so far, from its host's first call on, and the text of its items
-pub record TreeSoFar (plan : PlanData) (before : Option (List ℕ)) (number : ℕ) (over : Bool)
-    (new : HostState) (now : Option (List ℕ)) : Type 0 where
-  pub items : List Item
+pub record UntracedSoFar (plan : PlanData) (lines : ℕ → Item → List (List ℕ))
+    (before : Option (List ℕ)) (number : ℕ) (over : Bool) (new : HostState)
+    (now : Option (List ℕ)) : Type 0 where
   pub thrown : Option (List ℕ)
   pub first : HostState
   pub opens : Opens plan thrown first
-  pub so_far : Transcript Tree false first items over new
-  pub knows : over ≡ false → Knows new
-  pub numbered : ItemsNumbered items number over new.world
-  pub text : Appends before now (items_text items)
+  pub items : List Item
+  pub run : RunSoFar Tree false first items number over new
+  pub text : Appends before now (items_text lines items)
 
-pub tree_begun : (plan : PlanData) (before thrown : Option (List ℕ)) (over : Bool) (h : HostState)
-    → Opens plan thrown h → over ≡ false → h.world.taken + to_come h.world ≤ 10000
-    → TreeSoFar plan before 0 over h before
-unfolding listings items_text
-tree_begun plan before thrown over h opens at_work few = record {
-  items = [];
+pub untraced_begun : {plan : PlanData} {thrown : Option (List ℕ)} {h : HostState}
+    → Opens plan thrown h → (lines : ℕ → Item → List (List ℕ)) (before : Option (List ℕ))
+    (over : Bool) → over ≡ false → h.world.taken + to_come h.world ≤ 10000
+    → UntracedSoFar plan lines before 0 over h before
+unfolding items_text
+untraced_begun {plan} {thrown} {h} opens lines before over at_work few = record {
   thrown = thrown;
   first = h;
   opens = opens;
-  so_far = subst (λ o. Transcript Tree false h [] o h) (sym at_work) begun;
-  knows = λ _. knows_opened plan h opens;
-  numbered = record { number_is = refl; few = few_left over h.world few };
+  items = [];
+  run = subst (λ o. RunSoFar Tree false h [] 0 o h) (sym at_work)
+      (run_begun Tree false h (λ _. knows_opened plan h opens) few);
   text = Appends-nil before;
 }
 
-pub tree_told : {plan : PlanData} {before : Option (List ℕ)} {number : ℕ} {over : Bool}
-    {h : HostState} {now : Option (List ℕ)} (r : TreeSoFar plan before number over h now) (next : ℕ)
-    (item : Item) (on : Bool) (k : HostState) (vs : List (Vec ℕ)) (s : Option (List ℕ))
-    → (number < 18446744073709551615 → next ≡ number_of item number)
-    → Next over h (Ok (Some item)) on k → items_left on k.world < items_left over h.world
-    → map (λ v. v.items) vs ≡ item_lines next item
-    → Appends now s (written_lines vs) → TreeSoFar plan before next on k s
+-- the lines of the next item were written
+pub untraced_told : {plan : PlanData} {lines : ℕ → Item → List (List ℕ)}
+    {before now : Option (List ℕ)} {number next : ℕ} {over on : Bool} {h k : HostState}
+    {item : Item} (r : UntracedSoFar plan lines before number over h now)
+    → Made r.items over h item next on k
+    → (s : Option (List ℕ)) → Appends now s (lines_text (lines next item))
+    → UntracedSoFar plan lines before next on k s
 unfolding items_text
-tree_told {before = before} {now = now} r next item on k vs s counted makes fewer lines appends =
+untraced_told {lines = lines} {before} {now} {k = k} {item} r made s appends = record {
+  thrown = r.thrown;
+  first = r.first;
+  opens = r.opens;
+  items = item ∷ r.items;
+  run = run_told k r.run made (appends_no_text k);
+  text = Appends-trans before now s (items_text lines r.items) (item_text lines r.items item)
+      r.text (subst (λ t. Appends now s t) (text_next made lines) appends);
+}
+
+-- a run that ended, of which such a text is written
+untraced_run : {plan : PlanData} {thrown : Option (List ℕ)} {first : HostState}
+    → Opens plan thrown first → (items : List Item) (last : HostState)
+    (result : Result (Unit {0}) ServeFault) (IsText : HostState → List Item → HostState → Type 0)
+    → RunsTo Tree of_run never false first items result last
+    → IfErr result (λ f. IsCausedInTree f last.world) → last.world.shared ≡ false
+    → IsText first items last → UntracedRun plan result IsText
+untraced_run {plan} {thrown} {first} opens items last result IsText ends caused single text =
     record {
-      items = item ∷ r.items;
-      thrown = r.thrown;
-      first = r.first;
-      opens = r.opens;
-      so_far = told_next r.so_far makes (appends_no_text k);
-      knows = λ _. makes_knows makes.1;
-      numbered = numbered_next r.numbered next item on k.world k.world counted fewer refl;
-      text = Appends-trans before now s (items_text r.items) (item_text r.items item) r.text
-          (subst (λ t. Appends now s t) (text_next r.items next item vs lines
-          (number_next r.numbered next item counted)) appends);
-    }
-
-pub tree_unopened : (plan : PlanData) (before : Option (List ℕ))
-    → IsWritten Tree plan before (Err (serve.Run run.Memory)) before
-tree_unopened plan before = inl (record { refused = refl; nothing = refl })
-
-abbrev IsOver : HostState → List Item → HostState → Type 0
-IsOver first items k = Transcript Tree false first items true k
-
--- what is written of a run that has come so far
-tree_written : (plan : PlanData) (before thrown : Option (List ℕ)) (first : HostState)
-    → Opens plan thrown first → (items : List Item) (k : HostState)
-    (result : Result (Unit {0}) ServeFault) (now : Option (List ℕ))
-    → RunsTo Tree of_run never false first items result k
-    → IfErr result (λ f. IsCausedInTree f k.world) → k.world.shared ≡ false
-    → TreeText plan items (IsOver first items k) before result now
-    → IsWritten Tree plan before result now
-tree_written plan before thrown first opens items k result now ends caused single text =
-    inr (record {
       thrown = thrown;
       first = first;
       opens = opens;
       items = items;
-      last = k;
+      last = last;
       ends = ends;
       caused = caused;
-      limit = run_limit Tree of_run never false first items result k ends
+      limit = run_limit Tree of_run never false first items result last ends
           ∙ limit_opened plan first opens;
       single = single;
-      lists = run_lists_right plan Tree of_run never false first items k result opens ends;
+      lists = run_lists_right plan Tree of_run never false first items last result opens ends;
       text = text;
-    })
+    }
 
--- and so where it stopped
-tree_ended : (plan : PlanData) (before thrown : Option (List ℕ)) (first : HostState)
-    → Opens plan thrown first → (items : List Item) (k : HostState)
-    (result : Result (Unit {0}) ServeFault) (now : Option (List ℕ)) (said : ServeFault)
-    → IsErrAnd result (λ e. e ≡ said)
-    → StoppedRun Tree (λ why. said ≡ of_run why) ⊥ false first items k → IsCausedInTree said k.world
-    → k.world.shared ≡ false → TreeText plan items (IsOver first items k) before (Err said) now
-    → IsWritten Tree plan before result now
-tree_ended plan before thrown first opens items k result now said is stopped caused single text =
-    at_fault (λ x. IsWritten Tree plan before x now) result said is
-    (tree_written plan before thrown first opens items k (Err said) now stopped caused single
-    text)
+-- it stopped on the way to its next item
+pub untraced_stopped : {plan : PlanData} {lines : ℕ → Item → List (List ℕ)}
+    {before now : Option (List ℕ)} {number : ℕ} {over : Bool} {h : HostState}
+    → UntracedSoFar plan lines before number over h now → (on : Bool) (k : HostState)
+    (fault : RunFault) → ((over ≡ false → Knows h) → Next over h (Err fault) on k)
+    → IsCausedInTree (serve.Run fault) k.world → k.world.shared ≡ false
+    → ItemsWritten plan lines before (Err (serve.Run fault)) now
+untraced_stopped r on k fault next caused single =
+    inr (untraced_run r.opens r.items k (Err (serve.Run fault)) _
+    (stopped_next on fault refl r.run.so_far (next r.run.knows)) caused single r.text)
 
--- all lines were written of a run that stopped
-pub tree_stopped : {plan : PlanData} {before : Option (List ℕ)} {number : ℕ} {over : Bool}
-    {h : HostState} {now : Option (List ℕ)} (r : TreeSoFar plan before number over h now)
-    (on : Bool) (k : HostState) (fault : RunFault)
-    (result : Result (Unit {0}) ServeFault) → IsErrAnd result (λ e. e ≡ serve.Run fault)
-    → Next over h (Err fault) on k → fault ≢ run.TraceFailed → IsCaused fault k.world
-    → k.world.shared ≡ false → IsWritten Tree plan before result now
-tree_stopped {plan} {before} {now = now} r on k fault result is next untraced caused single =
-    tree_ended plan before r.thrown r.first r.opens r.items k result now (serve.Run fault) is
-    (stopped_next on fault refl r.so_far next) (untraced, caused) single r.text
-
--- and where memory was refused for the lines of an item
-pub tree_unlined : {plan : PlanData} {before : Option (List ℕ)} {number : ℕ} {over : Bool}
-    {h : HostState} {now : Option (List ℕ)} (r : TreeSoFar plan before number over h now)
-    (item : Item) (on : Bool) (k : HostState)
-    (result : Result (Unit {0}) ServeFault) → IsErrAnd result (λ e. e ≡ serve.Memory)
-    → Next over h (Ok (Some item)) on k → k.world.shared ≡ false
-    → IsWritten Tree plan before result now
-tree_unlined {plan} {before} {now = now} r item on k result is next single =
-    tree_ended plan before r.thrown r.first r.opens r.items k result now serve.Memory is
-    (unwritten_next (λ cut. cut) r.so_far next) tt single r.text
-
--- the writer failed in the lines of an item
-pub tree_cut : {plan : PlanData} {before : Option (List ℕ)} {number : ℕ} {over : Bool}
-    {h : HostState} {now : Option (List ℕ)} (r : TreeSoFar plan before number over h now) (next : ℕ)
-    (item : Item) (on : Bool) (k : HostState) (vs : List (Vec ℕ))
-    (result : Result (Unit {0}) ServeFault) (s : Option (List ℕ))
-    → IsErrAnd result (λ e. e ≡ serve.Write)
-    → (number < 18446744073709551615 → next ≡ number_of item number)
-    → Next over h (Ok (Some item)) on k
-    → map (λ v. v.items) vs ≡ item_lines next item → k.world.shared ≡ false
-    → AppendsFront now s (written_lines vs)
-    → IsWritten Tree plan before result s
+-- the lines of the next item were not all written
+pub untraced_cut : {plan : PlanData} {lines : ℕ → Item → List (List ℕ)}
+    {before now : Option (List ℕ)} {number next : ℕ} {over on : Bool} {h k : HostState}
+    {item : Item} (r : UntracedSoFar plan lines before number over h now)
+    → Made r.items over h item next on k → k.world.shared ≡ false → (s : Option (List ℕ))
+    → (fault : ServeFault) → TextWritten (lines_text (lines next item)) now (Err fault) s
+    → ItemsWritten plan lines before (Err fault) s
 unfolding items_text
-tree_cut {plan} {before} {now = now} r next item on k vs result s is counted makes lines single
-    front =
-    let part = subst (λ t. AppendsFront now s t)
-    (text_next r.items next item vs lines (number_next r.numbered next item counted)) front in
-    tree_ended plan before r.thrown r.first r.opens (item ∷ r.items) k result s serve.Write is
-    (behind (λ cut. cut) (told_next r.so_far makes (appends_no_text k))) tt single
-    (inl (front_after_first before now s (items_text r.items) (item_text r.items item) r.text part))
+untraced_cut {lines = lines} {before} {now} {k = k} {item} r made single s serve.Write front =
+    inr (untraced_run r.opens (item ∷ r.items) k (Err serve.Write) _
+    (behind (λ cut. cut) (told_next r.run.so_far made.makes (appends_no_text k))) tt single
+    (front_after_first before now s (items_text lines r.items) (item_text lines r.items item)
+    r.text (subst (λ t. AppendsFront now s t) (text_next made lines) front)))
+untraced_cut {lines = lines} {before} {k = k} r made single s serve.Memory same =
+    inr (untraced_run r.opens r.items k (Err serve.Memory) _
+    (unwritten_next (λ cut. cut) r.run.so_far made.makes) tt single
+    (subst (λ o. Appends before o (items_text lines r.items)) (sym same) r.text))
+untraced_cut r made single s serve.Read none = absurd none
+untraced_cut r made single s serve.TooLong none = absurd none
+untraced_cut r made single s (serve.Plan fault) none = absurd none
+untraced_cut r made single s (serve.Run fault) none = absurd none
+
+-- it is over
+pub untraced_over : {plan : PlanData} {lines : ℕ → Item → List (List ℕ)}
+    {before now : Option (List ℕ)} {number : ℕ} {over : Bool} {h : HostState}
+    → UntracedSoFar plan lines before number over h now
+    → (x : Option Item) → x ≡ None → (on : Bool) (k : HostState)
+    → ((over ≡ false → Knows h) → Next over h (Ok x) on k) → k.world.shared ≡ false
+    → ItemsWritten plan lines before (Ok tt) now
+untraced_over {h = h} r x is on k next single =
+    inr (untraced_run r.opens r.items k (Ok tt) _
+    (over_next h k r.run.so_far (run_makes r.run x None is on k next)) tt single r.text)
+
+-- the lines of an item
+pub lines_written : {T : Type 0} (text : T → Option (List ℕ)) (failed : T → Bool) (old new : T)
+    (result : Result (Unit {0}) ServeFault) (vs : List (Vec ℕ)) (lines : List (List ℕ))
+    → map (λ v. v.items) vs ≡ lines → PutsText text failed old result new (written_lines vs)
+    → IfErr result (λ fault. fault ≡ serve.Write)
+    → TextWritten (lines_text lines) (text old) result (text new)
+lines_written text failed old new (Ok done) vs lines is puts fault =
+    subst (λ t. Appends (text old) (text new) t) (lines_are vs lines is) puts.ok
+lines_written text failed old new (Err said) vs lines is puts fault =
+    subst (λ f. TextWritten (lines_text lines) (text old) (Err f) (text new)) (sym fault)
+    (subst (λ t. AppendsFront (text old) (text new) t) (lines_are vs lines is) puts.front)
+
+-- In mode Tree
+
+-- the items of a run, where that was not done
+pub tree_stopped : {plan : PlanData} {before now : Option (List ℕ)} (fault : ServeFault)
+    (result : Result (Unit {0}) ServeFault) → IsErrAnd result (λ e. e ≡ fault)
+    → ItemsWritten plan item_lines before (Err fault) now → IsWritten Tree plan before result now
+tree_stopped {plan} {before} {now} fault result is items =
+    at_fault (λ x. IsWritten Tree plan before x now) result fault is (elim items [
+      | inl none ↦ inl none
+      | inr run ↦ inr (untraced_run run.opens run.items run.last (Err fault) _ run.ends run.caused
+          run.single (inl run.text))
+    ])
+
+-- memory was refused for the bound's line
+pub tree_unbound : {plan : PlanData} {before now : Option (List ℕ)}
+    (result : Result (Unit {0}) ServeFault) → IsErrAnd result (λ e. e ≡ serve.Memory)
+    → ItemsWritten plan item_lines before (Ok tt) now → IsWritten Tree plan before result now
+tree_unbound result is (inl none) = cc none.refused
+tree_unbound {plan} {before} {now} result is (inr run) =
+    at_fault (λ x. IsWritten Tree plan before x now) result serve.Memory is
+    (inr (untraced_run run.opens run.items run.last (Err serve.Memory) _
+    (behind (λ cut. cut) run.ends) tt run.single (inl run.text)))
 
 -- the bound behind a run that is over
-pub tree_over : {plan : PlanData} {before : Option (List ℕ)} {number : ℕ} {over : Bool}
-    {h : HostState} {now : Option (List ℕ)} (r : TreeSoFar plan before number over h now)
-    (on : Bool) (k : HostState) (result : Result (Unit {0}) ServeFault) (s : Option (List ℕ))
-    → Next over h (Ok None) on k → k.world.shared ≡ false
-    → AppendsFront now s (bound_line (bound_of plan) ++ 10 ∷ [])
-    → OnOk result (Appends now s (bound_line (bound_of plan) ++ 10 ∷ []))
-    → IfErr result (λ f. f ≡ serve.Write) → IsWritten Tree plan before result s
-tree_over {plan} {before} {h = h} {now = now} r on k (Ok done) s next single front all said =
-    tree_written plan before r.thrown r.first r.opens r.items k (Ok done) s
-    (over_next h k r.so_far next) tt single
-    (Appends-trans before now s (items_text r.items) (bound_line (bound_of plan) ++ 10 ∷ []) r.text
-    all)
-tree_over {plan} {before} {h = h} {now = now} r on k (Err fault) s next single front all said =
-    let over = over_next h k r.so_far next in
-    tree_ended plan before r.thrown r.first r.opens r.items k (Err fault) s serve.Write said
-    (behind (λ cut. cut) over) tt single
-    (inr (
-      over,
-      front_after_first before now s (items_text r.items) (bound_line (bound_of plan) ++ 10 ∷ [])
-          r.text front,
-    ))
-
--- where memory was refused for the bound's line
-pub tree_unbound : {plan : PlanData} {before : Option (List ℕ)} {number : ℕ} {over : Bool}
-    {h : HostState} {now : Option (List ℕ)} (r : TreeSoFar plan before number over h now)
-    (on : Bool) (k : HostState)
-    (result : Result (Unit {0}) ServeFault) → IsErrAnd result (λ e. e ≡ serve.Memory)
-    → Next over h (Ok None) on k → k.world.shared ≡ false → IsWritten Tree plan before result now
-tree_unbound {plan} {before} {h = h} {now = now} r on k result is next single =
-    tree_ended plan before r.thrown r.first r.opens r.items k result now serve.Memory is
-    (behind (λ cut. cut) (over_next h k r.so_far next)) tt single r.text
+pub tree_bound : {T : Type 0} (text : T → Option (List ℕ)) (failed : T → Bool) (plan : PlanData)
+    (before : Option (List ℕ)) (old new : T) (result : Result (Unit {0}) ServeFault)
+    (line : List ℕ) → line ≡ bound_line (bound_of plan)
+    → ItemsWritten plan item_lines before (Ok tt) (text old)
+    → PutsText text failed old result new (line ++ 10 ∷ [])
+    → IfErr result (λ f. f ≡ serve.Write) → IsWritten Tree plan before result (text new)
+tree_bound text failed plan before old new result line is (inl none) puts said = cc none.refused
+tree_bound text failed plan before old new (Ok done) line is (inr run) puts said =
+    inr (untraced_run run.opens run.items run.last (Ok done) _ run.ends tt run.single
+    (subst (λ l. Appends before (text new) (items_text item_lines run.items ++ (l ++ 10 ∷ []))) is
+    (Appends-trans before (text old) (text new) (items_text item_lines run.items)
+    (line ++ 10 ∷ []) run.text puts.ok)))
+tree_bound text failed plan before old new (Err fault) line is (inr run) puts said =
+    at_fault (λ x. IsWritten Tree plan before x (text new)) (Err fault) serve.Write said
+    (inr (untraced_run run.opens run.items run.last (Err serve.Write) _
+    (behind (λ cut. cut) run.ends) tt run.single (inr (
+      refl,
+      run.ends,
+      subst (λ l. AppendsFront before (text new) (items_text item_lines run.items
+          ++ (l ++ 10 ∷ []))) is (front_after_first before (text old) (text new)
+          (items_text item_lines run.items) (line ++ 10 ∷ []) run.text puts.front),
+    ))))

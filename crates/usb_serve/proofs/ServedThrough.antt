@@ -1,13 +1,18 @@
 -- What serving through a buffer tells and writes.
-use Rattle.std.proofs.Common.{◌≡◌, ◌∙◌, refl, sym, ap, subst, ℕ, List, Option, Result, Ok, Err}
-use Rattle.std.proofs.Common.{OnOk, OnErr, Bool, true, false, is_err}
+use Rattle.std.proofs.Common.{◌≡◌, ◌≢◌, ◌∙◌, refl, sym, ap, subst, ℕ, List, Option, Some, Result}
+use Rattle.std.proofs.Common.{Ok, Err, OnOk, OnErr, IfErr, IfSome, Bool, true, false, is_err}
 use Rattle.std.specs.Io.KnownBytes.{Keeps}
 use Rattle.usb_bus.specs.{WriteFailed}
-use Rattle.usb_world.specs.{PlanData}
-use Rattle.usb_run.specs.{Mode}
-use Rattle.usb_serve.specs.{IsOfRun, IsUnread, LeavesFront, MarksWriter, Reads, ServeFault}
-use Rattle.usb_serve.specs.{Serves, ServesThrough, all, cut, unread, writer_fault}
+use Rattle.usb_world.specs.{PlanData, World}
+use Rattle.usb_world.specs.declared.types.BusFault.TheVariants as bus
+use Rattle.usb_plan.specs.{spelled_plan}
+use Rattle.usb_run.specs.{IsCaused, Mode, RunFault, Tree}
+use Rattle.usb_serve.specs.{IsCausedInTree, IsOfRun, IsUnread, IsWritten, LeavesFront, MarksWrite}
+use Rattle.usb_serve.specs.{MarksWriter, Reads, ServeFault, Serves, ServesThrough, all, cut}
+use Rattle.usb_serve.specs.{of_plan, unread, writer_fault}
 use Rattle.usb_serve.specs.declared.serving.ServeFault.TheVariants as serve
+use Rattle.usb_serve.proofs.Refused.{no_tree_trace}
+use Rattle.usb_serve.proofs.WrittenEnough.{written_enough}
 
 -- no plan was read
 pub reads_failed : {A : Type 0} {text : Option (List ℕ)} {torn : Bool} (fault : ServeFault)
@@ -26,6 +31,40 @@ reads_run {result = result} plan r of_run = record {
   whole = λ other. r.whole (λ is. cc is);
   too_long = λ is. absurd (subst IsOfRun is of_run);
 }
+
+-- a plan was read, and served in its mode
+pub served_plan : {mode : Mode} {text before now : Option (List ℕ)} {torn failed : Bool}
+    {result : Result (Unit {0}) ServeFault} (m : Mode) → mode ≡ m → (plan : PlanData)
+    → Reads text (Ok plan) torn → IfSome text (λ t. spelled_plan t ≡ Ok plan) → IsOfRun result
+    → MarksWriter m result failed → IsWritten m plan before result now
+    → Serves mode text torn before result failed now
+served_plan {text = text} {before} {now} {torn} {failed} {result} m is plan reads spelled of_run
+    marks written =
+    subst (λ x. Serves x text torn before result failed now) (sym is) (record {
+      reads = reads_run plan reads of_run;
+      writer = marks;
+      served = of_plan plan spelled of_run written
+          (written_enough m plan before now result written);
+    })
+
+-- where no trace is made, none fails
+pub marks_tree : {plan : PlanData} {before now : Option (List ℕ)} {fresh failed : Bool}
+    (result : Result (Unit {0}) ServeFault) → MarksWrite result fresh failed → fresh ≡ false
+    → IsWritten Tree plan before result now → MarksWriter Tree result failed
+marks_tree {plan} {before} {now} result marks unfailed written = record {
+  write = marks.write;
+  trace = λ is. absurd (no_tree_trace plan before now
+      (subst (λ r. IsWritten Tree plan before r now) is written));
+  at_limit = λ is. marks.kept (λ e. cc (e, is)) ∙ unfailed;
+}
+
+-- the cause of a fault, where the bus did not fail
+pub caused_untraced : {A : Type 0} (result : Result A RunFault) (w : World)
+    → IfErr result (λ fault. IsCaused fault w) → w.fault ≢ Some bus.Failed
+    → IfErr result (λ fault. IsCausedInTree (serve.Run fault) w)
+caused_untraced (Ok done) w caused other = tt
+caused_untraced (Err fault) w caused other =
+    (λ is. other (subst (λ f. IsCaused f w) is caused), caused)
 
 -- a fault that is told before any run is none of the writer's
 pub unwritten_reader : (text : Option (List ℕ)) {failed : Bool} (mode : Mode) (fault : ServeFault)

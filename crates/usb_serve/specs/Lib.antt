@@ -1,15 +1,17 @@
 pub mod ServeResults
 pub mod ServedTranscripts
+pub mod WrittenItems
 pub mod ServedRuns
 pub mod ListingEnds
 pub mod Outputs
 pub mod OutputTraces
 pub mod ServedThrough
 -- the words of this crate, wherever one stands
-pub use ServeResults.{IsCausedInRun, IsCausedInTree, IsFaultOfRun, IsOfRun, MarksWriter}
+pub use ServeResults.{IsCausedInRun, IsCausedInTree, IsFaultOfRun, IsOfRun, MarksWrite, MarksWriter}
 pub use ServeResults.{input_fault, report_fault}
-pub use ServedTranscripts.{RunEnds, at_write, of_run}
-pub use ServedRuns.{IsNoPlan, IsServed, IsUnopened, IsUnread, IsWritten}
+pub use WrittenItems.{IsUnopened, ItemsText, ItemsWritten, TextWritten, UntracedRun}
+pub use ServedTranscripts.{LinesPut, RunEnds, at_write, of_run}
+pub use ServedRuns.{IsNoPlan, IsServed, IsUnread, IsWritten}
 pub use ServedRuns.{NeverAtLimit, Reads, RunWritten, Serves, TreeText, TreeWritten, of_plan, unread}
 pub use ListingEnds.{IsListingEnd}
 pub use Outputs.{LeavesFront, buffered, has_ended, held, output_writer}

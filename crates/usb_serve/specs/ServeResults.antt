@@ -45,6 +45,11 @@ pub record MarksWriter (mode : Mode) (result : Result (Unit {0}) ServeFault) (fa
   pub trace : IsErrOf result (Run run.TraceFailed) → (mode ≡ modes.Run) × (failed ≡ true)
   pub at_limit : IsErrOf result (Run run.LimitReached) → failed ≡ false
 
+-- where a writer is told to have failed it has, and else its mark is as it was
+pub record MarksWrite (result : Result (Unit {0}) ServeFault) (before now : Bool) : Type 0 where
+  pub write : IsErrOf result Write → now ≡ true
+  pub kept : result ≢ Err Write → now ≡ before
+
 -- a fault that is told in mode Run has its cause in the run's world
 abbrev pub IsCausedInRun : ServeFault → World → Type 0
 IsCausedInRun Read w = ⊥

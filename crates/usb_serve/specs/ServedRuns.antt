@@ -7,15 +7,16 @@ use Rattle.usb_bus.specs.{AppendsFront}
 use Rattle.usb_host.specs.{HostState, plug_events}
 use Rattle.usb_plan.specs.{PlanFault, bound_of, spelled_plan}
 use Rattle.usb_plan.specs.declared.fault.PlanFault.TheVariants as plan
-use Rattle.usb_run.specs.{Item, LimitReached, Memory, Mode, Tree, ListsRight, RunsTo}
-use Rattle.usb_run.specs.{items_text, never, Opens}
+use Rattle.usb_run.specs.{Item, LimitReached, Mode, Tree, ListsRight, Opens, RunsTo, item_lines}
+use Rattle.usb_run.specs.{items_text}
 use Rattle.usb_run.specs.declared.mode.Mode.TheVariants.{Run}
 use Rattle.usb_serve.specs.declared.serving.ServeFault.{ServeFault}
 use Rattle.usb_serve.specs.declared.serving.ServeFault.TheVariants as serve
-use Rattle.usb_serve.specs.ServeResults.{IsCausedInRun, IsCausedInTree, IsOfRun, MarksWriter}
+use Rattle.usb_serve.specs.ServeResults.{IsCausedInRun, IsOfRun, MarksWriter}
 use Rattle.usb_text.specs.{bound_line}
 use Rattle.usb_run.specs.Transcript.{Transcript}
 use Rattle.usb_serve.specs.ServedTranscripts.{at_write, of_run}
+use Rattle.usb_serve.specs.WrittenItems.{IsUnopened, ItemsText, UntracedRun}
 
 -- what is written in mode Run: the text of a run of the plan, at no attempt of which two reachable
 -- devices held one address, and which tells what is right
@@ -37,37 +38,17 @@ pub record RunWritten (plan : PlanData) (before : Option (List ℕ))
 abbrev pub TreeText : PlanData → List Item → Type 0 → Option (List ℕ) → Result (Unit {0}) ServeFault
     → Option (List ℕ) → Type 0
 TreeText plan items IsOver before (Ok done) now =
-    Appends before now (items_text items ++ (bound_line (bound_of plan) ++ 10 ∷ []))
-TreeText plan items IsOver before (Err serve.Read) now = ⊥
-TreeText plan items IsOver before (Err serve.TooLong) now = ⊥
-TreeText plan items IsOver before (Err (serve.Plan fault)) now = ⊥
-TreeText plan items IsOver before (Err (serve.Run fault)) now =
-    Appends before now (items_text items)
-TreeText plan items IsOver before (Err serve.Write) now = AppendsFront before now (items_text items)
-    ⊎ (IsOver × AppendsFront before now (items_text items ++
+    Appends before now (items_text item_lines items ++ (bound_line (bound_of plan) ++ 10 ∷ []))
+TreeText plan items IsOver before (Err fault) now =
+    ItemsText item_lines items before (Err fault) now
+    ⊎ ((fault ≡ serve.Write) × IsOver × AppendsFront before now (items_text item_lines items ++
     (bound_line (bound_of plan) ++ 10 ∷ [])))
-TreeText plan items IsOver before (Err serve.Memory) now = Appends before now (items_text items)
 
 -- what is written in mode Tree: the text of the items of such a run, whose trace is thrown away
-pub record TreeWritten (plan : PlanData) (before : Option (List ℕ))
-    (result : Result (Unit {0}) ServeFault) (now : Option (List ℕ)) : Type 0 where
-  pub thrown : Option (List ℕ)  -- where the trace goes
-  pub first : HostState
-  pub opens : Opens plan thrown first
-  pub items : List Item
-  pub last : HostState
-  pub ends : RunsTo Tree of_run never false first items result last
-  pub caused : IfErr result (λ fault. IsCausedInTree fault last.world)
-  pub limit : last.world.limit ≡ plan.limit
-  pub single : last.world.shared ≡ false
-  pub lists : ListsRight plan items last.world
-  pub text : TreeText plan items (Transcript Tree false first items true last) before result now
-
--- memory was refused for the bus of a run, and nothing was done
-pub record IsUnopened (before : Option (List ℕ)) (result : Result (Unit {0}) ServeFault)
-    (now : Option (List ℕ)) : Type 0 where
-  pub refused : result ≡ Err (serve.Run Memory)
-  pub nothing : now ≡ before
+abbrev pub TreeWritten : PlanData → Option (List ℕ) → Result (Unit {0}) ServeFault
+    → Option (List ℕ) → Type 0
+TreeWritten plan before result now = UntracedRun plan result (λ first items last.
+    TreeText plan items (Transcript Tree false first items true last) before result now)
 
 abbrev pub IsWritten : Mode → PlanData → Option (List ℕ) → Result (Unit {0}) ServeFault
     → Option (List ℕ) → Type 0

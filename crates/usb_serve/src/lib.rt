@@ -13,15 +13,15 @@
 
 mod answers;
 mod input;
+mod items;
 mod output;
 mod serving;
 mod tracing;
 
 pub use input::{InputFault, read_text};
+pub use items::{ItemLines, item_lines, number_of};
 pub use output::{Output, ROOM};
-pub use serving::{
-    ServeFault, item_lines, next_untraced, number_of, plan_of, serve, serve_through, write_lines,
-};
+pub use serving::{ServeFault, plan_of, serve, serve_through, write_items};
 pub use usb_bus::{Watched, WriteFailed};
 pub use usb_plan::PlanFault;
 pub use usb_run::{BusFault, Item, Mode, Plan, RunFault, Runner, Trace, Untraced};

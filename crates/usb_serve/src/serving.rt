@@ -1,22 +1,21 @@
 //! A plan's text in, the text of its run out.
-ghost use Rattle.std.specs.Prelude.{◌≡◌, ◌≢◌, ◌+◌, ◌<◌, ◌≤◌, ◌++◌, IsSome, Ok, Err, true, false, IsErrOf, IfErr, IfOk, IfSome, OnErr, OnOk, [], ◌∷◌};
-ghost use Rattle.std.specs.Io.KnownBytes.{Appends};
-ghost use Rattle.usb_bus.specs.Watch.{inner_of, has_failed, calls_of, AppendsFront};
+ghost use Rattle.std.specs.Prelude.{◌≡◌, ◌≢◌, ◌+◌, ◌<◌, ◌≤◌, ◌++◌, IsSome, Ok, Err, true, false, IfErr, IfOk, IfSome, OnErr, OnOk, [], ◌∷◌};
+ghost use Rattle.usb_bus.specs.Watch.{inner_of, has_failed, calls_of, PutsText};
 ghost use Rattle.usb_plan.specs.Plan.{spelled_plan};
 ghost use Rattle.usb_serve.specs.declared.serving.ServeFault.TheVariants as serve;
 ghost use Rattle.usb_serve.specs.Outputs.{held};
 ghost use Rattle.usb_serve.specs.ServedRuns.{IsUnread, IsWritten, Reads, Serves};
 ghost use Rattle.usb_serve.specs.ServedThrough.{ServesThrough, writer_fault};
-ghost use Rattle.usb_serve.specs.ServeResults.{IsCausedInRun, IsOfRun, input_fault, report_fault};
-ghost use Rattle.usb_text.specs.ListingLines.{written_lines};
-ghost use Rattle.usb_run.specs.ItemLines.{item_lines, number_of};
-ghost use Rattle.usb_run.specs.Run.{IsCaused, items_left};
+ghost use Rattle.usb_serve.specs.ServeResults.{IsCausedInRun, IsCausedInTree, IsOfRun, MarksWrite, MarksWriter, input_fault, report_fault};
+ghost use Rattle.usb_serve.specs.WrittenItems.{ItemsWritten, TextWritten};
+ghost use Rattle.usb_text.specs.ListingLines.{lines_text, written_lines};
+ghost use Rattle.usb_run.specs.Run.{items_left};
 ghost use Rattle.usb_run.specs.RunSegments.{Knows};
-ghost use Rattle.usb_run.specs.Transcript.{Next, Prints};
-ghost use Rattle.usb_serve.specs.ServedTranscripts.{RunEnds};
+ghost use Rattle.usb_run.specs.Transcript.{Next};
+ghost use Rattle.usb_serve.specs.ServedTranscripts.{LinesPut, RunEnds};
 
-use crate::answers::{answer_line, news_lines};
 use crate::input::{InputFault, read_text};
+use crate::items::{ItemLines, PlainLines, item_lines, number_of};
 use crate::output::Output;
 use crate::tracing::OutputTracer;
 use std::alloc::{AllocError, Global};
@@ -27,7 +26,7 @@ use usb_bus::{BusFault, Watched, WriteFailed};
 use usb_plan::{PlanFault, bound, read_plan};
 use usb_run::{Item, Mode, RunFault, Runner};
 use usb_sim::{Plan, Trace, Tracer, Untraced, untraced_fault};
-use usb_text::{Lines, bound_line, listing_lines};
+use usb_text::bound_line;
 
 /// Why a plan was not served to its end, in the order in which the reasons are reported.
 #[derive(Clone, Copy, Debug, PartialEq, Eq, Error)]
@@ -210,12 +209,8 @@ pub fn plan_of<R: Read>(alloc: Global, reader: &mut Watched<R>) -> Result<Plan, 
 }
 
 fn serve_tree<T: Trace>(alloc: Global, plan: &Plan, tracer: T) -> (Result<(), ServeFault>, T)
-    requires unfailed { T.failed tracer ≡ false }
     ensures reader { IsOfRun result.0 }
-    ensures write { IsErrOf result.0 ServeFault.Write → T.failed result.1 ≡ true }
-    ensures at_limit { IsErrOf result.0 (ServeFault.Run RunFault.LimitReached)
-        → T.failed result.1 ≡ false }
-    ensures untraced { result.0 ≢ Err (ServeFault.Run RunFault.TraceFailed) }
+    ensures writer { MarksWrite result.0 (T.failed tracer) (T.failed result.1) }
     ensures written { IsWritten Mode.Tree plan.now (T.text tracer) result.0 (T.text result.1) }
 {
     let mut tracer = tracer;
@@ -226,11 +221,31 @@ fn serve_tree<T: Trace>(alloc: Global, plan: &Plan, tracer: T) -> (Result<(), Se
 /// Writes the lines of each item when it is made, and the bound after the last.
 fn write_tree<T: Trace>(alloc: Global, plan: &Plan, writer: &mut T) -> Result<(), ServeFault>
     ensures reader { IsOfRun result }
-    ensures write { IsErrOf result ServeFault.Write → T.failed writer.new ≡ true }
-    ensures unmarked { (result ≢ Err ServeFault.Write)
-        → T.failed writer.new ≡ T.failed writer.old }
-    ensures untraced { result ≢ Err (ServeFault.Run RunFault.TraceFailed) }
+    ensures writer { MarksWrite result (T.failed writer.old) (T.failed writer.new) }
     ensures written { IsWritten Mode.Tree plan.now (T.text writer.old) result (T.text writer.new) }
+{
+    write_items(alloc, plan, &PlainLines, writer)?;
+    let line = bound_line(alloc, bound(plan))?;
+    write_line(writer, line.as_slice())
+}
+
+/// Runs a plan with no trace, and writes the lines of each item when it is made.
+///
+/// # Errors
+///
+/// - `Run`: the run ended early.
+/// - `Write`: the writer failed. A prefix of the lines of the items is written.
+/// - `Memory`: memory was refused for the lines of an item.
+pub fn write_items<L: ItemLines, T: Trace>(
+    alloc: Global,
+    plan: &Plan,
+    lines: &L,
+    writer: &mut T,
+) -> Result<(), ServeFault>
+    ensures reader { IsOfRun result }
+    ensures writer { MarksWrite result (T.failed writer.old) (T.failed writer.new) }
+    ensures written { ItemsWritten plan.now (L.lines lines.now)
+        (T.text writer.old) result (T.text writer.new) }
 {
     let mut runner = match Runner::untraced(alloc, plan) {
         Ok(runner) => runner,
@@ -239,25 +254,32 @@ fn write_tree<T: Trace>(alloc: Global, plan: &Plan, writer: &mut T) -> Result<()
     let mut number = 0;
     'items: while let Some(item) = next_untraced(&mut runner)? {
         number = number_of(&item, number);
-        write_lines(writer, item_lines(alloc, number, &item)?.as_slice())?;
+        write_item(alloc, lines, number, item, writer)?;
     }
-    let line = bound_line(alloc, bound(plan))?;
-    write_line(writer, line.as_slice())
+    Ok(())
+}
+
+/// Writes the lines of an item; the number is that of a listing.
+fn write_item<L: ItemLines, T: Trace>(
+    alloc: Global,
+    lines: &L,
+    number: u64,
+    item: Item,
+    writer: &mut T,
+) -> Result<(), ServeFault>
+    ensures writer { MarksWrite result (T.failed writer.old) (T.failed writer.new) }
+    ensures written { TextWritten (lines_text (L.lines lines.now number item))
+        (T.text writer.old) result (T.text writer.new) }
+{
+    write_lines(writer, lines.lines_of(alloc, number, &item)?.as_slice())
 }
 
 /// The next item of a run in which no line is made.
-///
-/// # Errors
-///
-/// The run is then over.
-///
-/// - `LimitReached`: the attempts made equal the plan's limit.
-/// - `Memory`: memory was refused.
-pub fn next_untraced(runner: &mut Runner<Untraced>) -> Result<Option<Item>, RunFault>
+fn next_untraced(runner: &mut Runner<Untraced>) -> Result<Option<Item>, RunFault>
     ensures next { (runner.old.over ≡ false → Knows runner.old.host)
         → Next runner.old.over runner.old.host result runner.new.over runner.new.host }
-    ensures caused { IfErr result (λ fault. IsCaused fault runner.new.host.world) }
-    ensures untraced { IfErr result (λ fault. fault ≢ RunFault.TraceFailed) }
+    ensures caused { IfErr result (λ fault.
+        IsCausedInTree (ServeFault.Run fault) runner.new.host.world) }
     ensures fewer { IfOk result (λ item. IsSome item
         → items_left runner.new.over runner.new.host.world
         < items_left runner.old.over runner.old.host.world) }
@@ -267,50 +289,9 @@ pub fn next_untraced(runner: &mut Runner<Untraced>) -> Result<Option<Item>, RunF
     item
 }
 
-/// The number of the last listing, once an item is made.
-pub fn number_of(item: &Item, number: u64) -> u64
-    ensures { number < 18446744073709551615 → result ≡ number_of item.now number }
-{
-    match item {
-        Item::Listing(_, _, _) => number.saturating_add(1),
-        Item::News(_) | Item::Answer(_, _, _) => number,
-    }
-}
-
-/// The lines of an item; the number is that of a listing.
-///
-/// # Errors
-///
-/// Memory was refused.
-pub fn item_lines(alloc: Global, number: u64, item: &Item) -> Result<Lines, AllocError>
-    ensures { IfOk result (λ lines. lines ≡ item_lines number item.now) }
-{
-    match item {
-        Item::Listing(tree, _, said) => listing_lines(alloc, number, tree.entries(), said),
-        Item::News(news) => news_lines(alloc, news.as_slice()),
-        Item::Answer(path, task, end) => one_line(alloc, answer_line(alloc, path, task, end)?),
-    }
-}
-
-fn one_line(alloc: Global, line: Vec<u8>) -> Result<Lines, AllocError>
-    ensures { IfOk result (λ lines. lines ≡ line.items ∷ []) }
-{
-    let mut lines = Lines::new(alloc);
-    lines.push(line)?;
-    Ok(lines)
-}
-
 /// Writes lines in their order.
-///
-/// # Errors
-///
-/// `Write`: the writer failed.
-pub fn write_lines<T: Trace>(writer: &mut T, lines: &[Vec<u8>]) -> Result<(), ServeFault>
-    ensures front { AppendsFront (T.text writer.old) (T.text writer.new) (written_lines lines.now) }
-    ensures ok { OnOk result (Appends (T.text writer.old) (T.text writer.new)
-        (written_lines lines.now)) }
-    ensures write { OnErr result (T.failed writer.new ≡ true) }
-    ensures unmarked { OnOk result (T.failed writer.new ≡ T.failed writer.old) }
+fn write_lines<T: Trace>(writer: &mut T, lines: &[Vec<u8>]) -> Result<(), ServeFault>
+    ensures puts { PutsText T.text T.failed writer.old result writer.new (written_lines lines.now) }
     ensures fault { IfErr result (λ fault. fault ≡ ServeFault.Write) }
 {
     'lines: for line in lines {
@@ -321,11 +302,7 @@ pub fn write_lines<T: Trace>(writer: &mut T, lines: &[Vec<u8>]) -> Result<(), Se
 
 /// Writes a line, and a newline after it.
 fn write_line<T: Trace>(writer: &mut T, line: &[u8]) -> Result<(), ServeFault>
-    ensures front { AppendsFront (T.text writer.old) (T.text writer.new) (line.now ++ 10 ∷ []) }
-    ensures ok { OnOk result (Appends (T.text writer.old) (T.text writer.new)
-        (line.now ++ 10 ∷ [])) }
-    ensures write { OnErr result (T.failed writer.new ≡ true) }
-    ensures unmarked { OnOk result (T.failed writer.new ≡ T.failed writer.old) }
+    ensures puts { PutsText T.text T.failed writer.old result writer.new (line.now ++ 10 ∷ []) }
     ensures fault { IfErr result (λ fault. fault ≡ ServeFault.Write) }
 {
     writer.put_pieces(&[line, b"\n"])?;
@@ -335,11 +312,7 @@ fn write_line<T: Trace>(writer: &mut T, line: &[u8]) -> Result<(), ServeFault>
 fn serve_run<T: Trace>(alloc: Global, plan: &Plan, tracer: T) -> (Result<(), ServeFault>, T)
     requires unfailed { T.failed tracer ≡ false }
     ensures reader { IsOfRun result.0 }
-    ensures write { IsErrOf result.0 ServeFault.Write → T.failed result.1 ≡ true }
-    ensures trace { IsErrOf result.0 (ServeFault.Run RunFault.TraceFailed)
-        → T.failed result.1 ≡ true }
-    ensures at_limit { IsErrOf result.0 (ServeFault.Run RunFault.LimitReached)
-        → T.failed result.1 ≡ false }
+    ensures writer { MarksWriter Mode.Run result.0 (T.failed result.1) }
     ensures written { IsWritten Mode.Run plan.now (T.text tracer) result.0 (T.text result.1) }
 {
     match Runner::traced(alloc, plan, tracer) {
@@ -368,11 +341,8 @@ fn trace_run<T: Trace>(alloc: Global, runner: &mut Runner<T>) -> Result<(), Serv
 
 fn put_lines<T: Trace>(runner: &mut Runner<T>, lines: &[Vec<u8>]) -> Result<(), ServeFault>
     ensures over { runner.new.over ≡ runner.old.over }
-    ensures prints { Prints (written_lines lines.now) runner.old.host result runner.new.host }
+    ensures puts { LinesPut (written_lines lines.now) runner.old.host result runner.new.host }
     ensures reader { IsOfRun result }
-    ensures caused { IfErr result (λ fault. IsCausedInRun fault runner.new.host.world) }
-    ensures kept { IfErr result (λ fault. fault ≢ ServeFault.Write
-        → runner.new.host ≡ runner.old.host) }
 {
     'lines: for line in lines {
         if let Err(fault) = runner.put_line(line.as_slice()) {

@@ -6,7 +6,7 @@ use Rattle.std.specs.List.{concat}
 use Rattle.usb_device.specs.{State, out_end}
 use Rattle.usb_pipe.specs.{Condition, PipeState, report_in}
 use Rattle.usb_pipe.specs.declared.condition.Condition.TheVariants.{Ready, Halted, Broken}
-use Rattle.usb_table.specs.{FirstBulk, At, bytes_in}
+use Rattle.usb_table.specs.{At, bytes_in}
 use Rattle.usb_run.specs.{Answer, Item, Polled, Received}
 use Rattle.usb_run.specs.declared.item.Task.TheVariants as task
 use Rattle.usb_streams.specs.{AreGiven, AreJoined, ArePackets, Endpoint, IsAtWork, IsFailedFront}

@@ -21,7 +21,7 @@ use Rattle.usb_pipe.specs.{GaveNext, GavePackets, InPipeInSync, report_in}
 use Rattle.usb_enum.specs.{Accepted}
 use Rattle.usb_table.specs.{TableFault, TransferFault, Pipes, ArePipesIf, ArePipesTo, At}
 use Rattle.usb_table.specs.{ChangesAt, EndpointChoice, Entries, FirstBulk, GaveBy}
-use Rattle.usb_table.specs.{GoesThrough, HaltClearedOf, HaltsCleared, PipesInSync}
+use Rattle.usb_table.specs.{GoesThrough, HaltClearedOf, HaltsCleared, KeepsMoved, PipesInSync}
 use Rattle.usb_table.specs.{ReadLeft, ReadMade, ReceivedThrough, ReportedBy, ReportedThrough}
 use Rattle.usb_table.specs.{SameSettings, SentThrough, SparesBulk, TookBytes, TransferIf, WriteLeft}
 use Rattle.usb_table.specs.{WriteMade, accepted_device_at, bytes_in, control_target}
@@ -30,7 +30,8 @@ use Rattle.usb_table.specs.{polls_through, receives_miss, receives_through, send
 use Rattle.usb_table.specs.{sends_through, SettingLeft, through, write_target}
 use Rattle.usb_table.proofs.Interface.{cases_path, held_address, path_itself, path_tied}
 use Rattle.usb_table.proofs.Interface.{read_spares, spares-same, StillEnds, write_still}
-use Rattle.usb_host.specs.{HostState, claims, host_told, table_in, ClearOfTells, ClearTells}
+use Rattle.usb_host.specs.{HostFault, HostState, MovesThrough, claims, host_told, table_in}
+use Rattle.usb_host.specs.{ClearOfTells, ClearTells}
 use Rattle.usb_host.specs.{ReadTells, ReceiveTells, RenewedAt, ReportTells, SendTells, StayedAt}
 use Rattle.usb_host.specs.{InterfaceTells, Look, WriteTells}
 use Rattle.usb_run.specs.{InterfaceIfAsked, Item, Knows, IsItemOf, listing_of, sent_count}
@@ -104,8 +105,17 @@ abbrev sent_made : EndpointChoice → List ℕ → List ℕ → Result (Unit {0}
 sent_made choice to bytes told =
     Answer to (task.Send choice) (Sent (sent_count (length bytes) told))
 
+-- what asks for it
+abbrev send_ask : EndpointChoice → List ℕ → List ℕ → Ask
+send_ask FirstBulk to bytes = Send to bytes
+send_ask (At a) to bytes = SendTo to a bytes
+
 abbrev received_made : EndpointChoice → List ℕ → Result (Vec ℕ) TransferFault → Item
 received_made choice from told = Answer from (task.Receive choice) (Received told)
+
+abbrev receive_ask : EndpointChoice → List ℕ → ℕ → Ask
+receive_ask FirstBulk from packets = Receive from packets
+receive_ask (At a) from packets = ReceiveFrom from a packets
 
 abbrev polled_made : List ℕ → ℕ → Result (Option (ArrayVec ℕ)) TransferFault → Item
 polled_made from a told = Answer from (task.Poll a) (Polled told)
@@ -128,6 +138,18 @@ written_made to write told =
 
 abbrev looked_made : List ℕ → Result Look TransferFault → Item
 looked_made at told = Answer at task.Look (Looked told)
+
+-- the bytes that are asked for an endpoint
+sends_for : (choice : EndpointChoice) (end : Endpoint) (to bytes : List ℕ)
+    → bytes_for end (Some (send_ask choice to bytes))
+    ≡ (if is_of end to choice then bytes else [])
+sends_for FirstBulk end to bytes = refl
+sends_for (At a) end to bytes = refl
+
+receives_for : (choice : EndpointChoice) (end : Endpoint) (from : List ℕ) (packets : ℕ)
+    → bytes_for end (Some (receive_ask choice from packets)) ≡ []
+receives_for FirstBulk end from packets = refl
+receives_for (At a) end from packets = refl
 
 -- Hosts
 
@@ -304,19 +326,29 @@ module _ (path : List ℕ) (device : Accepted) (old new : HostState)
   }
 
   -- a send to another path
-  quiet_send : (due : Option Ask) (item : Item) (to : List ℕ) (choice : EndpointChoice)
-      (bytes : List ℕ) → ties (path_cmp to) path ≡ false
-      → ((end : Endpoint) → bytes_for end due ≡ (if is_of end to choice then bytes else []))
-      → ((end : Endpoint) → ArePackets end item [])
-      → ((bytes : List ℕ) → due ≡ Some (Send path bytes) → ⊥)
-      → ((packets : ℕ) → due ≡ Some (Receive path packets) → ⊥) → IsQuiet path (Told due item)
-  quiet_send due item to choice bytes away asks tells sends receives = record {
+  quiet_send : (choice : EndpointChoice) (to bytes : List ℕ)
+      (told : Result (Unit {0}) TransferFault) → ties (path_cmp to) path ≡ false
+      → IsQuiet path (Told (Some (send_ask choice to bytes)) (sent_made choice to bytes told))
+  quiet_send choice to bytes told away = record {
     asks = λ e pipes.
         let end : Endpoint = endpoint_at path false e pipes in
-        asks end ∙ ap (λ b. if b then bytes else []) (away_of end to choice away);
-    tells = λ e pipes. tells (endpoint_at path true e pipes);
-    plain = plain_none due item sends receives;
+        sends_for choice end to bytes
+        ∙ ap (λ b. if b then bytes else []) (away_of end to choice away);
+    tells = λ e pipes. refl;
+    plain = plain_none (Some (send_ask choice to bytes)) (sent_made choice to bytes told)
+        (sends_apart choice) (sends_none choice);
   }
+    where
+      sends_apart : (c : EndpointChoice) (more : List ℕ)
+          → Some (send_ask c to bytes) ≡ Some (Send path more) → ⊥
+      sends_apart FirstBulk more asked =
+          let same : to ≡ path = cc asked in not_to to path away same
+      sends_apart (At a) more asked = cc asked
+
+      sends_none : (c : EndpointChoice) (packets : ℕ)
+          → Some (send_ask c to bytes) ≡ Some (Receive path packets) → ⊥
+      sends_none FirstBulk packets asked = cc asked
+      sends_none (At a) packets asked = cc asked
 
   -- what was received from another path
   quiet_receive : (due : Option Ask) (item : Item) (from : List ℕ) (choice : EndpointChoice)
@@ -331,6 +363,14 @@ module _ (path : List ℕ) (device : Accepted) (old new : HostState)
     plain = plain_none due item sends receives;
   }
 
+  -- what the table answered is what is told
+  table_ended : {A : Type 0} {to : List ℕ}
+      {Moves : Pipes → World → Result A TableFault → Pipes → World → Type 0}
+      {result : Result A HostFault} (hands : MovesThrough to Moves old result new)
+      (told : Result A TransferFault) → transfer_ended result ≡ Ok told
+      → transfer_ended (host_told hands.answer) ≡ Ok told
+  table_ended hands told ends = sym (ap transfer_ended hands.told) ∙ ends
+
   module _ (knows : Knows old) (still : old.world.fault ≡ None) (running : old.stopped ≡ false)
     where
       -- the pipes are to the device
@@ -339,24 +379,57 @@ module _ (path : List ℕ) (device : Accepted) (old new : HostState)
       pipes_to through = subst (λ f. ArePipesIf f (is_below_hub path) Before)
           (listed_before path through) through.fits
 
+      -- no address was held twice
+      single : {to : List ℕ} → KeepsMoved to (table_in old) old.world (table_in new) new.world
+          → new.world.shared ≡ false
+      single keeps = (keeps.worlds.addresses.kept (claims old.entries) knows.sound.owned).single
+
+      -- a device has the settings that it had
+      settings_kept : {to : List ℕ}
+          → KeepsMoved to (table_in old) old.world (table_in new) new.world
+          → (x : Location) (s v : State) → reach_on new.world.roots x ≡ true
+          → state_on new.world.roots x ≡ Some v → state_on old.world.roots x ≡ Some s
+          → SameSettings x s v
+      settings_kept keeps x s v on stands stood =
+          let was : Was SameSettings old.world x v =
+          keeps.worlds.devices.same (single keeps) x v on stands in
+          subst (λ (d : State). SameSettings x d v)
+          (one_stands old.world x s was.before stood was.stands) was.so
+
       -- A send
 
-      sent_here : (choice : EndpointChoice) (bytes : List ℕ) (due : Option Ask) (item : Item)
-          → ((end : Endpoint) → bytes_for end due ≡ (if is_of end path choice then bytes else []))
-          → ((end : Endpoint) → ArePackets end item []) → (told : Result (Unit {0}) TransferFault)
-          → is_ok told ≡ is_done item
-          → ((d : Bool) → first_of d Before ≡ None → FailsPlain d path (Told due item))
+      -- one that names no endpoint fails where there is none
+      send_fails : (choice : EndpointChoice) (bytes : List ℕ)
+          (told : Result (Unit {0}) TransferFault)
           → Transfers (SendTells path choice bytes) old told new
-          → MovesAt path device due item old new
-      sent_here choice bytes due item asks tells told done plain is =
+          → (d : Bool) → first_of d Before ≡ None
+          → FailsPlain d path (Told (Some (send_ask choice path bytes))
+          (sent_made choice path bytes told))
+      send_fails FirstBulk bytes told is true none = λ packets asked. absurd (cc asked)
+      send_fails FirstBulk bytes told is false none = λ more asked.
           let hands = is.call.did running in
-          let single : new.world.shared ≡ false =
-          (hands.keeps.worlds.addresses.kept (claims old.entries) knows.sound.owned).single in
+          sym (done_told hands.answer told (table_ended hands told is.tells)
+          ∙ count_done (length bytes) told)
+          ∙ first_fails false (sends_miss FirstBulk) (λ p. SentThrough p bytes) Before old.world
+          hands.answer After
+          new.world hands.moves none
+      send_fails (At a) bytes told is d none = plain_none (Some (SendTo path a bytes))
+          (sent_made (At a) path bytes told) (λ more asked. cc asked) (λ packets asked. cc asked) d
+
+      sent_here : (choice : EndpointChoice) (bytes : List ℕ)
+          (told : Result (Unit {0}) TransferFault)
+          → Transfers (SendTells path choice bytes) old told new
+          → MovesAt path device (Some (send_ask choice path bytes))
+          (sent_made choice path bytes told) old new
+      sent_here choice bytes told is =
+          let hands = is.call.did running in
+          let due : Option Ask = Some (send_ask choice path bytes) in
+          let made : Item = sent_made choice path bytes told in
+          let done : is_ok told ≡ is_done made = count_done (length bytes) told in
+          let ends = table_ended hands told is.tells in
           let listed : accepted_device_at path old.entries ≡ Some device =
           listed_before path hands.through in
-          let ends : transfer_ended (host_told hands.answer) ≡ Ok told =
-          sym (ap transfer_ended hands.told) ∙ is.tells in
-          here due item
+          here due made
           (TookBytes (through (sends_through choice) Before) (is_ok told) bytes) hands.through
           (told_sent path old new knows.sound still running choice bytes told is).took.each
           (λ x s v is_path was_on on stands stood took.
@@ -370,54 +443,54 @@ module _ (path : List ℕ) (device : Accepted) (old new : HostState)
           let level : PipesInSync device Before s =
           (knows.sound.level still path).level device s listed
           reached there in
-          sends_move device (is_below_hub path) path (Told due item) choice bytes asks tells
-          old.world new.world x s v on stands stood has single hands.answer
+          sends_move device (is_below_hub path) path (Told due made) choice bytes
+          (λ end. sends_for choice end path bytes) (λ end. refl)
+          old.world new.world x s v on stands stood has (single hands.keeps) hands.answer
           (no_bus_fault hands.answer told ends) (done_told hands.answer told ends ∙ done) After
           Before hands.moves (pipes_to hands.through) level
           (subst (λ d. TookBytes (through (sends_through choice) Before) d bytes s v) done took)
-          plain)
-
-      -- one that names no endpoint fails where there is none
-      send_fails : (bytes : List ℕ) (told : Result (Unit {0}) TransferFault) (item : Item)
-          → is_ok told ≡ is_done item → Transfers (SendTells path FirstBulk bytes) old told new
-          → (d : Bool) → first_of d Before ≡ None
-          → FailsPlain d path (Told (Some (Send path bytes)) item)
-      send_fails bytes told item done is true none = λ packets asked. absurd (cc asked)
-      send_fails bytes told item done is false none = λ more asked.
-          let hands = is.call.did running in
-          let ends : transfer_ended (host_told hands.answer) ≡ Ok told =
-          sym (ap transfer_ended hands.told) ∙ is.tells in
-          sym (done_told hands.answer told ends ∙ done)
-          ∙ first_fails false (sends_miss FirstBulk) (λ p. SentThrough p bytes) Before old.world
-          hands.answer After
-          new.world hands.moves none
+          (send_fails choice bytes told is))
 
       -- What an IN endpoint gives
 
-      received_here : (choice : EndpointChoice) (packets : ℕ) (due : Option Ask) (item : Item)
-          (told : Result (Vec ℕ) TransferFault) → ((end : Endpoint) → bytes_for end due ≡ [])
-          → ((end : Endpoint) (came : List (List ℕ))
-          → AreJoined (is_of end path choice) (bytes_in told) came → ArePackets end item came)
-          → is_ok told ≡ is_done item
-          → ((d : Bool) → first_of d Before ≡ None → FailsPlain d path (Told due item))
+      receive_fails : (choice : EndpointChoice) (packets : ℕ)
+          (told : Result (Vec ℕ) TransferFault)
           → Transfers (ReceiveTells path choice packets) old told new
-          → MovesAt path device due item old new
-      received_here choice packets due item told asks tells done plain is =
+          → (d : Bool) → first_of d Before ≡ None
+          → FailsPlain d path (Told (Some (receive_ask choice path packets))
+          (received_made choice path told))
+      receive_fails FirstBulk packets told is false none = λ bytes asked. absurd (cc asked)
+      receive_fails FirstBulk packets told is true none = λ more asked.
           let hands = is.call.did running in
-          let ends : transfer_ended (host_told hands.answer) ≡ Ok told =
-          sym (ap transfer_ended hands.told) ∙ is.tells in
-          here due item
+          sym (done_told hands.answer told (table_ended hands told is.tells))
+          ∙ first_fails true (receives_miss FirstBulk) (λ p. ReceivedThrough p packets) Before
+          old.world hands.answer After
+          new.world hands.moves none
+      receive_fails (At a) packets told is d none = plain_none (Some (ReceiveFrom path a packets))
+          (received_made (At a) path told) (λ bytes asked. cc asked) (λ more asked. cc asked) d
+
+      received_here : (choice : EndpointChoice) (packets : ℕ)
+          (told : Result (Vec ℕ) TransferFault)
+          → Transfers (ReceiveTells path choice packets) old told new
+          → MovesAt path device (Some (receive_ask choice path packets))
+          (received_made choice path told) old new
+      received_here choice packets told is =
+          let hands = is.call.did running in
+          let due : Option Ask = Some (receive_ask choice path packets) in
+          let made : Item = received_made choice path told in
+          here due made
           (GaveBy (bytes_in told) (through (receives_through choice) Before)
           (through (receives_through choice) After)) hands.through
           (told_received path old new knows.sound still running choice packets told is).gave.each
           (λ x s v is_path was_on on stands stood gave.
-          gives_move device (is_below_hub path) path (Told due item) choice
+          gives_move device (is_below_hub path) path (Told due made) choice
           (receives_through choice) (receives_miss choice) (λ p. ReceivedThrough p packets)
-          (λ came. concat came ≡ bytes_in told) asks
-          (λ end came mine joined. tells end came
-          (are_joined (is_of end path choice) (bytes_in told) came mine joined))
-          (λ end other. tells end [] (none_joined (is_of end path choice) (bytes_in told) other))
-          old.world new.world s v hands.answer (done_told hands.answer told ends ∙ done) After
+          (λ came. concat came ≡ bytes_in told) (λ end. receives_for choice end path packets)
+          (λ end came mine joined.
+          are_joined (is_of end path choice) (bytes_in told) came mine joined)
+          (λ end other. none_joined (is_of end path choice) (bytes_in told) other)
+          old.world new.world s v hands.answer
+          (done_told hands.answer told (table_ended hands told is.tells)) After
           (λ pipe left. GaveBy (bytes_in told) pipe left s v)
           (λ left by. (sym by.0, by.1))
           (λ pipe left by. (
@@ -435,30 +508,14 @@ module _ (path : List ℕ) (device : Accepted) (old new : HostState)
           (λ pipe left did. did.same)
           (λ function are pipe found. receives_pick device (is_below_hub path) function are choice
           pipe found)
-          Before hands.moves (pipes_to hands.through) gave plain)
-
-      receive_fails : (packets : ℕ) (told : Result (Vec ℕ) TransferFault) (item : Item)
-          → is_ok told ≡ is_done item
-          → Transfers (ReceiveTells path FirstBulk packets) old told new
-          → (d : Bool) → first_of d Before ≡ None
-          → FailsPlain d path (Told (Some (Receive path packets)) item)
-      receive_fails packets told item done is false none = λ bytes asked. absurd (cc asked)
-      receive_fails packets told item done is true none = λ more asked.
-          let hands = is.call.did running in
-          let ends : transfer_ended (host_told hands.answer) ≡ Ok told =
-          sym (ap transfer_ended hands.told) ∙ is.tells in
-          sym (done_told hands.answer told ends ∙ done)
-          ∙ first_fails true (receives_miss FirstBulk) (λ p. ReceivedThrough p packets) Before
-          old.world hands.answer After
-          new.world hands.moves none
+          Before hands.moves (pipes_to hands.through) gave (receive_fails choice packets told is))
 
       polled_here : (a : ℕ) (told : Result (Option (ArrayVec ℕ)) TransferFault)
           → Transfers (ReportTells path a) old told new
           → MovesAt path device (Some (Poll path a)) (polled_made path a told) old new
       polled_here a told is =
           let hands = is.call.did running in
-          let ends : transfer_ended (host_told hands.answer) ≡ Ok told =
-          sym (ap transfer_ended hands.told) ∙ is.tells in
+          let ends = table_ended hands told is.tells in
           let due : Option Ask = Some (Poll path a) in
           let made : Item = polled_made path a told in
           here due made
@@ -500,18 +557,13 @@ module _ (path : List ℕ) (device : Accepted) (old new : HostState)
           → MovesAt path device (Some (Clear path)) (cleared_made path told) old new
       cleared_here told is =
           let hands = is.call.did running in
-          let single : new.world.shared ≡ false =
-          (hands.keeps.worlds.addresses.kept (claims old.entries) knows.sound.owned).single in
           let due : Option Ask = Some (Clear path) in
           let made : Item = cleared_made path told in
           let known : Option Accepted = accepted_device_at path old.entries in
           here due made (HaltsCleared (is_ok told) known Before After) hands.through
           (told_cleared path old new knows.sound still running told is).each
           (λ x s v is_path was_on on stands stood cleared.
-          let was : Was SameSettings old.world x v =
-          hands.keeps.worlds.devices.same single x v on stands in
-          let same : SameSettings x s v = subst (λ (d : State). SameSettings x d v)
-          (one_stands old.world x s was.before stood was.stands) was.so in
+          let same = settings_kept hands.keeps x s v on stands stood in
           cleared_move device (is_below_hub path) path (Told due made) refl (is_ok told) known s v
           Before After old.world new.world hands.answer hands.moves (pipes_to hands.through)
           refl cleared
@@ -523,18 +575,13 @@ module _ (path : List ℕ) (device : Accepted) (old new : HostState)
           → MovesAt path device (Some (ClearOf path a)) (cleared_of_made path a told) old new
       cleared_of_here a told is =
           let hands = is.call.did running in
-          let single : new.world.shared ≡ false =
-          (hands.keeps.worlds.addresses.kept (claims old.entries) knows.sound.owned).single in
           let due : Option Ask = Some (ClearOf path a) in
           let made : Item = cleared_of_made path a told in
           let known : Option Accepted = accepted_device_at path old.entries in
           here due made (HaltClearedOf a (is_ok told) known Before After) hands.through
           (told_cleared_of path old new knows.sound still running a told is).each
           (λ x s v is_path was_on on stands stood cleared.
-          let was : Was SameSettings old.world x v =
-          hands.keeps.worlds.devices.same single x v on stands in
-          let same : SameSettings x s v = subst (λ (d : State). SameSettings x d v)
-          (one_stands old.world x s was.before stood was.stands) was.so in
+          let same = settings_kept hands.keeps x s v on stands stood in
           cleared_of_move device (is_below_hub path) path (Told due made) a refl (is_ok told) known
           s v Before After old.world new.world hands.answer hands.moves
           (pipes_to hands.through) cleared
@@ -566,13 +613,9 @@ module _ (path : List ℕ) (device : Accepted) (old new : HostState)
             so = spares-same x s s refl;
           }
           endpoints x s on stands (Ok target) answer made =
-              let worlds = (is.call.did running).keeps.worlds in
-              let single : new.world.shared ≡ false =
-              (worlds.addresses.kept (claims old.entries) knows.sound.owned).single in
-              let was = made.left (knows.sound.owned.so still) single x s on stands in
-              let kept = worlds.devices.same single x s on stands in
-              let same : SameSettings x was.before s = subst (λ (d : State). SameSettings x d s)
-              (one_stands old.world x was.before kept.before was.stands kept.stands) kept.so in
+              let keeps = (is.call.did running).keeps in
+              let was = made.left (knows.sound.owned.so still) (single keeps) x s on stands in
+              let same = settings_kept keeps x was.before s on stands was.stands in
               record {
                 before = was.before;
                 on = was.on;
@@ -616,13 +659,9 @@ module _ (path : List ℕ) (device : Accepted) (old new : HostState)
             so = ends_same v v refl;
           }
           ends x v on stands (Ok target) asks answer done =
-              let worlds = (is.call.did running).keeps.worlds in
-              let single : new.world.shared ≡ false =
-              (worlds.addresses.kept (claims old.entries) knows.sound.owned).single in
-              let was = done.left (knows.sound.owned.so still) single x v on stands in
-              let kept = worlds.devices.same single x v on stands in
-              let same : SameSettings x was.before v = subst (λ (d : State). SameSettings x d v)
-              (one_stands old.world x was.before kept.before was.stands kept.stands) kept.so in
+              let keeps = (is.call.did running).keeps in
+              let was = done.left (knows.sound.owned.so still) (single keeps) x v on stands in
+              let same = settings_kept keeps x was.before v on stands was.stands in
               record {
                 before = was.before;
                 on = was.on;
@@ -637,97 +676,51 @@ module _ (path : List ℕ) (device : Accepted) (old new : HostState)
 
       -- Items
 
-      sent_item : (to bytes : List ℕ) (told : Result (Unit {0}) TransferFault)
-          → Transfers (SendTells to FirstBulk bytes) old told new
-          → MovesAt path device (Some (Send to bytes))
-          (sent_made FirstBulk to bytes told) old new
-      sent_item to bytes told is =
-          by_path (λ p. Transfers (SendTells p FirstBulk bytes) old told new)
-          (λ p. Some (Send p bytes)) (λ p. sent_made FirstBulk p bytes told) to
-          (λ came. sent_here FirstBulk bytes (Some (Send path bytes))
-          (sent_made FirstBulk path bytes told) (λ end. refl) (λ end. refl) told
-          (count_done (length bytes) told)
-          (send_fails bytes told (sent_made FirstBulk path bytes told)
-          (count_done (length bytes) told) came) came)
-          (λ away came. apart to (Some (Send to bytes))
-          (sent_made FirstBulk to bytes told)
-          (TookBytes (through (sends_through FirstBulk) (pipes_at to (table_in old))) (is_ok told)
-          bytes) away
-          (quiet_send (Some (Send to bytes)) (sent_made FirstBulk to bytes told) to
-          FirstBulk bytes away (λ end. refl) (λ end. refl)
-          (λ more asked. let same : to ≡ path = cc asked in not_to to path away same)
-          (λ packets asked. cc asked)) (came.call.did running).through
-          (told_sent to old new knows.sound still running FirstBulk bytes told came).took.each) is
-
-      sent_to_item : (to : List ℕ) (a : ℕ) (bytes : List ℕ)
+      sent_item : (choice : EndpointChoice) (to bytes : List ℕ)
           (told : Result (Unit {0}) TransferFault)
-          → Transfers (SendTells to (At a) bytes) old told new
-          → MovesAt path device (Some (SendTo to a bytes))
-          (sent_made (At a) to bytes told) old new
-      sent_to_item to a bytes told is =
-          by_path (λ p. Transfers (SendTells p (At a) bytes) old told new)
-          (λ p. Some (SendTo p a bytes)) (λ p. sent_made (At a) p bytes told) to
-          (λ came. sent_here (At a) bytes (Some (SendTo path a bytes))
-          (sent_made (At a) path bytes told) (λ end. refl) (λ end. refl) told
-          (count_done (length bytes) told)
-          (λ d none. plain_none (Some (SendTo path a bytes))
-          (sent_made (At a) path bytes told) (λ more asked. cc asked)
-          (λ packets asked. cc asked) d) came)
-          (λ away came. apart to (Some (SendTo to a bytes))
-          (sent_made (At a) to bytes told)
-          (TookBytes (through (sends_through (At a)) (pipes_at to (table_in old))) (is_ok told)
-          bytes) away
-          (quiet_send (Some (SendTo to a bytes))
-          (sent_made (At a) to bytes told) to (At a) bytes away (λ end. refl)
-          (λ end. refl) (λ more asked. cc asked) (λ packets asked. cc asked))
-          (came.call.did running).through
-          (told_sent to old new knows.sound still running (At a) bytes told came).took.each) is
+          → Transfers (SendTells to choice bytes) old told new
+          → MovesAt path device (Some (send_ask choice to bytes))
+          (sent_made choice to bytes told) old new
+      sent_item choice to bytes told is =
+          by_path (λ p. Transfers (SendTells p choice bytes) old told new)
+          (λ p. Some (send_ask choice p bytes)) (λ p. sent_made choice p bytes told) to
+          (sent_here choice bytes told)
+          (λ away came. apart to (Some (send_ask choice to bytes))
+          (sent_made choice to bytes told)
+          (TookBytes (through (sends_through choice) (pipes_at to (table_in old))) (is_ok told)
+          bytes) away (quiet_send choice to bytes told away) (came.call.did running).through
+          (told_sent to old new knows.sound still running choice bytes told came).took.each) is
 
-      received_item : (from : List ℕ) (packets : ℕ) (told : Result (Vec ℕ) TransferFault)
-          → Transfers (ReceiveTells from FirstBulk packets) old told new
-          → MovesAt path device (Some (Receive from packets)) (received_made FirstBulk from told) old
-          new
-      received_item from packets told is =
-          by_path (λ p. Transfers (ReceiveTells p FirstBulk packets) old told new)
-          (λ p. Some (Receive p packets)) (λ p. received_made FirstBulk p told) from
-          (λ came. received_here FirstBulk packets (Some (Receive path packets))
-          (received_made FirstBulk path told) told (λ end. refl) (λ end l are. are) refl
-          (receive_fails packets told (received_made FirstBulk path told) refl came) came)
-          (λ away came. apart from (Some (Receive from packets)) (received_made FirstBulk from told)
-          (GaveBy (bytes_in told)
-          (through (receives_through FirstBulk) (pipes_at from (table_in old)))
-          (through (receives_through FirstBulk) (pipes_at from (table_in new)))) away
-          (quiet_receive (Some (Receive from packets)) (received_made FirstBulk from told) from
-          FirstBulk away
-          (λ end. refl) (λ end other. none_joined (is_of end from FirstBulk) (bytes_in told) other)
-          (λ bytes asked. cc asked)
-          (λ more asked. let same : from ≡ path = cc asked in not_to from path away same))
-          (came.call.did running).through
-          (told_received from old new knows.sound still running FirstBulk packets told
+      received_item : (choice : EndpointChoice) (from : List ℕ) (packets : ℕ)
+          (told : Result (Vec ℕ) TransferFault)
+          → Transfers (ReceiveTells from choice packets) old told new
+          → MovesAt path device (Some (receive_ask choice from packets))
+          (received_made choice from told) old new
+      received_item choice from packets told is =
+          by_path (λ p. Transfers (ReceiveTells p choice packets) old told new)
+          (λ p. Some (receive_ask choice p packets)) (λ p. received_made choice p told) from
+          (received_here choice packets told)
+          (λ away came. apart from (Some (receive_ask choice from packets))
+          (received_made choice from told)
+          (GaveBy (bytes_in told) (through (receives_through choice) (pipes_at from (table_in old)))
+          (through (receives_through choice) (pipes_at from (table_in new)))) away
+          (quiet_receive (Some (receive_ask choice from packets)) (received_made choice from told)
+          from choice away (λ end. receives_for choice end from packets)
+          (λ end other. none_joined (is_of end from choice) (bytes_in told) other)
+          (receives_none choice) (receives_apart choice away)) (came.call.did running).through
+          (told_received from old new knows.sound still running choice packets told
           came).gave.each) is
+        where
+          receives_none : (c : EndpointChoice) (bytes : List ℕ)
+              → Some (receive_ask c from packets) ≡ Some (Send path bytes) → ⊥
+          receives_none FirstBulk bytes asked = cc asked
+          receives_none (At a) bytes asked = cc asked
 
-      received_from_item : (from : List ℕ) (a packets : ℕ) (told : Result (Vec ℕ) TransferFault)
-          → Transfers (ReceiveTells from (At a) packets) old told new
-          → MovesAt path device (Some (ReceiveFrom from a packets)) (received_made (At a) from told)
-          old new
-      received_from_item from a packets told is =
-          by_path (λ p. Transfers (ReceiveTells p (At a) packets) old told new)
-          (λ p. Some (ReceiveFrom p a packets)) (λ p. received_made (At a) p told) from
-          (λ came. received_here (At a) packets (Some (ReceiveFrom path a packets))
-          (received_made (At a) path told) told (λ end. refl) (λ end l are. are) refl
-          (λ d none. plain_none (Some (ReceiveFrom path a packets))
-          (received_made (At a) path told) (λ bytes asked. cc asked) (λ more asked. cc asked) d)
-          came)
-          (λ away came. apart from (Some (ReceiveFrom from a packets))
-          (received_made (At a) from told)
-          (GaveBy (bytes_in told) (through (receives_through (At a)) (pipes_at from (table_in old)))
-          (through (receives_through (At a)) (pipes_at from (table_in new)))) away
-          (quiet_receive (Some (ReceiveFrom from a packets)) (received_made (At a) from told) from
-          (At a) away (λ end. refl)
-          (λ end other. none_joined (is_of end from (At a)) (bytes_in told) other)
-          (λ bytes asked. cc asked) (λ more asked. cc asked)) (came.call.did running).through
-          (told_received from old new knows.sound still running (At a) packets told
-          came).gave.each) is
+          receives_apart : (c : EndpointChoice) → ties (path_cmp from) path ≡ false → (more : ℕ)
+              → Some (receive_ask c from packets) ≡ Some (Receive path more) → ⊥
+          receives_apart FirstBulk away more asked =
+              let same : from ≡ path = cc asked in not_to from path away same
+          receives_apart (At a) away more asked = cc asked
 
       polled_item : (from : List ℕ) (a : ℕ) (told : Result (Option (ArrayVec ℕ)) TransferFault)
           → Transfers (ReportTells from a) old told new
@@ -857,16 +850,16 @@ module _ (path : List ℕ) (device : Accepted) (old new : HostState)
           call_moves (Show said) told fits of came = absurd of
           call_moves AskNews told fits of came = absurd of
           call_moves (Send to bytes) told fits of came =
-              moved (Send to bytes) _ of (sent_item to bytes told came)
+              moved (Send to bytes) _ of (sent_item FirstBulk to bytes told came)
           call_moves (Receive from packets) told fits of came =
-              moved (Receive from packets) _ of (received_item from packets told came)
+              moved (Receive from packets) _ of (received_item FirstBulk from packets told came)
           call_moves (Clear to) told fits of came =
               moved (Clear to) _ of (cleared_item to told came)
           call_moves (SendTo to a bytes) told fits of came =
-              moved (SendTo to a bytes) _ of (sent_to_item to a bytes told came)
+              moved (SendTo to a bytes) _ of (sent_item (At a) to bytes told came)
           call_moves (ReceiveFrom from a packets) told fits of came =
               moved (ReceiveFrom from a packets) _ of
-              (received_from_item from a packets told came)
+              (received_item (At a) from packets told came)
           call_moves (Poll from a) told fits of came =
               moved (Poll from a) _ of (polled_item from a told came)
           call_moves (ClearOf to a) told fits of came =

@@ -1,19 +1,17 @@
 -- Calls through one pipe of a function.
-use Rattle.std.proofs.Common.{◌≡◌, ◌∙◌, sym, ap, subst, refl, Bool, true, false, Option, Some}
-use Rattle.std.proofs.Common.{None, Result, Ok, Err}
+use Rattle.std.proofs.Common.{◌≡◌, ◌∙◌, sym, ap, refl, Bool, true, false, Option, Some, None}
+use Rattle.std.proofs.Common.{Result, Ok, Err}
 use Rattle.usb_world.specs.{BusFault, World}
 use Rattle.usb_pipe.specs.{BusToldIt, PipeFault, PipeState, is_broken, needs_clear, pipe_made}
 use Rattle.usb_pipe.specs.declared.fault.PipeFault.TheVariants as pipe_fault
-use Rattle.usb_table.specs.{AreInPlace, ClearedAfter, ClearedBy, ClearedFirst, ClearedIf}
-use Rattle.usb_table.specs.{ClearedInOrder, Transfer, TransferFault, clear_miss, first_unclear}
-use Rattle.usb_table.specs.{ClearedInTurn, ClearedThrough, Function}
-use Rattle.usb_table.specs.{FunctionPipes, MovedOrRefused, PipeDid, first_pipe, of_pipe, with_rest}
-use Rattle.usb_table.specs.{PipesThrough, TableFault, ThroughIf, TransferTold}
-use Rattle.usb_table.specs.{function_made, pipe_asked, table_answer, unless_broken, with_pipe}
+use Rattle.usb_table.specs.{AreInPlace, ClearedFirst, ClearedInOrder, Transfer, TransferFault}
+use Rattle.usb_table.specs.{first_unclear, ClearedThrough, Function, FunctionPipes, MovedOrRefused}
+use Rattle.usb_table.specs.{PipeDid, first_pipe, of_pipe, with_rest, PipesThrough, TableFault}
+use Rattle.usb_table.specs.{TransferTold, function_made, pipe_asked, table_answer, unless_broken}
+use Rattle.usb_table.specs.{with_pipe, pipe_at}
 use Rattle.usb_table.proofs.levels.StandingPipes.{IsRest, Picks, first_beside, first_picks}
 use Rattle.usb_table.proofs.levels.StandingPipes.{first_ways, made_with, placed_made, rest_made}
-use Rattle.usb_table.proofs.levels.StandingPipes.{unclear_beside}
-use Rattle.usb_table.proofs.levels.StandingPipes.{rest_same, rest_way, with_same}
+use Rattle.usb_table.proofs.levels.StandingPipes.{unclear_beside, rest_same, rest_way, with_same}
 use Rattle.usb_table.proofs.transfers.Restarts.{cleared_rest}
 
 -- a fault of the bus is told
@@ -32,17 +30,24 @@ pub told_bus : {A : Type 0} (answer : Result A PipeFault) (result : Result A Tab
     (last : Option BusFault) → result ≡ table_answer answer → BusToldIt answer last
     → TransferTold result last
 told_bus answer result last told x =
-    subst (λ r. TransferTold r last) (sym told) (told_answer answer last x)
+    rw told (told_answer answer last x)
 
 -- a pipe was picked, and another one to the same endpoint put in its place
+pub record PutBack (pick : FunctionPipes → Option PipeState) (pipes left : FunctionPipes)
+    (pipe rest : PipeState) : Type 0 where
+  pub picks : Picks pick
+  pub placed : AreInPlace pipes
+  pub picked : pick pipes ≡ Some pipe
+  pub put : left ≡ with_pipe rest pipes
+  pub same : pipe_made rest ≡ pipe_made pipe
 
-module _ (pick : FunctionPipes → Option PipeState) (picks : Picks pick)
-    (pipes left : FunctionPipes) (placed : AreInPlace pipes) (pipe rest : PipeState)
-    (picked : pick pipes ≡ Some pipe) (put : left ≡ with_pipe rest pipes)
-    (same : pipe_made rest ≡ pipe_made pipe) where
+module _ {pick : FunctionPipes → Option PipeState} {pipes left : FunctionPipes}
+    {pipe rest : PipeState} (b : PutBack pick pipes left pipe rest) where
+  at : pipe_at pipe.is_in pipe.ep pipes ≡ Some pipe
+  at = (b.picks pipes pipe b.placed b.picked).at
+
   pub call_made : function_made left ≡ function_made pipes
-  call_made = ap function_made put
-      ∙ made_with pipe rest pipes (picks pipes pipe placed picked).at same
+  call_made = ap function_made b.put ∙ made_with pipe rest pipes at b.same
 
   pub call_through : {A : Type 0} (miss : FunctionPipes → TransferFault) (So : PipeDid A)
       (old : World) (result : Result A TableFault)
@@ -50,8 +55,8 @@ module _ (pick : FunctionPipes → Option PipeState) (picks : Picks pick)
       → PipesThrough pick miss So (Function pipes) old result (Function left) new
   call_through miss So old result new x = (
     Some rest,
-    ap Function put,
-    subst (λ o. ThroughIf So (miss pipes) o old result (Some rest) new) (sym picked) x,
+    ap Function b.put,
+    rw b.picked x,
   )
 
   module _ {A W : Type 0} (miss : TransferFault) (old new : W) (answer : Result A PipeFault)
@@ -60,18 +65,15 @@ module _ (pick : FunctionPipes → Option PipeState) (picks : Picks pick)
         × (rest ≡ pipe) × (new ≡ old))
         → MovedOrRefused (unless_broken (pipe_asked miss (pick pipes))) (Function pipes) old result
         (Function left) new
-    call_refused broken = subst (λ o. MovedOrRefused (unless_broken (pipe_asked miss o))
-        (Function pipes) old result (Function left) new) (sym picked)
-        (by_condition (is_broken pipe.condition) refl)
+    call_refused broken = rw b.picked (by_condition (is_broken pipe.condition) refl)
       where
-        by_condition : (b : Bool) → is_broken pipe.condition ≡ b
+        by_condition : (c : Bool) → is_broken pipe.condition ≡ c
             → MovedOrRefused (unless_broken (Ok pipe)) (Function pipes) old result (Function left)
             new
         by_condition true is =
             let x = broken is in
             let back : left ≡ pipes =
-            put ∙ ap (λ p. with_pipe p pipes) x.1
-            ∙ with_same pipe pipes (picks pipes pipe placed picked).at in
+            b.put ∙ ap (λ p. with_pipe p pipes) x.1 ∙ with_same pipe pipes at in
             rw is (told ∙ ap table_answer x.0, ap Function back, x.2)
         by_condition false is = rw is (answer, told)
 
@@ -84,15 +86,9 @@ pub call_first : (is_in : Bool) (pipes left : FunctionPipes) (pipe rest : PipeSt
     → ClearedFirst is_in pipes old answer left new
 call_first is_in pipes left pipe rest picked put old answer new x = record {
   rest = Some rest;
-  cleared = subst (λ o. ClearedBy o old answer (Some rest) new) (sym picked) x;
+  cleared = rw picked x;
   left_is = put;
 }
-
-pub in_turn_of : (pipes : FunctionPipes) (old : World) (result : Result (Unit {0}) TableFault)
-    (left : FunctionPipes) (new : World) → clear_miss pipes ≡ None
-    → ClearedInOrder pipes old result left new → ClearedInTurn pipes old result left new
-in_turn_of pipes old result left new none x = subst
-    (λ why. ClearedIf why pipes old result left new) (sym none) x
 
 module _ (pipes mid_pipes : FunctionPipes) (placed : AreInPlace pipes) (old : World)
     (first : Result (Unit {0}) PipeFault) (mid : World)
@@ -109,6 +105,11 @@ module _ (pipes mid_pipes : FunctionPipes) (placed : AreInPlace pipes) (old : Wo
       (rest_way false (first_pipe false pipes) x.rest (first_ways false pipes placed) is_rest)
       (λ e. cc e)
 
+  kept : mid_pipes ≡ with_rest (first_pipe true pipes) (with_rest x.rest pipes)
+  kept = sym (rest_same (first_pipe true) (first_picks true) mid_pipes
+      (placed_made pipes mid_pipes made placed) (first_pipe true pipes) same_in)
+      ∙ ap (with_rest (first_pipe true pipes)) x.left_is
+
   pub first_failed : (why : PipeFault) → first ≡ Err why
       → ClearedInOrder pipes old (Err (of_pipe why)) mid_pipes mid
   first_failed why failed = record {
@@ -116,11 +117,9 @@ module _ (pipes mid_pipes : FunctionPipes) (placed : AreInPlace pipes) (old : Wo
     mid = mid;
     rest_out = x.rest;
     rest_in = first_pipe true pipes;
-    out = subst (λ r. ClearedBy (first_pipe false pipes) old r x.rest mid) failed x.cleared;
+    out = rw (← failed) x.cleared;
     into = (refl, refl, refl);
-    left_is = sym (rest_same (first_pipe true) (first_picks true) mid_pipes
-        (placed_made pipes mid_pipes made placed) (first_pipe true pipes) same_in)
-        ∙ ap (with_rest (first_pipe true pipes)) x.left_is;
+    left_is = kept;
   }
 
   -- what could not be cleared in the second place cannot be now
@@ -137,12 +136,9 @@ module _ (pipes mid_pipes : FunctionPipes) (placed : AreInPlace pipes) (old : Wo
     mid = mid;
     rest_out = x.rest;
     rest_in = first_pipe true pipes;
-    out = subst (λ r. ClearedBy (first_pipe false pipes) old r x.rest mid) done x.cleared;
-    into = subst (λ w. ClearedAfter (Ok u) w (first_pipe true pipes) mid (Err (Transfer why))
-        (first_pipe true pipes) mid) (sym is ∙ still_unclear) (refl, refl, refl);
-    left_is = sym (rest_same (first_pipe true) (first_picks true) mid_pipes
-        (placed_made pipes mid_pipes made placed) (first_pipe true pipes) same_in)
-        ∙ ap (with_rest (first_pipe true pipes)) x.left_is;
+    out = rw (← done) x.cleared;
+    into = rw (sym still_unclear ∙ is) (refl, refl, refl);
+    left_is = kept;
   }
 
   pub both_cleared : first_unclear true mid_pipes ≡ None
@@ -155,9 +151,7 @@ module _ (pipes mid_pipes : FunctionPipes) (placed : AreInPlace pipes) (old : Wo
     mid = mid;
     rest_out = x.rest;
     rest_in = y.rest;
-    out = subst (λ r. ClearedBy (first_pipe false pipes) old r x.rest mid) done x.cleared;
-    into = subst (λ w. ClearedAfter (Ok u) w (first_pipe true pipes) mid result y.rest new)
-        (sym clear ∙ still_unclear)
-        (answer, told, subst (λ o. ClearedBy o mid answer y.rest new) same_in y.cleared);
+    out = rw (← done) x.cleared;
+    into = rw (sym still_unclear ∙ clear) (answer, told, rw (← same_in) y.cleared);
     left_is = y.left_is ∙ ap (with_rest y.rest) x.left_is;
   }

@@ -1,17 +1,15 @@
 -- A call tries nothing, or goes through a pipe to the device that was found.
-use Rattle.std.proofs.Common.{◌≡◌, refl, sym, ap, subst, ℕ, Bool, Option, None}
-use Rattle.std.proofs.Common.{Some, Result, Err}
+use Rattle.std.proofs.Common.{◌≡◌, refl, ap, ℕ, Bool, Option, None, Some, Result, Err}
 use Rattle.arrayvec.specs.ArrayVec.{ArrayVec}
 use Rattle.usb_world.specs.{World}
 use Rattle.usb_pipe.specs.{PipeState, pipe_made}
 use Rattle.usb_enum.specs.{Accepted, Finding}
 use Rattle.usb_enum.specs.declared.finding.Finding.TheVariants.{Device, Refused}
 use Rattle.usb_table.specs.{TableFault, Transfer, TransferFault, NoDevice, NoEndpoint}
-use Rattle.usb_table.specs.{FunctionPipes}
-use Rattle.usb_table.specs.{Pipes, Hub, Function, Absent, AreFunctionPipes, ArePipesIf, ArePipesOf}
-use Rattle.usb_table.specs.{ArePipesTo, ArePlaced, ClearedIf, ClearedInOrder, NotTried, PipeDid}
-use Rattle.usb_table.specs.{PipesCleared, PipesThrough, ThroughIf, clear_miss, through, with_pipe}
-use Rattle.usb_table.specs.{with_rest}
+use Rattle.usb_table.specs.{FunctionPipes, Pipes, Hub, Function, Absent, AreFunctionPipes}
+use Rattle.usb_table.specs.{ArePipesIf, ArePipesOf, ArePipesTo, ArePlaced, ClearedIf}
+use Rattle.usb_table.specs.{ClearedInOrder, NotTried, PipeDid, PipesCleared, PipesThrough}
+use Rattle.usb_table.specs.{ThroughIf, clear_miss, through, with_pipe, with_rest}
 use Rattle.usb_table.proofs.levels.StandingPipes.{IsPipeOf, Picks, PickedAt, in_place, pipe_of}
 
 -- the pipes to what was found stand in their places
@@ -36,8 +34,7 @@ pub if_found : (P R : Pipes → Pipes → Type 0) (found : Option Accepted) (bel
     → ArePipesTo device below_hub pipes → P pipes left → R pipes left)
     → (pipes left : Pipes) → ArePipesIf found below_hub pipes → P pipes left → R pipes left
 if_found P R None below_hub absent there pipes left none x =
-    subst (λ p. R p left) (sym none.1)
-    (absent none.0 left refl (subst (λ p. P p left) none.1 x))
+    rw none.1 (absent none.0 left refl (rw none.1 at x))
 if_found P R (Some device) below_hub absent there pipes left are x =
     there device pipes left refl are x
 
@@ -66,15 +63,14 @@ module _ {A : Type 0} (pick : FunctionPipes → Option PipeState)
     → So pipe old result left new → R (Function pipes) (Function (with_pipe left pipes))) where
   none_picked : (pipes left : Pipes) (fault : TransferFault) → through pick pipes ≡ None
       → NotTried fault pipes old result left new → R pipes left
-  none_picked pipes left fault none x = subst (R pipes) (sym x.1) (idle pipes fault none x.0 x.2)
+  none_picked pipes left fault none x = rw x.1 (idle pipes fault none x.0 x.2)
 
   one_picked : (device : Accepted) (pipes : FunctionPipes) → found ≡ Some device
       → AreFunctionPipes device below_hub pipes → (o rest : Option PipeState) → pick pipes ≡ o
       → ThroughIf So (miss pipes) o old result rest new
       → R (Function pipes) (Function (with_rest rest pipes))
   one_picked device pipes e are None rest is x =
-      subst (λ r. R (Function pipes) (Function (with_rest r pipes))) (sym x.1)
-      (idle (Function pipes) (miss pipes) is x.0 x.2)
+      rw x.1 (idle (Function pipes) (miss pipes) is x.0 x.2)
   one_picked device pipes e are (Some pipe) None is x = absurd x
   one_picked device pipes e are (Some pipe) (Some left) is x =
       let at : PickedAt pick pipes pipe =
@@ -92,8 +88,7 @@ module _ {A : Type 0} (pick : FunctionPipes → Option PipeState)
       → R pipes left
   picked_there device (Hub pipe) left e are x = none_picked (Hub pipe) left NoEndpoint refl x
   picked_there device (Function pipes) left e are x =
-      subst (R (Function pipes)) (sym x.1)
-      (one_picked device pipes e are (pick pipes) x.0 refl x.2)
+      rw x.1 (one_picked device pipes e are (pick pipes) x.0 refl x.2)
   picked_there device (Absent said) left e are x = absurd are
 
   pub through_pipes : (pipes left : Pipes) → ArePipesIf found below_hub pipes
@@ -113,7 +108,7 @@ module _ (old : World) (result : Result (Unit {0}) TableFault) (new : World)
     → R (Function pipes) (Function left)) where
   both_idle : (pipes left : Pipes) (fault : TransferFault)
       → NotTried fault pipes old result left new → R pipes left
-  both_idle pipes left fault x = subst (R pipes) (sym x.1) (idle pipes fault x.0 x.2)
+  both_idle pipes left fault x = rw x.1 (idle pipes fault x.0 x.2)
 
   both_if : (device : Accepted) → found ≡ Some device → (why : Option TransferFault)
       (pipes left : FunctionPipes)
@@ -127,8 +122,7 @@ module _ (old : World) (result : Result (Unit {0}) TableFault) (new : World)
       → ArePipesTo device below_hub pipes → PipesCleared pipes old result left new → R pipes left
   both_there device (Hub pipe) left e are x = both_idle (Hub pipe) left NoEndpoint x
   both_there device (Function pipes) left e are x =
-      subst (R (Function pipes)) (sym x.1) (both_if device e
-      (clear_miss pipes) pipes x.0 are x.2)
+      rw x.1 (both_if device e (clear_miss pipes) pipes x.0 are x.2)
   both_there device (Absent said) left e are x = absurd are
 
   pub through_both : (pipes left : Pipes) → ArePipesIf found below_hub pipes

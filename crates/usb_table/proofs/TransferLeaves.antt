@@ -1,16 +1,18 @@
 -- What a transfer through the pipes to what was found at a path leaves.
-use Rattle.std.proofs.Common.{◌≡◌, ◌≢◌, ◌⊎◌, ◌∙◌, inl, inr, refl, sym, ap, subst, arith, ℕ, ◌*◌}
-use Rattle.std.proofs.Common.{◌≤◌, List, length, Bool, true, false, Option, Some, None, Result, Ok}
-use Rattle.std.proofs.Common.{Err, IfErr}
+use Rattle.std.proofs.Common.{◌≡◌, ◌≢◌, ◌⊎◌, ◌∙◌, inl, inr, refl, sym, ap, arith, ℕ, ◌*◌, ◌≤◌, List}
+use Rattle.std.proofs.Common.{length, Bool, true, false, Option, Some, None, Result, Ok, Err, IfErr}
 use Rattle.std.proofs.lemmas.Grind.{common_steps}
 use Rattle.std.specs.Global.{Vec}
 use Rattle.std.specs.Int.{div_ceil}
 use Rattle.arrayvec.specs.ArrayVec.{ArrayVec}
-use Rattle.usb_world.specs.{BusFault, World, HasFault, AttemptsWithin}
+use Rattle.usb_world.specs.{BusFault, World, HasFault, AttemptsWithin, EachWas, Relation}
 use Rattle.usb_world.proofs.Interface.{course_joined, each_joined, spends_none, spends_wider}
-use Rattle.usb_bus.specs.{Traced}
-use Rattle.usb_transaction.specs.{transaction_bound}
+use Rattle.usb_device.specs.{Location, State}
+use Rattle.usb_pipe.specs.{ClearLeaves, PacketLeaves, ReceiveLeaves, SendLeaves, pipe_known}
 use Rattle.usb_pipe.specs.{PipeState, pipe_made, write_bound, PipeFault, needs_clear}
+use Rattle.usb_pipe.proofs.Interface.{clear_leaves, packet_leaves, receive_leaves, send_leaves}
+use Rattle.usb_table.proofs.levels.FittingPipes.{PipesMove, clear_moves, given_moves, send_moves}
+use Rattle.usb_bus.specs.{Traced}
 use Rattle.usb_pipe.specs.declared.fault.PipeFault.TheVariants as pipe_fault
 use Rattle.usb_address.proofs.Interface.{keeps_then}
 use Rattle.usb_backlog.proofs.Interface.{all_then}
@@ -30,12 +32,11 @@ use Rattle.usb_table.proofs.transfers.DevicesKept.{PipeKeeps, clear_keeps, packe
 use Rattle.usb_table.proofs.transfers.DevicesKept.{receive_keeps, same_spares, send_keeps}
 use Rattle.usb_table.proofs.transfers.DevicesKept.{sent_or_not}
 use Rattle.usb_table.proofs.levels.Levels.{moved_levels, still_levels}
-use Rattle.usb_table.proofs.levels.MovedPipes.{EachMoves, packet_each, receive_each, send_each}
-use Rattle.usb_table.proofs.levels.MovedPipes.{sound_known}
+use Rattle.usb_table.proofs.levels.MovedPipes.{EachMoves, call_each}
 use Rattle.usb_table.proofs.levels.StandingPipes.{Picks, far_end, in_place, polls_picks, polls_way}
 use Rattle.usb_table.proofs.levels.StandingPipes.{receives_picks, receives_way, sends_picks}
 use Rattle.usb_table.proofs.levels.StandingPipes.{sends_way, some_bytes, to_picks}
-use Rattle.usb_table.proofs.transfers.Restarts.{clear_of_moves, cleared_single, in_turn_moves}
+use Rattle.usb_table.proofs.transfers.Restarts.{cleared_single, in_turn_moves}
 use Rattle.usb_table.proofs.ThroughPipes.{WentThrough, through_both, through_pipes}
 
 -- so few attempts were made, the fault is told, and what moved, of all devices and of the pipes to
@@ -50,7 +51,7 @@ record LeavesTransfer {A : Type 0} (n : ℕ) (found : Option Accepted) (pipes : 
 
 same_spends : (n : ℕ) (old new : World) → new ≡ old → AttemptsWithin n old new
 same_spends n old new e =
-    subst (AttemptsWithin n old) (sym e) (spends_wider 0 n old old (spends_none old) (omega arith))
+    rw e (spends_wider 0 n old old (spends_none old) (omega arith))
 
 -- nothing was tried
 idle_transfer_leaves : {A : Type 0} (n : ℕ) (found : Option Accepted) (pipes : Pipes) (old : World)
@@ -84,111 +85,28 @@ pub told_through : {A : Type 0} (old : World) (answer : Result A PipeFault)
     → PipeKeeps old answer w → IfErr result (λ fault. TableFaultAllowed fault w)
 told_through old answer result w e kept = told_answer answer result w e kept.told
 
--- Through one pipe
-
-module _ {A : Type 0} (pick : FunctionPipes → Option PipeState)
-    (miss : FunctionPipes → TransferFault) (n : ℕ) (So : PipeDid A)
-    (old : World) (result : Result A TableFault) (new : World) (found : Option Accepted) where
-  abbrev PipeLeavesTransfer : Bool → Type 0
-  PipeLeavesTransfer below_hub =
-      (device : Accepted) (pipes : FunctionPipes) (pipe left : PipeState) → found ≡ Some device
-      → WentThrough device below_hub pick pipes pipe left → So pipe old result left new
-      → LeavesTransfer n found (Function pipes) old result (Function (with_pipe left pipes)) new
-
-  pipe_leaves : Picks pick → ((pipe : PipeState) (o : World) (r : Result A TableFault)
-      (left : PipeState) (w : World) → So pipe o r left w → pipe_made left ≡ pipe_made pipe)
-      → (below_hub : Bool) → PipeLeavesTransfer below_hub → (pipes left : Pipes)
-      → ArePipesIf found below_hub pipes → PipesThrough pick miss So pipes old result left new
-      → LeavesTransfer n found pipes old result left new
-  pipe_leaves picks same below_hub each =
-      through_pipes pick miss picks So same old result new found below_hub
-      (λ p l. LeavesTransfer n found p old result l new)
-      (λ pipes fault none. idle_transfer_leaves n found pipes old result new fault) each
-
--- Bytes that are sent: at most one packet for each byte
+-- Through one pipe, by what is left of each device
+one_leaves : {A : Type 0} {pick : FunctionPipes → Option PipeState} {below_hub : Bool}
+    {found : Option Accepted} {device : Accepted} {pipes : FunctionPipes} {pipe left : PipeState}
+    → found ≡ Some device → WentThrough device below_hub pick pipes pipe left → (n : ℕ)
+    (L : Relation) {old : World} {answer : Result A PipeFault} {result : Result A TableFault}
+    {new : World} → AttemptsWithin n old new → result ≡ table_answer answer
+    → PipeKeeps old answer new → (new.shared ≡ false → EachWas L old new)
+    → ((j : Location) (s v : State) → (new.fault ≡ None → pipe_known answer left ≡ left)
+    → L j s v → SameSettings j s v → PipesMove device pipe.target.addr (new.fault ≡ None)
+    (Function pipes) (Function (with_pipe left pipes)) j s v)
+    → LeavesTransfer n found (Function pipes) old result (Function (with_pipe left pipes)) new
+one_leaves {device = device} {pipe = pipe} {left} e w n L {old} {answer} {result} {new} few told
+    kept leaves moves = record {
+      spends = few;
+      told = told_through old answer result new told kept;
+      worlds = kept.worlds;
+      moves = inr (device, e, call_each pipe left w.of old answer new L kept leaves moves);
+    }
 
 -- each packet but an empty one has a byte
 packets_few : (bytes max : ℕ) → 1 ≤ max → div_ceil bytes max ≤ bytes
 packets_few bytes max least = grind (arith, common_steps)
-
-module _ (choice : EndpointChoice) (bytes : List ℕ) (old : World)
-    (result : Result (Unit {0}) TableFault) (new : World) (found : Option Accepted)
-    (below_hub : Bool) where
-  sends_leave : PipeLeavesTransfer (sends_through choice) (sends_miss choice)
-      (transaction_bound * length bytes)
-      (λ p. SentThrough p bytes) old result new found below_hub
-  sends_leave device pipes pipe left e w x =
-      let few = packets_few (length bytes) pipe.max (some_bytes pipe w.of) in
-      let kept = send_keeps bytes pipe (far_end pipe w.of) old x.answer left new x.sends in
-      let out = sends_way choice pipes pipe (in_place device below_hub pipes w.of.are) w.picked in
-      record {
-        spends = spends_wider _ _ old new x.count (omega (arith, few));
-        told = told_through old x.answer result new x.told kept;
-        worlds = kept.worlds;
-        moves = inr
-            (device, e, send_each pipe left w.of w.made old new out bytes x.answer x.sends);
-      }
-
--- Packets that are received
-
-module _ (choice : EndpointChoice) (packets : ℕ) (old : World) (result : Result (Vec ℕ) TableFault)
-    (new : World) (found : Option Accepted) (below_hub : Bool) where
-  receives_leave : PipeLeavesTransfer (receives_through choice) (receives_miss choice)
-      (transaction_bound * packets)
-      (λ p. ReceivedThrough p packets) old result new found below_hub
-  receives_leave device pipes pipe left e w x =
-      let kept = receive_keeps packets pipe (far_end pipe w.of) old x.answer left new x.receives in
-      let into = receives_way choice pipes pipe (in_place device below_hub pipes w.of.are) w.picked
-      in
-      record {
-        spends = x.count;
-        told = told_through old x.answer result new x.told kept;
-        worlds = kept.worlds;
-        moves = inr (
-          device,
-          e,
-          receive_each pipe left w.of w.made old new into packets x.answer x.receives,
-        );
-      }
-
--- One that is polled
-
-module _ (endpoint : ℕ) (old : World) (result : Result (Option (ArrayVec ℕ)) TableFault)
-    (new : World) (found : Option Accepted) (below_hub : Bool) where
-  reports_leave : PipeLeavesTransfer (polls_through endpoint) (polls_miss endpoint)
-      transaction_bound ReportedThrough old
-      result new found below_hub
-  reports_leave device pipes pipe left e w x =
-      let kept = packet_keeps pipe (far_end pipe w.of) old x.answer left new x.polls in
-      let into = polls_way endpoint pipes pipe w.picked in
-      record {
-        spends = x.count;
-        told = told_through old x.answer result new x.told kept;
-        worlds = kept.worlds;
-        moves = inr
-            (device, e, packet_each pipe left w.of w.made old new into x.answer x.polls);
-      }
-
--- A halt that is cleared
-
-module _ (endpoint : ℕ) (old : World) (result : Result (Unit {0}) TableFault) (new : World)
-    (found : Option Accepted) (below_hub : Bool) where
-  clears_of_leave : PipeLeavesTransfer (pipe_to endpoint) (clears_miss endpoint) write_bound
-      ClearedOfThrough old result
-      new found below_hub
-  clears_of_leave device pipes pipe left e w x =
-      let kept = clear_keeps true pipe old x.answer left new x.cleared.clears in
-      record {
-        spends = x.cleared.count;
-        told = told_through old x.answer result new x.told kept;
-        worlds = kept.worlds;
-        moves = inr (
-          device,
-          e,
-          clear_of_moves pipe left w.of w.made (new.fault ≡ None) old x.answer
-              new (sound_known old x.answer left new kept) x.cleared.clears,
-        );
-      }
 
 -- Halts that are cleared, one and then the other
 
@@ -237,7 +155,7 @@ cleared_in_order : (first : Result (Unit {0}) PipeFault)
 cleared_in_order (Ok done) None out out_left into into_left old mid result new x y =
     let second = cleared_by into into_left mid y.0 new y.2 in (
       elim (done_or_same out out_left old done mid x) [
-        | inl same ↦ subst (λ (w : World). OnlyTransfers w new) same second.worlds
+        | inl same ↦ rw (← same) second.worlds
         | inr sound ↦
             spares_then old mid new (cleared_by out out_left old (Ok done) mid x).worlds
             second.worlds sound (cleared_single into into_left mid y.0 new y.2)
@@ -245,7 +163,7 @@ cleared_in_order (Ok done) None out out_left into into_left old mid result new x
       told_through mid y.0 result new y.1 second,
     )
 cleared_in_order (Ok done) (Some why) out out_left into into_left old mid result new x y = (
-  subst (λ w. OnlyTransfers old w) (sym y.2) (cleared_by out out_left old (Ok done) mid x).worlds,
+  rw y.2 (cleared_by out out_left old (Ok done) mid x).worlds,
   rw y.0 tt,
 )
 cleared_in_order (Err fault) why out out_left into into_left old mid result new x y =
@@ -274,10 +192,6 @@ clears_leave old result new found few below_hub =
     cleared_in_order x.first (first_unclear true pipes) (first_pipe false pipes) x.rest_out
     (first_pipe true pipes) x.rest_in
     old x.mid result new x.out x.into in
-    let moves =
-    in_turn_moves device (new.fault ≡ None) false below_hub pipes are result
-    (no_bus_told result new so.1) (λ e. absurd (cc e)) old x.mid new x.rest_out x.rest_in x.first
-    (first_unclear true pipes) x.out x.into in
     record {
       spends = few;
       told = so.1;
@@ -285,9 +199,8 @@ clears_leave old result new found few below_hub =
       moves = inr (
         device,
         e,
-        subst (λ f. EachMoves device device.address (new.fault ≡ None) (Function pipes) (Function f)
-            old
-            new) (sym x.left_is) moves,
+        in_turn_moves device (new.fault ≡ None) false pipes are old result
+            left new x (no_bus_told result new so.1) (λ e. absurd (cc e)),
       );
     })
 
@@ -313,36 +226,86 @@ module _ (path : List ℕ) (old new : Table) (before after : World) (text now : 
     ];
   }
 
+  -- through the pipe that is picked
+  through_one : {A : Type 0} (pick : FunctionPipes → Option PipeState)
+      (miss : FunctionPipes → TransferFault) → Picks pick → (So : PipeDid A)
+      → ((pipe : PipeState) (o : World) (r : Result A TableFault) (left : PipeState) (w : World)
+      → So pipe o r left w → pipe_made left ≡ pipe_made pipe)
+      → (n : ℕ) (result : Result A TableFault)
+      → ((device : Accepted) (pipes : FunctionPipes) (pipe left : PipeState)
+      → accepted_device_at path old.entries ≡ Some device
+      → WentThrough device (is_below_hub path) pick pipes pipe left
+      → So pipe before result left after
+      → LeavesTransfer n (accepted_device_at path old.entries) (Function pipes) before result
+      (Function (with_pipe left pipes)) after)
+      → PipesThrough pick miss So (pipes_at path old) before result (pipes_at path new) after
+      → Transferred n (PipesThrough pick miss So) path old before text result new after now
+  through_one pick miss picks So same n result each x =
+      transferred n result x
+      (through_pipes pick miss picks So same before result after _ (is_below_hub path)
+      (λ p l. LeavesTransfer n (accepted_device_at path old.entries) p before result l after)
+      (λ pipes fault none. idle_transfer_leaves n _ pipes before result after fault) each _ _
+      goes.fits x)
+
   pub table_sends : (choice : EndpointChoice) (bytes : List ℕ)
       (result : Result (Unit {0}) TableFault)
       → PipesSent choice (pipes_at path old) bytes before result (pipes_at path new) after
       → TableSends path choice bytes old before text result new after now
-  table_sends choice bytes result x =
-      transferred _ result x
-      (pipe_leaves (sends_through choice) (sends_miss choice) _ (λ p. SentThrough p bytes) before
-      result after _
-      (sends_picks choice) (λ p o r l w z. z.same) (is_below_hub path)
-      (sends_leave choice bytes before result after _ (is_below_hub path)) _ _ goes.fits x)
+  table_sends choice bytes result =
+      through_one (sends_through choice) (sends_miss choice) (sends_picks choice)
+      (λ p. SentThrough p bytes) (λ p o r l w z. z.same) _ result
+      (λ device pipes pipe left e w x.
+      let few = packets_few (length bytes) pipe.max (some_bytes pipe w.of) in
+      let placed = in_place device (is_below_hub path) pipes w.of.are in
+      one_leaves e w _ (SendLeaves bytes pipe x.answer left)
+      (spends_wider _ _ before after x.count (omega (arith, few))) x.told
+      (send_keeps bytes pipe (far_end pipe w.of) before x.answer left after x.sends)
+      (send_leaves bytes pipe x.answer left before after x.sends)
+      (λ j s v known. send_moves device _ pipes placed pipe left w.of.at w.made bytes x.answer j s v
+      known (sends_way choice pipes pipe placed w.picked)))
 
   pub table_receives : (choice : EndpointChoice) (packets : ℕ) (result : Result (Vec ℕ) TableFault)
       → PipesReceived choice (pipes_at path old) packets before result (pipes_at path new) after
       → TableReceives path choice packets old before text result new after now
-  table_receives choice packets result x =
-      transferred _ result x
-      (pipe_leaves (receives_through choice) (receives_miss choice) _
-      (λ p. ReceivedThrough p packets) before result after
-      _ (receives_picks choice) (λ p o r l w z. z.same) (is_below_hub path)
-      (receives_leave choice packets before result after _ (is_below_hub path)) _ _ goes.fits x)
+  table_receives choice packets result =
+      through_one (receives_through choice) (receives_miss choice) (receives_picks choice)
+      (λ p. ReceivedThrough p packets) (λ p o r l w z. z.same) _ result
+      (λ device pipes pipe left e w x.
+      let placed = in_place device (is_below_hub path) pipes w.of.are in
+      one_leaves e w _ (ReceiveLeaves pipe x.answer left) x.count x.told
+      (receive_keeps packets pipe (far_end pipe w.of) before x.answer left after x.receives)
+      (receive_leaves packets pipe x.answer left before after (some_bytes pipe w.of) x.receives)
+      (λ j s v known y. given_moves device _ pipes placed pipe left w.of.at w.made x.answer j s v
+      known (receives_way choice pipes pipe placed w.picked) y.others y.frame
+      (λ there got f. let g = y.gave there got f in (g.behind, g.level))))
 
   pub table_reports : (endpoint : ℕ) (result : Result (Option (ArrayVec ℕ)) TableFault)
       → PipesReported endpoint (pipes_at path old) before result (pipes_at path new) after
       → TableReports path endpoint old before text result new after now
-  table_reports endpoint result x =
-      transferred _ result x
-      (pipe_leaves (polls_through endpoint) (polls_miss endpoint) _ ReportedThrough before result
-      after _
-      (polls_picks endpoint) (λ p o r l w z. z.same) (is_below_hub path)
-      (reports_leave endpoint before result after _ (is_below_hub path)) _ _ goes.fits x)
+  table_reports endpoint result =
+      through_one (polls_through endpoint) (polls_miss endpoint) (polls_picks endpoint)
+      ReportedThrough (λ p o r l w z. z.same) _ result
+      (λ device pipes pipe left e w x.
+      let placed = in_place device (is_below_hub path) pipes w.of.are in
+      one_leaves e w _ (PacketLeaves pipe x.answer left) x.count x.told
+      (packet_keeps pipe (far_end pipe w.of) before x.answer left after x.polls)
+      (packet_leaves pipe x.answer left before after (some_bytes pipe w.of) x.polls)
+      (λ j s v known y. given_moves device _ pipes placed pipe left w.of.at w.made x.answer j s v
+      known (polls_way endpoint pipes pipe w.picked) y.others y.frame
+      (λ there got f. let g = y.gave there got f in (g.behind, g.level))))
+
+  pub table_clears_of : (endpoint : ℕ) (result : Result (Unit {0}) TableFault)
+      → PipesClearedOf endpoint (pipes_at path old) before result (pipes_at path new) after
+      → TableClearsOf path endpoint old before text result new after now
+  table_clears_of endpoint result =
+      through_one (pipe_to endpoint) (clears_miss endpoint) (to_picks endpoint) ClearedOfThrough
+      (λ p o r l w z. z.cleared.same) _ result
+      (λ device pipes pipe left e w x.
+      one_leaves e w _ (ClearLeaves true pipe x.answer left) x.cleared.count x.told
+      (clear_keeps true pipe before x.answer left after x.cleared.clears)
+      (clear_leaves true pipe x.answer left before after x.cleared.clears)
+      (λ j s v. clear_moves device _ pipes (in_place device (is_below_hub path) pipes w.of.are) pipe
+      left w.of.at w.made true x.answer j s v))
 
   pub table_clears : (result : Result (Unit {0}) TableFault)
       → AttemptsWithin (2 * write_bound) before after
@@ -351,13 +314,3 @@ module _ (path : List ℕ) (old new : Table) (before after : World) (text now : 
   table_clears result few x =
       transferred _ result x
       (clears_leave before result after _ few (is_below_hub path) _ _ goes.fits x)
-
-  pub table_clears_of : (endpoint : ℕ) (result : Result (Unit {0}) TableFault)
-      → PipesClearedOf endpoint (pipes_at path old) before result (pipes_at path new) after
-      → TableClearsOf path endpoint old before text result new after now
-  table_clears_of endpoint result x =
-      transferred _ result x
-      (pipe_leaves (pipe_to endpoint) (clears_miss endpoint) _ ClearedOfThrough before result after
-      _
-      (to_picks endpoint) (λ p o r l w z. z.cleared.same) (is_below_hub path)
-      (clears_of_leave endpoint before result after _ (is_below_hub path)) _ _ goes.fits x)

@@ -7,7 +7,6 @@ pub mod MovedPipes
 pub mod NewPipes
 pub mod PipeCalls
 pub mod ReplacedRows
-pub mod SetCalls
 pub mod SetLevels
 pub mod SetPipes
 pub mod StandingPipes

@@ -54,7 +54,7 @@ pub use PipeRows.{asked_through, clear_miss, clear_miss_if, clears_miss, first_l
 pub use PipeRows.{first_pipe, first_unclear, function_made, function_of, gives_bytes}
 pub use PipeRows.{gives_reports, has_first, is_bulk_kind, is_interrupt_kind, lost_at, lost_if}
 pub use PipeRows.{lost_row, lost_to, lost_way, mark_if, miss_of, moves_bulk, only_if, pipe_asked}
-pub use PipeRows.{pipe_at, pipe_if, pipe_in, pipe_out, pipe_to, pipes_made, polls_miss}
+pub use PipeRows.{pipe_at, pipe_if, pipe_to, pipes_made, polls_miss}
 pub use PipeRows.{polls_through, receives_miss, receives_through, row_at, row_made, sends_miss}
 pub use PipeRows.{sends_through, takes_bytes, through, unclear, way_to, with_pipe, with_rest}
 pub use TablePipes.{AreAbsent, AreFunctionPipes, ArePipesIf, ArePipesOf, ArePipesTo, IsEndPipe}

@@ -210,13 +210,6 @@ through pick (Hub pipe) = None
 through pick (Function pipes) = pick pipes
 through pick (Absent said) = None
 
--- the pipes to its first bulk endpoints
-abbrev pub pipe_out : Pipes → Option PipeState
-pipe_out pipes = through (first_pipe false) pipes
-
-abbrev pub pipe_in : Pipes → Option PipeState
-pipe_in pipes = through (first_pipe true) pipes
-
 -- the pipe that a call goes through, or why there is none
 abbrev pub pipe_asked : TransferFault → Option PipeState → Result PipeState TransferFault
 pipe_asked miss None = Err miss

@@ -133,6 +133,7 @@ impl Pipes {
     /// - `Broken`: the pipe must be cleared first.
     /// - `Stalled`, `Busy`, `NoAnswer`: the transaction of a packet ended so.
     /// - `Bus`: the bus has failed.
+    #[tactic(auto, using(crate::proofs::IdleCalls::idle_traced))]
     pub fn send<B: Bus>(
         &mut self,
         bus: &mut B,
@@ -169,6 +170,7 @@ impl Pipes {
     /// - `Stalled`, `Busy`, `NoAnswer`: the transaction of a packet ended so.
     /// - `Memory`: the bytes find no room.
     /// - `Bus`: the bus has failed.
+    #[tactic(auto, using(crate::proofs::IdleCalls::idle_traced))]
     pub fn receive<B: Bus>(
         &mut self,
         alloc: Global,
@@ -204,6 +206,7 @@ impl Pipes {
     /// - `Broken`: the pipe must be cleared first.
     /// - `Stalled`, `Busy`, `NoAnswer`: the transaction ended so.
     /// - `Bus`: the bus has failed.
+    #[tactic(auto, using(crate::proofs::IdleCalls::idle_traced))]
     pub fn poll_of<B: Bus>(
         &mut self,
         bus: &mut B,
@@ -264,6 +267,7 @@ impl Pipes {
     /// - `NoEndpoint`: there is no such pipe.
     /// - `Stalled`, `Busy`, `NoAnswer`: a transaction ended so.
     /// - `Bus`: the bus has failed.
+    #[tactic(auto, using(crate::proofs::IdleCalls::idle_traced))]
     pub fn clear_halt_of<B: Bus>(
         &mut self,
         bus: &mut B,

@@ -61,10 +61,13 @@ module _ (t : Target) (old : World) (settled : IsSettled old.roots) {new : World
       new) → Last e.last e.outcomes → EachIf Any
       (RunThrough (Did t) (in_attempt t 0) hear Last ⊥ old new) old new
   over {hear} Last e is =
-      over_last (Did t) (in_attempt t 0) Any (λ w j u v d h. tt)
-      (λ w m u j v on there h. each_counts (in_attempt t 0) w m
-      (record { kind = refl; payload = refl }) refl u j v on there)
-      old settled hear Last ⊥ single e.trail e.onward is
+      over_last {a = in_attempt t 0} (record {
+        Did = Did t;
+        Of = Any;
+        back = λ w j u v d h. tt;
+        does = λ w m u j v on there h. each_counts (in_attempt t 0) w m
+            (record { kind = refl; payload = refl }) refl u j v on there;
+      }) old settled hear Last ⊥ single e.trail e.onward is
 
 module _ (t : Target) {hear : _} {Last : Outcome → List Outcome → Type 0} {old new : World}
     {j : Location} {s v : State} (x : RunThrough (Did t) (in_attempt t 0) hear Last ⊥ old new j s v)
@@ -143,7 +146,7 @@ pub in_losses : (t : Target) (result : Result (List ℕ) TransFault) (old new : 
     → IsSettled old.roots → TransactionDone (heard_as One) (in_attempt t 0) old result new
     → new.shared ≡ false → EachWas (LossesIn t result old new) old new
 in_losses t result old new settled e single =
-    each_device _ (LossesIn t result old new) old new
+    each_device old new
     (λ j s v x. record {
       done = λ at n stage. (ends_lost t result x at n stage).0;
       failed = λ at n stage. (ends_lost t result x at n stage).1;
@@ -160,5 +163,5 @@ pub read_losses : (t : Target) (awaited : Toggle) (result : Result (List ℕ) Tr
     → TransactionDone (heard_as awaited) (in_attempt t 0) old result new → new.shared ≡ false
     → EachWas (LosesNone t old new) old new
 read_losses t awaited result old new settled e single =
-    each_device _ (LosesNone t old new) old new (λ j s v x. none_lost t x)
-    (over t old settled single (λ o outcomes. Unit {0}) e tt)
+    each_device old new (λ j s v x. none_lost t x) (over t old settled single (λ o outcomes. Unit
+    {0}) e tt)

@@ -6,11 +6,11 @@ use Rattle.usb_device.specs.{taken_row, given_law, GivesWithin, IsPrompt, sink_r
 use Rattle.usb_device.specs.{is_whole, heard, gave, in_law, out_law, taken_of, IsSource, SourceAt}
 use Rattle.usb_device.specs.{SourceOn, OnlySource, IsSink, SinkAt, level, ahead, Joined, OnlySink}
 use Rattle.std.proofs.Common.{◌≡◌, ◌≢◌, ◌⊎◌, inl, inr, ℕ, ◌+◌, ◌<◌, ◌≤◌, nat_le, nat_lt}
-use Rattle.std.proofs.Common.{if◌then◌else◌, is_some, Bool, true, false, List, ◌++◌, length, Option}
-use Rattle.std.proofs.Common.{None, Some, Result, Ok, Err, refl, sym, subst, ap, ◌∙◌, arith}
+use Rattle.std.proofs.Common.{if◌then◌else◌, is_some, Bool, true, false, List, length, Option, None}
+use Rattle.std.proofs.Common.{Some, Result, Ok, Err, refl, sym, subst, ap, ◌∙◌, arith}
 use Rattle.std.proofs.lemmas.Bool.Decides.{nat_tests}
 use Rattle.arrayvec.specs.ArrayVec.{ArrayVec}
-use Rattle.usb_packet.specs.{Toggle, Zero, One, other, is_same}
+use Rattle.usb_packet.specs.{Toggle, other, is_same}
 use Rattle.usb_port.specs.{PortState}
 use Rattle.usb_device.specs.Attempt.{whole}
 use Rattle.usb_device.proofs.Interface.{at_other, at_same, bulk_law_is, is_same-refl, other_toggle}
@@ -23,16 +23,16 @@ use Rattle.usb_tree.proofs.Interface.{decided, false_true}
 use Rattle.usb_transaction.specs.{Target, HeardOutcome, Moved, NotReady, Repeat, Refused, Lost}
 use Rattle.usb_transaction.specs.{TransFault, Stalled, Busy, NoAnswer, NoThreeDamaged, Listens}
 use Rattle.usb_transaction.specs.{SourceInFailure, SinkOutFailure, heard_as, heard_when_sent, is_at}
-use Rattle.usb_transaction.specs.{SourceCut, none_came, one_came, SourceEnds, SourceIn}
-use Rattle.usb_transaction.specs.{SourceBetween, SinkEnds, SinkOut, SinkBetween, AttemptLog}
-use Rattle.usb_transaction.specs.{IsPacedWithin, waits_with, waits_in, IsNoEnd, KeepsTrying}
-use Rattle.usb_transaction.specs.{TransactionDone, Transacted, in_attempt, out_attempt, packed}
+use Rattle.usb_transaction.specs.{SourceCut, SourceEnds, SourceIn, SourceBetween, SinkEnds, SinkOut}
+use Rattle.usb_transaction.specs.{SinkBetween, AttemptLog, IsPacedWithin, waits_with, waits_in}
+use Rattle.usb_transaction.specs.{IsNoEnd, KeepsTrying, TransactionDone, Transacted, in_attempt}
+use Rattle.usb_transaction.specs.{out_attempt, packed}
 use Rattle.usb_transaction.proofs.DeviceRuns.{Any, EachIf, End, IsEnd, IsOfBus, Moves, RunThrough}
-use Rattle.usb_transaction.proofs.DeviceRuns.{Through, asked_in, brought, result_of, summed}
-use Rattle.usb_transaction.proofs.DeviceRuns.{delivered_out, at_end, each_device, heeded, in_others}
-use Rattle.usb_transaction.proofs.DeviceRuns.{never, listens_on, of_bus, out_others, over_in}
-use Rattle.usb_transaction.proofs.DeviceRuns.{over_in_trail, over_out, over_out_trail, spared}
-use Rattle.usb_transaction.proofs.DeviceRuns.{stays_away, stopped, was_then}
+use Rattle.usb_transaction.proofs.DeviceRuns.{over_trail, over_transaction, in_kind, out_kind}
+use Rattle.usb_transaction.proofs.DeviceRuns.{DeviceTold, told_leaves, Through, asked_in, brought}
+use Rattle.usb_transaction.proofs.DeviceRuns.{result_of, summed, delivered_out, at_end, each_device}
+use Rattle.usb_transaction.proofs.DeviceRuns.{heeded, in_others, never, listens_on, of_bus}
+use Rattle.usb_transaction.proofs.DeviceRuns.{out_others, spared, stays_away, stopped, was_then}
 use Rattle.usb_transaction.proofs.LastOutcomes.{no_packet, packet_heard}
 use Rattle.usb_world.specs.declared.types.Outcome.TheVariants.{Nothing}
 use Rattle.usb_transaction.proofs.Trails.{LostRun, as_transacted, damaged_more, lost_run_none}
@@ -64,27 +64,15 @@ pub only_same : (e : ℕ) (s : State) → OnlySource e s s
 only_same e s = record { rest = refl; others = λ a h. refl }
 
 only_stepped : (e most : ℕ) (s : State) → OnlySource e s (stepped e most s true)
-only_stepped e most s = record {
-  rest = refl;
-  others = λ a h. at_other no_in e a (end_behind e most s) s.ins h;
-}
+only_stepped e most s = grind (arith, at_other)
 
 only_hesitates : (e : ℕ) (s : State) → OnlySource e s (in_hesitates s e)
-only_hesitates e s = record {
-  rest = refl;
-  others = λ a h. at_other no_in e a (end_hesitated e s) s.ins h;
-}
+only_hesitates e s = grind (arith, at_other)
 
 -- a NAK moves nothing
 hesitates_at : {e most got : ℕ} {t : Toggle} (s : State) → SourceAt e most got t s
     → SourceAt e most got t (in_hesitates s e)
-hesitates_at {e} {most} {got} s (level g q) = level
-    (ap (λ (x : InEnd). x.place) (hesitates_end e s) ∙ g)
-    (ap (λ (x : InEnd). x.state.toggle) (hesitates_end e s) ∙ q)
-hesitates_at {e} {most} {got} s (ahead g p q) = ahead
-    (g ∙ ap (λ (x : InEnd). next_place s e most x.place) (sym (hesitates_end e s)))
-    (ap (λ (x : InEnd). is_some (next_packet s e most x.place)) (hesitates_end e s) ∙ p)
-    (ap (λ (x : InEnd). x.state.toggle) (hesitates_end e s) ∙ q)
+hesitates_at s at = grind (arith, hesitates_end)
 
 -- it gives no more NAKs before a packet than it did
 abbrev pub StaysPaced : ℕ → State → State → Type 0
@@ -92,18 +80,13 @@ StaysPaced e s v = (limit : ℕ) → IsPacedWithin limit (in_end s e).pace
     → IsPacedWithin limit (in_end v e).pace
 
 stepped_paced : (e most : ℕ) (s : State) → StaysPaced e s (stepped e most s true)
-stepped_paced e most s n x =
-    subst (λ (y : InEnd). IsPacedWithin n y.pace) (sym (stepped_end e most s)) (x.1, x.1)
+stepped_paced e most s n x = grind (arith, stepped_end)
 
 hesitates_paced : (e : ℕ) (s : State) → StaysPaced e s (in_hesitates s e)
-hesitates_paced e s n x = subst (λ (y : InEnd). IsPacedWithin n y.pace) (sym (hesitates_end e s))
-    (omega (arith, x.0), x.1)
+hesitates_paced e s n x = grind (arith, hesitates_end)
 
 only_then : (e : ℕ) (s u v : State) → OnlySource e s u → OnlySource e u v → OnlySource e s v
-only_then e s u v x y = record {
-  rest = subst (λ z. v ≡ record z { memory = v.memory; ins = v.ins }) x.rest y.rest;
-  others = λ a h. y.others a h ∙ x.others a h;
-}
+only_then e s u v x y = grind (arith, x.rest, x.others, y.rest, y.others)
 
 abbrev pub SourceStep : ℕ → ℕ → Toggle → State → Option (List ℕ) → State → Type 0
 SourceStep e most awaited s came v = (got : ℕ) → 1 ≤ most → SourceAt e most got awaited s
@@ -184,8 +167,7 @@ module _ (e most max : ℕ) (awaited : Toggle) (s : State) (Clear : Type 0) wher
 
 pub source_kept : (ep most : ℕ) (s u : State) → OnlySource ep s u → IsSource ep most s
     → IsSource ep most u
-source_kept ep most s u e i = subst (λ x. IsSource ep most x) (sym e.rest)
-    (record { endpoint = i.endpoint; not_zero = i.not_zero; alone = i.alone })
+source_kept ep most s u e i = grind (arith, e.rest, i.endpoint, i.not_zero, i.alone)
 
 pub source_at_kept : (t : Target) {ep : ℕ} (s u : State) → OnlySource ep s u → is_at s t ≡ true
     → is_at u t ≡ true
@@ -204,8 +186,7 @@ pub record SourceResult (e most : ℕ) (awaited : Toggle) (s : State) (h : Heard
       → next_packet v e most (in_end v e).place ≡ None
 
 only_if : (e most : ℕ) (s : State) (came : Bool) → OnlySource e s (stepped e most s came)
-only_if e most s true = only_stepped e most s
-only_if e most s false = only_same e s
+only_if e most s came = grind (arith, only_same, only_stepped)
 
 paced_if : (e most : ℕ) (s : State) (came : Bool) → StaysPaced e s (stepped e most s came)
 paced_if e most s true = stepped_paced e most s
@@ -215,14 +196,7 @@ module _ {e most : ℕ} {awaited : Toggle} {s : State} (h : HeardOutcome) where
   stood_in : packet_heard h ≡ None → (h ≡ Refused → (in_end s e).state.halted ≡ true)
       → (h ≡ NotReady → ((in_end s e).state.halted ≡ false)
       × (next_packet s e most (in_end s e).place ≡ None)) → SourceResult e most awaited s h s
-  stood_in nothing refuses waits = record {
-    frame = only_same e s;
-    goes = λ n m at. subst (λ c. SourceOn e most n awaited s c s) (sym nothing) at;
-    halted = λ c. (refl, nothing, λ q. false_true (sym (waits q).0 ∙ c));
-    stalls = refuses;
-    paced = λ n x. x;
-    spent = λ q p. (waits q).1;
-  }
+  stood_in nothing refuses waits = grind (arith, only_same, refuses, waits)
 
   hesitated_in : packet_heard h ≡ None → h ≢ Refused → (in_end s e).state.halted ≡ false
       → 1 ≤ (in_end s e).pace.naks → SourceResult e most awaited s h (in_hesitates s e)
@@ -266,10 +240,7 @@ module _ {e most : ℕ} {awaited : Toggle} where
     frame = only_then e s u v x.frame y.frame;
     goes = λ n m at. subst (λ z. SourceOn e most n awaited z (packet_heard h) v) x.frame.rest
         (y.goes n m (x.goes n m at));
-    halted = λ c.
-        let same = (x.halted c).0 in
-        let z = y.halted (subst (λ q. (in_end q e).state.halted ≡ true) (sym same) c) in
-        (z.0 ∙ same, z.1, z.2);
+    halted = grind (arith, x.halted, y.halted);
     stalls = y.stalls;
     paced = λ n p. y.paced n (x.paced n p);
     spent = λ q p. y.spent q (x.paced 0 p);
@@ -289,8 +260,7 @@ module _ {e most : ℕ} {awaited : Toggle} where
 
 pub cut_source : (e most n : ℕ) (awaited : Toggle) (s v : State) (c : Option (List ℕ))
     → SourceOn e most n awaited s c v → SourceCut e most n awaited s v
-cut_source e most n awaited s v None x = none_came x
-cut_source e most n awaited s v (Some bytes) x = one_came x.1
+cut_source e most n awaited s v c x = grind arith
 
 pub unheard_in : {e most max : ℕ} {awaited : Toggle} {Clear : Type 0} {s v : State}
     → SourceGave e most max awaited Clear s Lost v → Clear
@@ -301,10 +271,7 @@ unheard_in (lost_nak d f n) = λ c. absurd (d c)
 no_waits_in : {e most max : ℕ} {awaited : Toggle} {Clear : Type 0} {s v : State} {h : HeardOutcome}
     → SourceGave e most max awaited Clear s h v → (in_end s e).state.halted ≡ true
     → (n : ℕ) → waits_with h n ≤ n
-no_waits_in (empty f e) c n = false_true (sym f ∙ c)
-no_waits_in (hesitates f w) c n = false_true (sym f ∙ c)
-no_waits_in (again came f w q d on) c n = false_true (sym f ∙ c)
-no_waits_in g c n = omega arith
+no_waits_in g c n = grind arith
 
 -- The device over a transaction, or over a poll: to its host outcomes are what they are to one that
 -- reads, or an end
@@ -314,7 +281,7 @@ pub record HearsRead (awaited : Toggle) (hear : Outcome → HeardOutcome) : Type
   pub few : (o : Outcome) (n : ℕ) → waits_with (hear o) n ≤ waits_with (heard_as awaited o) n
 
 pub as_read : (awaited : Toggle) → HearsRead awaited (heard_as awaited)
-as_read awaited = record { goes = λ o n. n; lost = λ o e. e; few = λ o n. omega arith }
+as_read awaited = grind arith
 
 module _ (t : Target) (ep : ℕ) (awaited : Toggle) where
   abbrev pub a_in : Attempt
@@ -421,7 +388,7 @@ module _ (t : Target) (ep : ℕ) (awaited : Toggle) where
       → AttemptLog a_in old outcomes now → KeepsTrying hear outcomes
       → now.shared ≡ false → EachWas (SourceBetween t ep awaited) old now
   between_in {hear} hears outcomes old now settled trail onward single =
-      each_device _ (SourceBetween t ep awaited) old now
+      each_device old now
       (λ j s v ran.
       let run : RunThrough (DidIn a_in) a_in hear (λ o os. o ≡ Nothing) (Unit {0}) old now j s v =
       stopped tt ran onward in
@@ -432,23 +399,7 @@ module _ (t : Target) (ep : ℕ) (awaited : Toggle) where
             subst (λ o. SourceOn ep most n awaited s (packet_heard (heard_as awaited o)) v) x.2
             (x.3.goes n m at);
       })
-      (over_in_trail t ep old now settled single trail)
-
--- whatever its answer is
-pub source_leaves : (t : Target) (ep : ℕ) (awaited : Toggle) (result : Result (List ℕ) TransFault)
-    (old new : World) → IsSettled old.roots
-    → Transacted (heard_as awaited) (in_attempt t ep) old result new → new.shared ≡ false
-    → EachWas (SourceIn t ep awaited result) old new
-source_leaves t ep awaited result old new settled x single =
-    each_device _ (SourceIn t ep awaited result) old new (source_in t ep awaited result old new)
-    (over_in t ep old new settled single (heard_as awaited) result x)
-
-pub source_over : (t : Target) (ep : ℕ) (awaited : Toggle) (result : Result (List ℕ) TransFault)
-    (old new : World) → IsSettled old.roots
-    → TransactionDone (heard_as awaited) (in_attempt t ep) old result new → new.shared ≡ false
-    → EachWas (SourceIn t ep awaited result) old new
-source_over t ep awaited result old new settled e single =
-    source_leaves t ep awaited result old new settled (as_transacted result e) single
+      (over_trail (in_kind t ep) old settled trail single)
 
 -- Why it fails
 
@@ -466,18 +417,14 @@ module _ (t : Target) (ep : ℕ) (awaited : Toggle) {hear : Outcome → HeardOut
     AttemptIn w u y = DidIn (a_in t ep awaited) w j u y
 
     stays_halted : (w : World) (u y : State) → AttemptIn w u y → IsHalted u → IsHalted y
-    stays_halted w u y d is = subst IsHalted
-        (sym ((one_in (did_in t ep awaited most w j u y d is.0.0.at is.0.1)).halted is.1).0) is
+    stays_halted w u y d is = grind (arith, did_in, one_in)
 
     -- an error of an attempt that is not damaged
     erred : (w : World) (u y : State) → AttemptIn w u y → ListensIn t ep awaited most j u
         → damage_in w ≡ None
         → hear (outcome_in (a_in t ep awaited) w) ≡ Lost
         → ((in_end u ep).state.halted ≡ false) × (GivesWithin t.max ep most u → ⊥)
-    erred w u y d is sound f = unheard_in (subst (λ h. SourceGave ep most t.max awaited
-        ((damage_in w ≡ None) × Listens t j u) u h y)
-        (hears.lost (outcome_in (a_in t ep awaited) w) f)
-        (did_in t ep awaited most w j u y d is.0.at is.1)) (sound, is.0)
+    erred w u y d is sound f = grind (arith, did_in, unheard_in)
 
     pub short_answered : NoThreeDamaged old → GivesWithin t.max ep most s → result ≢ Err NoAnswer
     short_answered three m = heeded Done result run (IsShort t ep awaited most j)
@@ -611,21 +558,26 @@ module _ (t : Target) (ep : ℕ) (awaited : Toggle) (old : World) (three : NoThr
       (λ o outcomes end. end) (λ outcomes w stands full.
       too_many most had (waits_in (heard_as awaited) outcomes) w v stands full)
 
-pub source_why : (t : Target) (ep : ℕ) (awaited : Toggle) (result : Result (List ℕ) TransFault)
-    (old new : World) → IsSettled old.roots → NoThreeDamaged old
-    → TransactionDone (heard_as awaited) (in_attempt t ep) old result new → new.shared ≡ false
-    → EachWas (SourceInFailure t ep awaited result) old new
-source_why t ep awaited result old new settled three e single =
-    each_device _ (SourceInFailure t ep awaited result) old new
+-- Each device, whatever the answer is
+pub source_told : (t : Target) (ep : ℕ) (awaited : Toggle) (result : Result (List ℕ) TransFault)
+    (old new : World) → IsSettled old.roots
+    → Transacted (heard_as awaited) (in_attempt t ep) old result new → new.shared ≡ false
+    → EachWas (DeviceTold (SourceIn t ep awaited result) (SourceInFailure t ep awaited result) old)
+    old
+    new
+source_told t ep awaited result old new settled x single =
+    each_device old new
     (λ j s v run. record {
-      answered = λ l most n i at m. short_answered t ep awaited (as_read awaited)
-          (Moves (heard_as awaited)) result run most (l, i) three m;
-      waited = λ l most n i one at m left prompt.
-          waits_few t ep awaited old three result new j s v most n run ((l, i), m) at left prompt;
-      halted = λ l most i. halted_answered t ep awaited (as_read awaited)
-          (Moves (heard_as awaited)) result run most (l, i) three;
-    })
-    (over_in t ep old new settled single (heard_as awaited) result (as_transacted result e))
+      leaves = source_in t ep awaited result old new j s v run;
+      why = λ three. record {
+        answered = λ l most n i at m. short_answered t ep awaited (as_read awaited)
+            (Moves (heard_as awaited)) result run most (l, i) three m;
+        waited = λ l most n i one at m left prompt.
+            waits_few t ep awaited old three result new j s v most n run ((l, i), m) at left prompt;
+        halted = λ l most i. halted_answered t ep awaited (as_read awaited)
+            (Moves (heard_as awaited)) result run most (l, i) three;
+      };
+    }) (over_transaction (in_kind t ep) old settled (heard_as awaited) new single result x)
 
 -- OUT
 
@@ -649,28 +601,18 @@ out_hesitates_end e s = at_same no_out e (out_hesitated e s) s.outs
 
 out_hesitates_prompt : (e : ℕ) (s : State) → IsPrompt (out_end s e).pace
     → IsPrompt (out_end (forgotten (out_hesitates s e)) e).pace
-out_hesitates_prompt e s x = subst (λ (y : OutEnd). IsPrompt y.pace) (sym (out_hesitates_end e s))
-    (omega (arith, x.0), x.1)
+out_hesitates_prompt e s x = grind (arith, out_hesitates_end)
 
 sunk_prompt : (e : ℕ) (bytes : List ℕ) (s : State) → IsPrompt (out_end s e).pace
     → IsPrompt (out_end (forgotten (sunk s e bytes)) e).pace
-sunk_prompt e bytes s x =
-    subst (λ (y : OutEnd). IsPrompt y.pace) (sym (sunk_end e bytes s)) (x.1, x.1)
+sunk_prompt e bytes s x = grind (arith, sunk_end)
 
 only_out_hesitates : (e : ℕ) (s : State) → OnlySink e s (forgotten (out_hesitates s e))
-only_out_hesitates e s = record {
-  rest = refl;
-  others = λ a h. at_other no_out e a (out_hesitated e s) s.outs h;
-}
+only_out_hesitates e s = grind (arith, at_other)
 
 out_hesitates_at : {e : ℕ} {before bytes : List ℕ} {t : Toggle} (s : State)
     → SinkAt e before bytes t s → SinkAt e before bytes t (forgotten (out_hesitates s e))
-out_hesitates_at {e} s (level g q) = level
-    (ap (λ (x : OutEnd). x.sink) (out_hesitates_end e s) ∙ g)
-    (ap (λ (x : OutEnd). x.state.toggle) (out_hesitates_end e s) ∙ q)
-out_hesitates_at {e} s (ahead g q) = ahead
-    (ap (λ (x : OutEnd). x.sink) (out_hesitates_end e s) ∙ g)
-    (ap (λ (x : OutEnd). x.state.toggle) (out_hesitates_end e s) ∙ q)
+out_hesitates_at s at = grind (arith, out_hesitates_end)
 
 -- the NAKs that are left for a packet with this toggle: none for one that has joined
 abbrev naks_left : ℕ → Toggle → State → ℕ
@@ -679,23 +621,12 @@ naks_left e t s = if is_same t (out_end s e).state.toggle then (out_end s e).pac
 sunk_none_left : (e : ℕ) (bytes : List ℕ) (t : Toggle) (s : State)
     → is_same t (out_end s e).state.toggle ≡ true
     → naks_left e t (forgotten (sunk s e bytes)) ≡ 0
-sunk_none_left e bytes t s h =
-    subst (λ (y : OutEnd). (if is_same t y.state.toggle then y.pace.naks else 0) ≡ 0)
-    (sym (sunk_end e bytes s)) (by_toggle t (out_end s e).state.toggle h)
-  where
-    by_toggle : (a b : Toggle) → is_same a b ≡ true
-        → (if is_same a (other b) then (out_end s e).pace.each else 0) ≡ 0
-    by_toggle Zero Zero h = refl
-    by_toggle One One h = refl
-    by_toggle Zero One h = cc h
-    by_toggle One Zero h = cc h
+sunk_none_left e bytes t s h = grind (arith, sunk_end)
 
 hesitates_fewer_left : (e : ℕ) (t : Toggle) (s : State) → 1 ≤ (out_end s e).pace.naks
     → is_same t (out_end s e).state.toggle ≡ true
     → 1 + naks_left e t (forgotten (out_hesitates s e)) ≤ naks_left e t s
-hesitates_fewer_left e t s one h =
-    subst (λ (y : OutEnd). 1 + (if is_same t y.state.toggle then y.pace.naks else 0)
-    ≤ naks_left e t s) (sym (out_hesitates_end e s)) (rw h (omega (arith, one)))
+hesitates_fewer_left e t s one h = grind (arith, out_hesitates_end)
 
 only_forgotten : (e : ℕ) (s : State) → OnlySink e s (forgotten s)
 only_forgotten e s = record { rest = refl; others = λ a h. refl }
@@ -704,37 +635,25 @@ sink_same : (e : ℕ) (s : State) → OnlySink e s s
 sink_same e s = record { rest = refl; others = λ a h. refl }
 
 only_sunk : (e : ℕ) (bytes : List ℕ) (s : State) → OnlySink e s (forgotten (sunk s e bytes))
-only_sunk e bytes s = record {
-  rest = refl;
-  others = λ a h. at_other no_out e a (end_taken e bytes s) s.outs h;
-}
+only_sunk e bytes s = grind (arith, at_other)
 
 sink_then : (e : ℕ) (s u v : State) → OnlySink e s u → OnlySink e u v → OnlySink e s v
-sink_then e s u v x y = record {
-  rest = subst (λ z. v ≡ record z { memory = v.memory; outs = v.outs }) x.rest y.rest;
-  others = λ a h. y.others a h ∙ x.others a h;
-}
+sink_then e s u v x y = grind (arith, x.rest, x.others, y.rest, y.others)
 
 sink_at_forgotten : {e : ℕ} {before bytes : List ℕ} {t : Toggle} {s : State}
     → SinkAt e before bytes t s
     → SinkAt e before bytes t (forgotten s)
-sink_at_forgotten (level a b) = level a b
-sink_at_forgotten (ahead a b) = ahead a b
+sink_at_forgotten at = grind arith
 
 joins : {e : ℕ} {before bytes : List ℕ} {t : Toggle} {s : State}
     → is_same t (out_end s e).state.toggle ≡ true
     → SinkAt e before bytes t s → Joined e before bytes t (forgotten (sunk s e bytes))
-joins {e} {bytes = bytes} {s = s} h (level a b) = record {
-  sink = ap (λ x. x.sink) (sunk_end e bytes s) ∙ ap (λ x. x ++ bytes) a;
-  toggle = ap (λ x. x.state.toggle) (sunk_end e bytes s) ∙ ap other b;
-}
-joins {t = t} h (ahead a b) = false_true (sym (ap (is_same t) b ∙ other_toggle t) ∙ h)
+joins = grind (arith, false_true, other_toggle, sunk_end)
 
 had : {e : ℕ} {before bytes : List ℕ} {t : Toggle} {s : State}
     → is_same t (out_end s e).state.toggle ≡ false
     → SinkAt e before bytes t s → Joined e before bytes t (forgotten s)
-had {t = t} h (level a b) = false_true (sym h ∙ ap (is_same t) b ∙ is_same-refl t)
-had h (ahead a b) = record { sink = a; toggle = b }
+had = grind (arith, false_true, is_same-refl)
 
 behind_it : {e : ℕ} {before bytes : List ℕ} {t : Toggle} {s : State} → Joined e before bytes t s
     → SinkAt e before bytes t s
@@ -782,13 +701,8 @@ module _ (e most max : ℕ) (s : State) (i : IsSink e most s) (t : Toggle) (byte
   sunk_stays : (out_end s e).state.halted ≡ false
       → is_same t (out_end s e).state.toggle ≡ true
       → SinkStays e t bytes s (forgotten (sunk s e bytes))
-  sunk_stays h k = (
-    only_sunk e bytes s,
-    λ before at. behind_it (joins k at),
-    λ g f. false_true (sym h ∙ g),
-    sunk_prompt e bytes s,
-    omega (arith, sunk_none_left e bytes t s k),
-  )
+  sunk_stays h k =
+      grind (arith, behind_it, false_true, joins, only_sunk, sunk_none_left, sunk_prompt)
 
   by_naks : (waits : Bool) (t3 : Way) → nat_lt 0 (out_end s e).pace.naks ≡ waits
       → (out_end s e).state.halted ≡ false → is_same t (out_end s e).state.toggle ≡ true
@@ -805,13 +719,7 @@ module _ (e most max : ℕ) (s : State) (i : IsSink e most s) (t : Toggle) (byte
   by_naks false t3 n h k c = unheard _ (λ d. cc (c d)) (sunk_stays h k)
 
   forgotten_stays : SinkStays e t bytes s (forgotten s)
-  forgotten_stays = (
-    only_forgotten e s,
-    λ before at. sink_at_forgotten at,
-    λ g f. f,
-    λ x. x,
-    nothing_left,
-  )
+  forgotten_stays = grind (arith, nothing_left, only_forgotten, sink_at_forgotten)
 
   by_row : (halted long same : Bool) (t3 : Way) → (out_end s e).state.halted ≡ halted
       → (length bytes ≤ most → long ≡ false) → is_same t (out_end s e).state.toggle ≡ same
@@ -841,8 +749,7 @@ module _ (e most max : ℕ) (s : State) (i : IsSink e most s) (t : Toggle) (byte
       (sink_same e s, λ before at. at, λ g f. refl, λ x. x, omega arith)
 
 pub sink_kept : (ep most : ℕ) (s u : State) → OnlySink ep s u → IsSink ep most s → IsSink ep most u
-sink_kept ep most s u e i = subst (λ x. IsSink ep most x) (sym e.rest)
-    (record { endpoint = i.endpoint; not_zero = i.not_zero })
+sink_kept ep most s u e i = grind arith
 
 pub at_kept : (t : Target) {ep : ℕ} (s u : State) → OnlySink ep s u → is_at s t ≡ true
     → is_at u t ≡ true
@@ -860,22 +767,7 @@ SinkLeft e t bytes result s v =
 module _ {e most : ℕ} {t : Toggle} {bytes : List ℕ} {Clear : Type 0} {s : State} where
   stays_out : {h : HeardOutcome} {v : State} → Took e most t bytes Clear s h v
       → SinkStays e t bytes s v
-  stays_out (unheard v c x) = x
-  stays_out (hesitates v x less) = x
-  stays_out (refused f) = (
-    only_forgotten e s,
-    λ before at. sink_at_forgotten at,
-    λ g h. h,
-    λ x. x,
-    omega arith,
-  )
-  stays_out (acked v f x on prompt less) = (
-    x,
-    λ before at. behind_it (on before at),
-    λ g. false_true (sym f ∙ g),
-    prompt,
-    less,
-  )
+  stays_out took = grind (arith, behind_it, false_true, only_forgotten, sink_at_forgotten)
 
   done_out : {done : List ℕ} {v : State} → Took e most t bytes Clear s (Moved (packed done)) v
       → SinkLeft e t bytes (Ok done) s v
@@ -883,42 +775,24 @@ module _ {e most : ℕ} {t : Toggle} {bytes : List ℕ} {Clear : Type 0} {s : St
 
   stalls_out : {v : State} → Took e most t bytes Clear s Refused v
       → SinkLeft e t bytes (Err Stalled) s v
-  stalls_out (refused f) = (
-    only_forgotten e s,
-    λ before at. (sink_at_forgotten at, f),
-    λ g h. (h, λ done r. cc r),
-    λ x. x,
-  )
+  stalls_out took = grind (arith, only_forgotten, sink_at_forgotten)
 
   ended_out : (result : Result (List ℕ) TransFault) (o : Outcome) (outcomes : List Outcome)
       {v : State} → Took e most t bytes Clear s (heard_when_sent o) v
       → IsEnd heard_when_sent result o outcomes → SinkLeft e t bytes result s v
-  ended_out (Ok done) o outcomes {v} g is =
-      done_out (subst (λ h. Took e most t bytes Clear s h v) is g)
-  ended_out (Err Stalled) o outcomes {v} g is =
-      stalls_out (subst (λ x. Took e most t bytes Clear s (heard_when_sent x) v) is g)
-  ended_out result o outcomes g is = let x = stays_out g in
-      (x.0, x.1, λ c h. (x.2 c h, λ done r. cc r), x.3)
+  ended_out result o outcomes g is = grind (arith, done_out, stalls_out, stays_out)
 
   unheard_out : {v : State} → Took e most t bytes Clear s Lost v → Clear → length bytes ≤ most → ⊥
   unheard_out (unheard v c x) = c
 
   few_waits_out : {h : HeardOutcome} {v : State} → Took e most t bytes Clear s h v → (n : ℕ)
       → waits_with h n + naks_left e t v ≤ n + naks_left e t s
-  few_waits_out (unheard v c x) n = omega (arith, x.4)
-  few_waits_out (hesitates v x less) n = omega (arith, less)
-  few_waits_out (refused f) n = omega arith
-  few_waits_out (acked v f x on prompt less) n = omega (arith, less)
+  few_waits_out g n = grind arith
 
 after_stay : (e : ℕ) (t : Toggle) (bytes : List ℕ) (result : Result (List ℕ) TransFault)
     (s u v : State)
     → SinkStays e t bytes s u → SinkLeft e t bytes result u v → SinkLeft e t bytes result s v
-after_stay e t bytes result s u v x l = (
-  sink_then e s u v x.0 l.0,
-  λ before at. l.1 before (x.1 before at),
-  λ c h. (rw (x.2 c h) at l).2 c h,
-  λ y. l.3 (x.3 y),
-)
+after_stay e t bytes result s u v x l = grind (arith, sink_then)
 
 module _ (t : Target) (ep : ℕ) (toggle : Toggle) (bytes : List ℕ) where
   abbrev a_out : Attempt
@@ -973,33 +847,13 @@ module _ (t : Target) (ep : ℕ) (toggle : Toggle) (bytes : List ℕ) where
           is)) (λ gave outcomes w so. so.2 v (up v gave)) x
 
 -- a device remembers nothing before it
-each_rests : (R S : Relation) (old new : World) → IsSettled old.roots
+each_rests : {R S : Relation} (old new : World) → IsSettled old.roots
     → ((j : Location) (s v : State) → forgotten s ≡ s → R j s v → S j s v) → EachIf Any R old new
     → EachWas S old new
-each_rests R S old new settled f x j v on there =
+each_rests old new settled f x j v on there =
     let was = x j v on there tt in
     was_then was (f j was.before v (remembers was.before
     (settled_memory old.roots j.row j.rest was.before settled was.stands)) was.so)
-
--- whatever its answer is
-pub sink_leaves : (t : Target) (ep : ℕ) (toggle : Toggle) (bytes : List ℕ)
-    (result : Result (List ℕ) TransFault) (old new : World) → IsSettled old.roots
-    → Transacted heard_when_sent (out_attempt t ep toggle bytes) old result new → new.shared ≡ false
-    → EachWas (SinkOut t ep toggle bytes result) old new
-sink_leaves t ep toggle bytes result old new settled x single =
-    each_rests _ (SinkOut t ep toggle bytes result) old new settled
-    (sink_out t ep toggle bytes result (IsOfBus result)
-    (λ v gave. of_bus (λ r. SinkLeft ep toggle bytes r v v)
-    (λ fault. (sink_same ep v, λ before at. at, λ c h. (refl, λ done e. cc e), λ x. x)) result
-    gave) old new)
-    (over_out t ep toggle bytes old new settled single heard_when_sent result x)
-
-pub sink_over : (t : Target) (ep : ℕ) (toggle : Toggle) (bytes : List ℕ)
-    (result : Result (List ℕ) TransFault) (old new : World) → IsSettled old.roots
-    → TransactionDone heard_when_sent (out_attempt t ep toggle bytes) old result new
-    → new.shared ≡ false → EachWas (SinkOut t ep toggle bytes result) old new
-sink_over t ep toggle bytes result old new settled e single =
-    sink_leaves t ep toggle bytes result old new settled (as_transacted result e) single
 
 -- Between two attempts
 pub sink_between : (t : Target) (ep : ℕ) (toggle : Toggle) (bytes : List ℕ)
@@ -1008,7 +862,7 @@ pub sink_between : (t : Target) (ep : ℕ) (toggle : Toggle) (bytes : List ℕ)
     → KeepsTrying heard_when_sent outcomes → now.shared ≡ false
     → EachWas (SinkBetween t ep toggle bytes) old now
 sink_between t ep toggle bytes outcomes old now settled trail onward single =
-    each_rests _ (SinkBetween t ep toggle bytes) old now settled
+    each_rests old now settled
     (λ j s v rests run.
     let x : SinkOut t ep toggle bytes (Err NoAnswer) j s v =
     sink_out t ep toggle bytes (Err NoAnswer) (Unit {0})
@@ -1016,47 +870,75 @@ sink_between t ep toggle bytes outcomes old now settled trail onward single =
     old now j s v rests
     (stopped tt run onward) in
     record { others = x.others; frame = x.frame; sink = x.sink })
-    (over_out_trail t ep toggle bytes old now settled single trail)
+    (over_trail (out_kind t ep toggle bytes) old settled trail single)
 
 -- Why it fails
-pub sink_why : (t : Target) (ep : ℕ) (toggle : Toggle) (bytes : List ℕ)
-    (result : Result (List ℕ) TransFault) (old new : World) → IsSettled old.roots
-    → NoThreeDamaged old
-    → TransactionDone heard_when_sent (out_attempt t ep toggle bytes) old result new
-    → new.shared ≡ false → EachWas (SinkOutFailure t ep toggle bytes result) old new
-sink_why t ep toggle bytes result old new settled three e single =
-    each_device _ (SinkOutFailure t ep toggle bytes result) old new why
-    (over_out t ep toggle bytes old new settled single heard_when_sent result
-    (as_transacted result e))
-  where
-    stays : (most : ℕ) (w : World) (j : Location) (u y : State)
-        → DidOut (out_attempt t ep toggle bytes) toggle bytes w j u y → Listens t j u
-        × IsSink ep most u → Listens t j y × IsSink ep most y
-    stays most w j u y d is =
-        let f : OnlySink ep u y =
-        (stays_out (did_out t ep toggle bytes most w j u y d is.0.at is.1)).0
-        in (
-          listens_on t j u y (ap (λ x. x.spec) f.rest) (ap (λ x. x.registers) f.rest) is.0,
-          sink_kept ep most u y f is.1,
-        )
+module _ (t : Target) (ep : ℕ) (toggle : Toggle) (bytes : List ℕ)
+    (result : Result (List ℕ) TransFault) (old new : World) (j : Location) (s v : State)
+    (run : RanOut t ep toggle bytes (IsOfBus result) result old new j s v)
+    (three : NoThreeDamaged old) where
+  abbrev AttemptOut : World → State → State → Type 0
+  AttemptOut w u y = DidOut (a_out t ep toggle bytes) toggle bytes w j u y
 
-    why : (j : Location) (s v : State) → RanOut t ep toggle bytes (IsOfBus result) result old new j
-        s v → SinkOutFailure t ep toggle bytes result j s v
-    why j s v x = record {
-      answered = λ l most i fits. heeded (Moves heard_when_sent) result x
-          (λ u. Listens t j u × IsSink ep most u)
-          (λ w u y d n. stays most w j u y d) (l, i) three
-          (λ w u y d is none f.
-          unheard_out (subst (λ h. Took ep most toggle bytes ((damage_in w ≡ None) × Listens t j u)
-          u h y) f (did_out t ep toggle bytes most w j u y d is.0.at is.1)) (none, is.0) fits);
-      waited = λ l most i prompt. spared (Moves heard_when_sent) result x
-          (λ u. Listens t j u × IsSink ep most u)
-          (λ w u y d n. stays most w j u y d) (l, i) (naks_left ep toggle)
-          (λ w u y d is n. few_waits_out (did_out t ep toggle bytes most w j u y d is.0.at is.1) n)
-          (few_left (is_same toggle (out_end s ep).state.toggle) prompt.0);
-    }
-      where
-        few_left : (same : Bool) → (out_end s ep).pace.naks ≤ 100
-            → (if same then (out_end s ep).pace.naks else 0) < 256
-        few_left true few = omega (arith, few)
-        few_left false few = omega arith
+  abbrev ListensOut : ℕ → State → Type 0
+  ListensOut most u = Listens t j u × IsSink ep most u
+
+  listens_out : (most : ℕ) (w : World) (u y : State) → AttemptOut w u y → ListensOut most u
+      → ListensOut most y
+  listens_out most w u y d is =
+      let f : OnlySink ep u y =
+      (stays_out (did_out t ep toggle bytes most w j u y d is.0.at is.1)).0
+      in (
+        listens_on t j u y (ap (λ x. x.spec) f.rest) (ap (λ x. x.registers) f.rest) is.0,
+        sink_kept ep most u y f is.1,
+      )
+
+  sink_fails : SinkOutFailure t ep toggle bytes result j s v
+  sink_fails = record {
+    answered = λ l most i fits. heeded (Moves heard_when_sent) result run (ListensOut most)
+        (λ w u y d n. listens_out most w u y d) (l, i) three
+        (λ w u y d is none f.
+        unheard_out (subst (λ h. Took ep most toggle bytes ((damage_in w ≡ None) × Listens t j u)
+        u h y) f (did_out t ep toggle bytes most w j u y d is.0.at is.1)) (none, is.0) fits);
+    waited = λ l most i prompt. spared (Moves heard_when_sent) result run (ListensOut most)
+        (λ w u y d n. listens_out most w u y d) (l, i) (naks_left ep toggle)
+        (λ w u y d is n. few_waits_out (did_out t ep toggle bytes most w j u y d is.0.at is.1) n)
+        (few_left (is_same toggle (out_end s ep).state.toggle) prompt.0);
+  }
+    where
+      few_left : (same : Bool) → (out_end s ep).pace.naks ≤ 100
+          → (if same then (out_end s ep).pace.naks else 0) < 256
+      few_left true few = omega (arith, few)
+      few_left false few = omega arith
+
+-- Each device, whatever the answer is
+pub sink_told : (t : Target) (ep : ℕ) (toggle : Toggle) (bytes : List ℕ)
+    (result : Result (List ℕ) TransFault) (old new : World) → IsSettled old.roots
+    → Transacted heard_when_sent (out_attempt t ep toggle bytes) old result new → new.shared ≡ false
+    → EachWas (DeviceTold (SinkOut t ep toggle bytes result) (SinkOutFailure t ep toggle bytes
+    result)
+    old) old new
+sink_told t ep toggle bytes result old new settled x single =
+    each_rests old new settled
+    (λ j s v rests run. record {
+      leaves = sink_out t ep toggle bytes result (IsOfBus result)
+          (λ v gave. of_bus (λ r. SinkLeft ep toggle bytes r v v)
+          (λ fault. (sink_same ep v, λ before at. at, λ c h. (refl, λ done e. cc e), λ x. x)) result
+          gave) old new j s v rests run;
+      why = sink_fails t ep toggle bytes result old new j s v run;
+    })
+    (over_transaction (out_kind t ep toggle bytes) old settled heard_when_sent new single result x)
+
+pub sink_leaves : (t : Target) (ep : ℕ) (toggle : Toggle) (bytes : List ℕ)
+    (result : Result (List ℕ) TransFault) (old new : World) → IsSettled old.roots
+    → Transacted heard_when_sent (out_attempt t ep toggle bytes) old result new → new.shared ≡ false
+    → EachWas (SinkOut t ep toggle bytes result) old new
+sink_leaves t ep toggle bytes result old new settled x single =
+    told_leaves old new (sink_told t ep toggle bytes result old new settled x single)
+
+pub sink_over : (t : Target) (ep : ℕ) (toggle : Toggle) (bytes : List ℕ)
+    (result : Result (List ℕ) TransFault) (old new : World) → IsSettled old.roots
+    → TransactionDone heard_when_sent (out_attempt t ep toggle bytes) old result new
+    → new.shared ≡ false → EachWas (SinkOut t ep toggle bytes result) old new
+sink_over t ep toggle bytes result old new settled e single =
+    grind (arith, as_transacted, sink_leaves)

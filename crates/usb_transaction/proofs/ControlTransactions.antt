@@ -7,10 +7,10 @@ use Rattle.usb_port.specs.{PortState}
 use Rattle.usb_device.specs.{Answer, RememberedPacket, Stage, idle, refused, reading, ending}
 use Rattle.usb_device.specs.{max_packet, packet_at, toggle_at, Spec, State, Reply, forgotten}
 use Rattle.usb_device.specs.{is_busy, nak_row, acknowledged, Way, is_whole, heard, gave}
-use Rattle.usb_device.specs.{in_stage_law, in_law, Registers, row_of, Location, reach_on, state_on}
-use Rattle.usb_device.specs.{held_addresses, repeats, address_then, taken_of, ReadingAt, ReadOn}
-use Rattle.usb_device.specs.{StatusOn, StatusGiven, seen, unseen, OnlyControl, Write, writing}
-use Rattle.usb_device.specs.{is_done, WriteEnded, WritingAt, taken_with}
+use Rattle.usb_device.specs.{in_stage_law, in_law, row_of, Location, reach_on, state_on}
+use Rattle.usb_device.specs.{held_addresses, repeats, taken_of, ReadingAt, ReadOn, StatusOn}
+use Rattle.usb_device.specs.{StatusGiven, seen, unseen, OnlyControl, Write, writing, is_done}
+use Rattle.usb_device.specs.{WriteEnded, WritingAt, taken_with}
 use Rattle.usb_device.specs.Attempt.{whole}
 use Rattle.usb_device.proofs.Interface.{control_read, is_same-refl}
 use Rattle.usb_tree.specs.{IsSettled, address_of}
@@ -21,21 +21,21 @@ use Rattle.usb_transaction.specs.{Target, HeardOutcome, Moved, Repeat, Lost, Tra
 use Rattle.usb_transaction.specs.{Busy, NoAnswer, heard_as, AttemptLog, start, next, IsNoEnd}
 use Rattle.usb_transaction.specs.{waits_with, waits_in, TransactionDone, Transacted, NoThreeDamaged}
 use Rattle.usb_transaction.specs.{Listens, Fits, HasNext, status, refusal, ControlInFailure, packed}
-use Rattle.usb_transaction.specs.{in_attempt, is_at, IsNotOfBus, CanAnswer, ReadCut, none_came}
-use Rattle.usb_transaction.specs.{one_came, ReadEnds, StatusEnds, ControlIn, refuses_in}
-use Rattle.usb_transaction.specs.{WriteStatusEnds, WriteStatusFailure, WriteStatusIn}
+use Rattle.usb_transaction.specs.{in_attempt, is_at, IsNotOfBus, CanAnswer, ReadCut, ReadEnds}
+use Rattle.usb_transaction.specs.{StatusEnds, ControlIn, refuses_in, WriteStatusEnds}
+use Rattle.usb_transaction.specs.{WriteStatusFailure, WriteStatusIn}
 use Rattle.usb_transaction.specs.Failures.{data_stage}
 use Rattle.std.proofs.lemmas.Bool.Decides.{nat_tests}
 use Rattle.arrayvec.specs.ArrayVec.{ArrayVec}
-use Rattle.usb_transaction.proofs.DeviceRuns.{IsEnd, Run, as_whole, asked_in, at_from, each_device}
-use Rattle.usb_transaction.proofs.DeviceRuns.{had_address, heeded, listens_on, mine, not_busy}
-use Rattle.usb_transaction.proofs.DeviceRuns.{of_bus, one_wait, others_stay_then, over_in}
-use Rattle.usb_transaction.proofs.DeviceRuns.{over_in_trail, positive, Through, was_then, Moves}
+use Rattle.usb_transaction.proofs.DeviceRuns.{IsEnd, Run, as_whole, asked_in, at_from}
+use Rattle.usb_transaction.proofs.DeviceRuns.{over_transaction, over_trail, in_kind, had_address}
+use Rattle.usb_transaction.proofs.DeviceRuns.{heeded, listens_on, mine, not_busy, of_bus, one_wait}
+use Rattle.usb_transaction.proofs.DeviceRuns.{others_stay_then, positive, Through, was_then, Moves}
 use Rattle.usb_transaction.proofs.DeviceRuns.{OutcomeOfSpec, brought, could, result_of, summed}
 use Rattle.usb_transaction.proofs.DeviceRuns.{never}
 use Rattle.usb_transaction.proofs.LastOutcomes.{heard_taken, no_packet, packet_heard, packet_in}
-use Rattle.usb_transaction.proofs.Trails.{LostRun, as_transacted, damaged_more, lost_run_none}
-use Rattle.usb_transaction.proofs.Trails.{run_short, trail_settled}
+use Rattle.usb_transaction.proofs.Trails.{LostRun, damaged_more, lost_run_none, run_short}
+use Rattle.usb_transaction.proofs.Trails.{trail_settled}
 use Rattle.usb_world.proofs.Interface.{data_back, due_back, in_in, made_of, made_unshared}
 use Rattle.usb_world.proofs.Interface.{one_answers, one_state, stands, state_stands}
 use Rattle.usb_world.proofs.Interface.{stays_reachable_in}
@@ -164,21 +164,15 @@ WrittenOn w (Some bytes) v = (bytes ≡ []) × (is_done w ≡ true)
 
 reads_from : (text : List ℕ) (wanted n : ℕ) (s u v : State) (o : Option (List ℕ)) → u.spec ≡ s.spec
     → ReadOn text wanted n u o v → ReadOn text wanted n s o v
-reads_from text wanted n s u v None e h = h
-reads_from text wanted n s u v (Some bytes) e h =
-    (ap (λ x. packet_at (max_packet x) wanted text n) (sym e) ∙ h.0, h.1)
+reads_from text wanted n s u v o e h = grind arith
 
 given_from : (a : Option ℕ) (s u v : State) → u.registers ≡ s.registers → StatusGiven a u v
     → StatusGiven a s v
-given_from a s u v e (seen stage registers) =
-    seen stage (registers ∙ ap {A = Registers}
-    (λ x. record x { address = address_then x.address a }) e)
-given_from a s u v e (unseen stage registers) = unseen stage (registers ∙ e)
+given_from a s u v e given = grind arith
 
 status_from : (a : Option ℕ) (s u v : State) (o : Option (List ℕ)) → u.registers ≡ s.registers
     → StatusOn a u o v → StatusOn a s o v
-status_from a s u v None e h = (h.0, h.1 ∙ e)
-status_from a s u v (Some bytes) e h = (h.0, given_from a s u v e h.1)
+status_from a s u v o e h = grind (arith, given_from)
 
 -- in the data stage of a read it stays there, with its registers
 abbrev pub StaysReading : State → State → Type 0
@@ -189,126 +183,53 @@ module _ (t : Target) (awaited : Toggle) where
   abbrev came : Outcome → Option (List ℕ)
   came o = packet_heard (heard_as awaited o)
 
-  pub record InResult (s : State) (o : Outcome) (v : State) : Type 0 where
+  pub record InResult (s : State) (c : Option (List ℕ)) (v : State) : Type 0 where
     pub others : is_at s t ≡ false → v ≡ s
     pub frame : OnlyControl s v
     pub naks : v.naks ≤ s.naks
     pub there : is_at s t ≡ true → (v.registers ≡ s.registers) ⊎ Free s.spec
     pub reading : is_at s t ≡ true → (answer : List ℕ) (wanted n : ℕ) → awaited ≡ toggle_at n
         → ReadingAt answer wanted n s
-        → ReadOn answer wanted n s (came o) v × (v.registers ≡ s.registers)
+        → ReadOn answer wanted n s c v × (v.registers ≡ s.registers)
     pub status : is_at s t ≡ true → awaited ≡ One → (a : Option ℕ) → s.stage ≡ ending a
-        → StatusOn a s (came o) v
+        → StatusOn a s c v
     pub written : is_at s t ≡ true → awaited ≡ One → (w : Write) → s.stage ≡ writing w
-        → WrittenOn w (came o) v × (v.registers ≡ s.registers)
+        → WrittenOn w c v × (v.registers ≡ s.registers)
     pub stays : StaysReading s v
     pub refuses : s.stage ≡ refused → (v.stage ≡ refused) × (v.registers ≡ s.registers)
-        × (is_at s t ≡ true → came o ≡ None)
-    pub fails : awaited ≡ One → came o ≡ None → v.registers ≡ s.registers
+        × (is_at s t ≡ true → c ≡ None)
+    pub fails : awaited ≡ One → c ≡ None → v.registers ≡ s.registers
     pub back : refuses_in v.stage ≡ true → refuses_in s.stage ≡ true
 
   -- it stands where it stood
-  kept : (o : Outcome) (s : State) (k : ℕ) → k ≤ s.naks → (is_at s t ≡ false → k ≡ s.naks)
-      → (is_at s t ≡ true → came o ≡ None) → InResult s o (record s { naks = k })
-  kept o s k few same none = record {
-    others = λ a. ap (λ n. record s { naks = n }) (same a);
-    frame = refl;
-    naks = few;
-    there = λ at. inl refl;
-    reading = λ at text wanted n e r. (
-      subst (λ c. ReadOn text wanted n s c (record s { naks = k })) (sym (none at))
-          (record { known = r.known; stage = r.stage; near = r.near }),
-      refl,
-    );
-    status = λ at e a h. subst (λ c. StatusOn a s c (record s { naks = k })) (sym (none at))
-        (h, refl);
-    written = λ at e w h. (
-      subst (λ c. WrittenOn w c (record s { naks = k })) (sym (none at)) h,
-      refl,
-    );
-    stays = λ text wanted n h. (refl, n, h);
-    refuses = λ h. (h, refl, none);
-    fails = λ e c. refl;
-    back = λ h. h;
-  }
+  kept : (c : Option (List ℕ)) (s : State) (k : ℕ) → k ≤ s.naks → (is_at s t ≡ false → k ≡ s.naks)
+      → (is_at s t ≡ true → c ≡ None) → InResult s c (record s { naks = k })
+  kept c s k few same none = grind (arith, same, none)
 
-  pub unmoved : (s : State) → InResult s Nothing s
-  unmoved s = kept Nothing s s.naks (omega arith) (λ a. refl) (λ at. refl)
+  pub unmoved : (s : State) → InResult s None s
+  unmoved s = kept None s s.naks (omega arith) (λ a. refl) (λ at. refl)
 
-  abbrev Reads : State → Outcome → State → Type 0
-  Reads s o v = (answer : List ℕ) (wanted n : ℕ) → awaited ≡ toggle_at n
-      → ReadingAt answer wanted n s → ReadOn answer wanted n s (came o) v
+  abbrev Reads : State → Option (List ℕ) → State → Type 0
+  Reads s c v = (answer : List ℕ) (wanted n : ℕ) → awaited ≡ toggle_at n
+      → ReadingAt answer wanted n s → ReadOn answer wanted n s c v
 
   gave_step : (u : State) (o : Outcome) (v : State) → ControlGave u o v → is_at u t ≡ true
-      → u.spec.silent ≡ false → Reads u o v → InResult u o v
-  gave_step u o v (silence k few) at loud reads = kept Nothing u k few (mine t u at) (λ a. refl)
+      → u.spec.silent ≡ false → Reads u (came o) v → InResult u (came o) v
+  gave_step u o v (silence k few) at loud reads = kept None u k few (mine t u at) (λ a. refl)
   gave_step u o v (a_nak busy) at loud reads =
-      kept Nak u (u.naks - 1) (omega arith) (mine t u at) (λ a. refl)
+      kept None u (u.naks - 1) (omega arith) (mine t u at) (λ a. refl)
   gave_step u o v (a_stall free h) at loud reads =
-      kept Stall u u.naks (omega arith) (mine t u at) (λ a. refl)
-  gave_step u o v (a_packet free text bytes wanted k n m h) at loud reads = record {
-    others = mine t u at;
-    frame = refl;
-    naks = omega arith;
-    there = λ a. inl refl;
-    reading = λ a text wanted n e r. (reads text wanted n e r, refl);
-    status = λ a e b g. cc (sym h ∙ g);
-    written = λ a e w g. cc (sym h ∙ g);
-    stays = λ answer most i g. (refl, n, cc (sym h ∙ g));
-    refuses = λ g. cc (sym h ∙ g);
-    fails = λ e c. refl;
-    back = λ g. cc g;
-  }
-  gave_step u o v (a_status free a x h given frame naks) at loud reads = record {
-    others = mine t u at;
-    frame = frame;
-    naks = omega (arith, naks);
-    there = λ at. inr (loud, not_busy u free);
-    reading = λ a text wanted n e r. cc (sym h ∙ r.stage);
-    status = λ at e b g. subst (λ z. StatusOn b u
-        (packet_heard (heard_as z (Payload One (packed [])))) x) (sym e)
-        (refl, subst (λ c. StatusGiven c u x) (cc (sym h ∙ g)) given);
-    written = λ a e w g. cc (sym h ∙ g);
-    stays = λ answer most i g. cc (sym h ∙ g);
-    refuses = λ g. cc (sym h ∙ g);
-    fails = λ e c. absurd (cc (ap (λ z. packet_heard (heard_as z (Payload One (packed [])))) (sym e)
-        ∙ c));
-    back = λ g. elim given [
-      | seen e r ↦ cc (sym (ap refuses_in e) ∙ g)
-      | unseen e r ↦ cc (sym (ap refuses_in e) ∙ g)
-    ];
-  }
-  gave_step u o v (a_written free w m st h done is) at loud reads = record {
-    others = mine t u at;
-    frame = refl;
-    naks = omega arith;
-    there = λ a. inl refl;
-    reading = λ a text wanted n e r. cc (sym h ∙ r.stage);
-    status = λ at e b g. cc (sym h ∙ g);
-    written = λ a e x g. (
-      subst (λ z. WrittenOn x (packet_heard (heard_as z (Payload One (packed []))))
-          (record u { memory = m; stage = st })) (sym e)
-          (subst (λ y. WrittenOn y (Some []) (record u { memory = m; stage = st }))
-          (cc (sym h ∙ g)) (refl, done, is)),
-      refl,
-    );
-    stays = λ answer most i g. cc (sym h ∙ g);
-    refuses = λ g. cc (sym h ∙ g);
-    fails = λ e c. refl;
-    back = λ g. elim is [
-      | inl e ↦ cc (sym (ap refuses_in e) ∙ g)
-      | inr e ↦ cc (sym (ap refuses_in e ∙ ap not done) ∙ g)
-    ];
-  }
+      kept None u u.naks (omega arith) (mine t u at) (λ a. refl)
+  gave_step u o v (a_packet free text bytes wanted k n m h) at loud reads =
+      grind (arith, mine, reads)
+  gave_step u o v (a_status free a x h given frame naks) at loud reads =
+      grind (arith, mine, reads, not_busy)
+  gave_step u o v (a_written free w m st h done is) at loud reads =
+      grind (arith, mine, reads)
 
   gave_says : (u : State) (o : Outcome) (v : State) → ControlGave u o v → u.spec.silent ≡ false
       → OutcomeOfSpec u.spec (heard_as awaited o)
-  gave_says u o v (silence k few) loud = inl refl
-  gave_says u o v (a_nak busy) loud = inr (loud, inl refl)
-  gave_says u o v (a_stall free h) loud = inr (loud, inr (not_busy u free))
-  gave_says u o v (a_packet free text bytes wanted k n m h) loud = inr (loud, inr (not_busy u free))
-  gave_says u o v (a_status free a x h given frame naks) loud = inr (loud, inr (not_busy u free))
-  gave_says u o v (a_written free w m st h done is) loud = inr (loud, inr (not_busy u free))
+  gave_says u o v gave loud = grind (arith, not_busy)
 
   gave_in : (w : World) (j : Location) (u v : State) → DidIn (in_attempt t 0) w j u v
       → is_at u t ≡ true → ControlGave u (outcome_in (in_attempt t 0) w) v
@@ -318,9 +239,9 @@ module _ (t : Target) (awaited : Toggle) where
 
   -- one attempt; what another device answered is not this one's
   pub did_step : (w : World) (j : Location) (u v : State) → DidIn (in_attempt t 0) w j u v
-      → InResult u (outcome_in (in_attempt t 0) w) v
+      → InResult u (came (outcome_in (in_attempt t 0) w)) v
   did_step w j u v (DidIn.other d e) =
-      rw e (kept (outcome_in (in_attempt t 0) w) u u.naks (omega arith) (λ a. refl)
+      rw e (kept (came (outcome_in (in_attempt t 0) w)) u u.naks (omega arith) (λ a. refl)
       (λ at. mine t u at d))
   did_step w j u v (DidIn.silent d q o e) = rw (o, e) (unmoved u)
   did_step w j u v (DidIn.asked d q b below stood x o e) =
@@ -333,33 +254,24 @@ module _ (t : Target) (awaited : Toggle) where
 
   did_says : (w : World) (j : Location) (u v : State) → DidIn (in_attempt t 0) w j u v
       → is_at u t ≡ true → OutcomeOfSpec u.spec (heard_as awaited (outcome_in (in_attempt t 0) w))
-  did_says w j u v (DidIn.other d e) at = mine t u at d
-  did_says w j u v (DidIn.silent d q o e) at = inl (ap (heard_as awaited) o)
-  did_says w j u v (DidIn.asked d q b below stood x o e) at =
-      rw o (gave_says u _ _ (gives_in t.max u (row_of below) x.first x.second x.third) q)
+  did_says w j u v did at = grind (arith, gave_says, gives_in, mine)
 
   -- and attempts before it that brought nothing
-  joined : (s u v : State) (o : Outcome) → InResult s Nothing u → InResult u o v → InResult s o v
-  joined s u v o x y = record {
+  joined : (s u v : State) (c : Option (List ℕ)) → InResult s None u → InResult u c v
+      → InResult s c v
+  joined s u v c x y = record {
     others = others_stay_then t s u v x.others y.others;
     frame = cc (x.frame, y.frame);
     naks = omega (arith, x.naks, y.naks);
-    there = λ at. elim (x.there at) [
-      | inl e ↦
-          elim (y.there (at_from t s u e at)) [
-            | inl f ↦ inl (f ∙ e)
-            | inr free ↦ inr (subst Free (ap (λ z. z.spec) x.frame) free)
-          ]
-      | inr free ↦ inr free
-    ];
+    there = grind (arith, at_from, x.there, y.there, x.frame);
     reading = λ at text wanted n e r.
         let before = x.reading at text wanted n e r in
         let later = y.reading (at_from t s u before.1 at) text wanted n e before.0 in (
-          reads_from text wanted n s u v (came o) (ap (λ z. z.spec) x.frame) later.0,
+          reads_from text wanted n s u v c (ap (λ z. z.spec) x.frame) later.0,
           later.1 ∙ before.1,
         );
     status = λ at e a h. let before = x.status at e a h in
-        status_from a s u v (came o) before.1 (y.status (at_from t s u before.1 at) e a before.0);
+        status_from a s u v c before.1 (y.status (at_from t s u before.1 at) e a before.0);
     written = λ at e w h.
         let before = x.written at e w h in
         let later = y.written (at_from t s u before.1 at) e w before.0 in
@@ -368,30 +280,15 @@ module _ (t : Target) (awaited : Toggle) where
         let before = x.stays text wanted k h in
         let later = y.stays text wanted before.1 before.2 in
         (later.0 ∙ before.0, later.1, later.2);
-    refuses = λ h. let before = x.refuses h in let later = y.refuses before.0 in
-        (later.0, later.1 ∙ before.1, λ at. later.2 (at_from t s u before.1 at));
-    fails = λ e c. y.fails e c ∙ x.fails e refl;
+    refuses = grind (arith, at_from, x.refuses, y.refuses);
+    fails = λ e nothing. y.fails e nothing ∙ x.fails e refl;
     back = λ h. x.back (y.back h);
   }
 
   -- one that goes on brings nothing
-  quiet : (s v : State) (o : Outcome) → IsNoEnd (heard_as awaited o) → InResult s o v
-      → InResult s Nothing v
-  quiet s v o n x =
-      let none : came o ≡ None = no_packet (heard_as awaited o) n in
-      record {
-        others = x.others;
-        frame = x.frame;
-        naks = x.naks;
-        there = x.there;
-        reading = λ at text wanted n e r. rw none at (x.reading at text wanted n e r);
-        status = λ at e a h. rw none at (x.status at e a h);
-        written = λ at e w h. rw none at (x.written at e w h);
-        stays = x.stays;
-        refuses = λ h. ((x.refuses h).0, (x.refuses h).1, λ at. refl);
-        fails = λ e c. x.fails e none;
-        back = x.back;
-      }
+  quiet : (s v : State) (o : Outcome) → IsNoEnd (heard_as awaited o) → InResult s (came o) v
+      → InResult s None v
+  quiet s v o n x = grind (arith, no_packet)
 
 -- A STALL is of the one device that had the target's address from the first attempt on
 
@@ -444,8 +341,8 @@ stalled_refused t {old} settled (next {outcomes} w r made) stall single j s on t
     let back : _ = due_back w h.spot h.on in
     let was : Was (λ j s v. Run (DidIn (in_attempt t 0)) (in_attempt t 0) old j s outcomes w v) old
     h.spot h.own =
-    over_in_trail t 0 old w settled (made_unshared (in_attempt t 0) w made single).before r h.spot
-    h.own back.0 (sym back.1 ∙ sym (state_stands (at_attempt w).roots h.spot.row h.spot.rest)
+    over_trail (in_kind t 0) old settled r (made_unshared (in_attempt t 0) w made single).before
+    h.spot h.own back.0 (sym back.1 ∙ sym (state_stands (at_attempt w).roots h.spot.row h.spot.rest)
     ∙ ap stands h.stands) tt in
     let refuses : _ = refused_back t was.so (
       same_equal (address_of h.own) t.addr h.at,
@@ -463,13 +360,11 @@ stalled_refused t {old} settled (next {outcomes} w r made) stall single j s on t
 
 cut_read : (text : List ℕ) (wanted n : ℕ) (s v : State) (o : Option (List ℕ))
     → ReadOn text wanted n s o v → ReadCut text wanted n v
-cut_read text wanted n s v None x = none_came x
-cut_read text wanted n s v (Some bytes) x = one_came x.1
+cut_read text wanted n s v o x = grind arith
 
 cut_status : (a : Option ℕ) (s v : State) (o : Option (List ℕ)) → StatusOn a s o v
     → StatusGiven a s v
-cut_status a s v None x = unseen x.0 x.1
-cut_status a s v (Some bytes) x = x.1
+cut_status a s v o x = grind arith
 
 -- a device over it
 module _ (t : Target) (awaited : Toggle) (result : Result (List ℕ) TransFault) (old new : World)
@@ -479,17 +374,20 @@ module _ (t : Target) (awaited : Toggle) (result : Result (List ℕ) TransFault)
   hears = heard_as awaited
 
   whole_in : (o : Outcome) × (outcomes : List Outcome) × IsEnd hears result o outcomes
-      × InResult t awaited s o v
-  whole_in = summed run (λ gave outcomes.
-      of_bus (λ r. IsEnd hears r Nothing outcomes) (λ f. tt) result gave) (λ u. Unit {0}) (InResult t awaited) (λ w u y d i. (did_step t awaited w j u y d, tt))
-      (joined t awaited) (quiet t awaited) tt (unmoved t awaited s)
+      × InResult t awaited s (came t awaited o) v
+  whole_in = summed run
+      (λ gave outcomes. of_bus (λ r. IsEnd hears r Nothing outcomes) (λ f. tt) result gave)
+      (λ u. Unit {0}) (λ u o y. InResult t awaited u (came t awaited o) y)
+      (λ w u y d i. (did_step t awaited w j u y d, tt))
+      (λ u x y o. joined t awaited u x y (came t awaited o)) (quiet t awaited) tt
+      (unmoved t awaited s)
 
   same : IsNotOfBus result → came t awaited whole_in.0 ≡ packet_in result
   same = brought awaited result whole_in.0 whole_in.1 whole_in.2
 
   so_could : is_at s t ≡ true → CanAnswer s.spec result
   so_could at =
-      could (Moves hears) result run (λ u. InResult t awaited s Nothing u) (λ w u y d n i.
+      could (Moves hears) result run (λ u. InResult t awaited s None u) (λ w u y d n i.
       quiet t awaited s y (outcome_in (in_attempt t 0) w) n
       (joined t awaited s u y _ i (did_step t awaited w j u y d))) (unmoved t awaited s) s.spec refl
       (λ bytes o e. (λ f. cc (sym e ∙ f), λ f. cc (sym e ∙ f)))
@@ -512,11 +410,7 @@ module _ (t : Target) (awaited : Toggle) (result : Result (List ℕ) TransFault)
         result_of (λ b. Some b) (λ c. StatusOn a s c v) (λ y. StatusEnds a s y v) (λ b z. z)
         (λ z. (z, z, z)) (λ fault c z. cut_status a s v c z) result (came t awaited whole_in.0) same
         (x.status at f a h);
-    refused = λ h. (
-      (x.refuses h).0,
-      λ at bytes g. cc (sym ((x.refuses h).2 at)
-          ∙ same (subst IsNotOfBus (sym g) tt) ∙ ap packet_in g),
-    );
+    refused = grind (arith, same, x.refuses);
     rests = λ h. (x.refuses h).1;
     failed = λ f fault g n. x.fails f (same n ∙ ap packet_in g);
     stalled = stalled;
@@ -534,9 +428,7 @@ module _ (t : Target) (awaited : Toggle) (result : Result (List ℕ) TransFault)
     still_writing stage = record { stage = stage; taken = kept_bytes }
 
     ended_write : (c : Option (List ℕ)) → WrittenOn w c v → WriteEnded before w v
-    ended_write None x = unseen (still_writing x)
-    ended_write (Some bytes) x =
-        elim x.2 [ inl e ↦ seen e kept_bytes | inr e ↦ unseen (still_writing e) ]
+    ended_write c x = grind (arith, kept_bytes, still_writing)
 
     status_in : WriteStatusEnds before w result v
     status_in =
@@ -578,15 +470,8 @@ heeds_read : (t : Target) (awaited : Toggle) (u : State) (text : List ℕ) (want
           gave (record_stage u (reading text wanted k)) by.Control t.max (toggle_at k) bytes whole
           whole
     ])
-heeds_read t awaited u text wanted k short near None packet some = cc some
-heeds_read t awaited u text wanted k short near (Some bytes) packet some =
-    rw (nat_le-true (length bytes) t.max (short k bytes packet), ap is_some packet) (
-      heard_some (is_same awaited (toggle_at k)) (packed bytes),
-      λ free miss. elim near [
-        | inl e ↦ false_true (sym miss ∙ rw e (is_same-refl (toggle_at k)))
-        | inr e ↦ rw e (is_same-refl (toggle_at (k + 1)))
-      ],
-    )
+heeds_read t awaited u text wanted k short near o packet some =
+    grind (arith, false_true, heard_some, is_same-refl, nat_le-true)
 
 -- what is next, also of a control write
 data Ready (t : Target) (awaited : Toggle) (s : State) : Type 0 where
@@ -597,9 +482,7 @@ heeds_write : (t : Target) (u : State) (w : Write) (done : Bool)
     → Heeds t One (record_stage u (writing w))
     (if done then gave (record_stage u (writing w)) by.Control t.max One [] whole whole
     else (heard whole (Some answer.Stall), record_stage u (writing w)))
-heeds_write t u w true =
-    rw (nat_le-true 0 t.max (omega arith)) (λ f. cc f, λ free miss. false_true (sym miss))
-heeds_write t u w false = (λ f. cc f, λ free miss. false_true (sym miss))
+heeds_write t u w done = grind (arith, false_true, nat_le-true)
 
 heeds_stage : (t : Target) (awaited : Toggle) (u : State) → Ready t awaited u
     → Heeds t awaited u (in_stage_law u u.stage t.max whole whole)
@@ -663,7 +546,7 @@ naks_none_left u free = grind (arith, nat_tests)
 
 -- what is next is so until it comes
 next_kept : (t : Target) (awaited : Toggle) (place : Location) (u v : State)
-    → InResult t awaited u Nothing v → Listens t place u → Ready t awaited u
+    → InResult t awaited u None v → Listens t place u → Ready t awaited u
     → Listens t place v × Ready t awaited v
 next_kept t awaited place u v x l (reads_on (data_stage text wanted n e r some short)) =
     let q = x.reading l.at text wanted n e r in
@@ -710,10 +593,7 @@ module _ (t : Target) (awaited : Toggle) (old : World) (three : NoThreeDamaged o
 
   waits_none : Waits [] old s
   unfolding waits_in
-  waits_none = record {
-    few = omega arith;
-    behind = λ miss. (0, lost_run_none old.damages old.attempts, omega arith, λ pos. omega arith);
-  }
+  waits_none = grind (arith, lost_run_none)
 
   one_more : (outcomes : List Outcome) (w : World) (u v : State) → AttemptLog a old outcomes w
       → Made w (after (attempt a) w) → Listens t j u × Ready t awaited u → u.spec.busy ≡ false
@@ -734,13 +614,7 @@ module _ (t : Target) (awaited : Toggle) (old : World) (three : NoThreeDamaged o
           let few : _ = (goes (inl busy)).1 (waits_in hear outcomes) in
           record {
             few = omega (arith, few, x.few);
-            behind = λ miss. let q = x.behind (ap (fits awaited) (sym (goes (inl busy)).0)
-                ∙ miss) in (
-                  0,
-                  lost_run_none old.damages (after (attempt a) w).attempts,
-                  omega (arith, few, q.3 (positive u busy calm)),
-                  λ pos. omega (arith, few, q.3 (positive u busy calm)),
-                );
+            behind = grind (arith, goes, lost_run_none, positive, x.behind);
           }
       pick (inr free) (inl fit) = record {
         few = omega (arith, (goes (inr fit)).1 (waits_in hear outcomes), x.few);
@@ -783,69 +657,49 @@ module _ (t : Target) (awaited : Toggle) (old : World) (three : NoThreeDamaged o
 
 -- Each device
 
-pub control_leaves : (t : Target) (awaited : Toggle) (result : Result (List ℕ) TransFault)
+-- what an IN of endpoint 0 says of it: what it leaves, and why it failed; also where it is to end a
+-- control write
+pub record ControlInTold (t : Target) (awaited : Toggle) (result : Result (List ℕ) TransFault)
+    (old : World) (j : Location) (s v : State) : Type 0 where
+  pub leaves : ControlIn t awaited result j s v
+  pub write : awaited ≡ One → WriteStatusIn t result j s v
+  pub steady : StaysReading s v
+  pub why : NoThreeDamaged old → ControlInFailure t awaited result j s v
+  pub write_why : NoThreeDamaged old → awaited ≡ One → WriteStatusFailure t result j s v
+
+pub control_in_told : (t : Target) (awaited : Toggle) (result : Result (List ℕ) TransFault)
     (old new : World) → IsSettled old.roots
     → Transacted (heard_as awaited) (in_attempt t 0) old result new → new.shared ≡ false
-    → EachWas (ControlIn t awaited result) old new
-control_leaves t awaited result old new settled x single j v on there =
-    let was = over_in t 0 old new settled single (heard_as awaited) result x j v on there tt in
-    was_then was (control_in t awaited result old new j was.before v was.so
-    (λ at e. stalled (subst (λ r. Transacted (heard_as awaited) (in_attempt t 0) old r new) e x)
-    was.before was.stands at))
+    → EachWas (ControlInTold t awaited result old) old new
+control_in_told t awaited result old new settled x single j v on there =
+    let was = over_transaction (in_kind t 0) old settled (heard_as awaited) new single result x j v
+    on there tt in
+    let s = was.before in
+    let run = was.so in
+    let answers = λ (three : NoThreeDamaged old). answered t awaited old three j s result new v run
+    in
+    let waits = λ (three : NoThreeDamaged old). waited t awaited old three j s result new v run in
+    was_then was (record {
+      leaves = control_in t awaited result old new j s v run (λ at e. stalled
+          (subst (λ r. Transacted (heard_as awaited) (in_attempt t 0) old r new) e x) s was.stands
+          at);
+      write = λ one. record {
+        status = λ at. status_in t awaited result old new j s v run at one;
+        rests = λ at before w so.
+            ((whole_in t awaited result old new j s v run).3.written at one w so.stage).1;
+      };
+      steady = (whole_in t awaited result old new j s v run).3.stays;
+      why = λ three. record {
+        answered = λ l h. answers three l (reads_on h);
+        waited = λ l h. waits three l (reads_on h);
+      };
+      write_why = λ three one. record {
+        answered = λ l w h. answers three l (writes_on w one h);
+        waited = λ l w h. waits three l (writes_on w one h);
+      };
+    })
   where
     stalled : TransactionDone (heard_as awaited) (in_attempt t 0) old (Err Stalled) new
         → (s : State) → state_on old.roots j ≡ Some s → is_at s t ≡ true
         → refuses_in s.stage ≡ true
     stalled e s stood at = stalled_refused t settled e.trail e.tells single j s on stood at
-
-pub control_in_leaves : (t : Target) (awaited : Toggle) (result : Result (List ℕ) TransFault)
-    (old new : World) → IsSettled old.roots
-    → TransactionDone (heard_as awaited) (in_attempt t 0) old result new → new.shared ≡ false
-    → EachWas (ControlIn t awaited result) old new
-control_in_leaves t awaited result old new settled e =
-    control_leaves t awaited result old new settled (as_transacted result e)
-
-pub reading_leaves : (t : Target) (awaited : Toggle) (result : Result (List ℕ) TransFault)
-    (old new : World) → IsSettled old.roots
-    → Transacted (heard_as awaited) (in_attempt t 0) old result new → new.shared ≡ false
-    → EachWas (λ j s v. StaysReading s v) old new
-reading_leaves t awaited result old new settled x single =
-    each_device _ (λ j s v. StaysReading s v) old new
-    (λ j s v run. (whole_in t awaited result old new j s v run).3.stays)
-    (over_in t 0 old new settled single (heard_as awaited) result x)
-
-pub control_in_why : (t : Target) (awaited : Toggle) (result : Result (List ℕ) TransFault)
-    (old new : World) → IsSettled old.roots → NoThreeDamaged old
-    → TransactionDone (heard_as awaited) (in_attempt t 0) old result new → new.shared ≡ false
-    → EachWas (ControlInFailure t awaited result) old new
-control_in_why t awaited result old new settled three e single =
-    each_device _ (ControlInFailure t awaited result) old new
-    (λ j s v run. record {
-      answered = λ l h. answered t awaited old three j s result new v run l (reads_on h);
-      waited = λ l h. waited t awaited old three j s result new v run l (reads_on h);
-    })
-    (over_in t 0 old new settled single (heard_as awaited) result (as_transacted result e))
-
-pub write_status_leaves : (t : Target) (result : Result (List ℕ) TransFault) (old new : World)
-    → IsSettled old.roots → Transacted (heard_as One) (in_attempt t 0) old result new
-    → new.shared ≡ false → EachWas (WriteStatusIn t result) old new
-write_status_leaves t result old new settled x single =
-    each_device _ (WriteStatusIn t result) old new
-    (λ j s v run. record {
-      status = λ at. status_in t One result old new j s v run at refl;
-      rests = λ at before w so.
-          ((whole_in t One result old new j s v run).3.written at refl w so.stage).1;
-    })
-    (over_in t 0 old new settled single (heard_as One) result x)
-
-pub write_status_why : (t : Target) (result : Result (List ℕ) TransFault) (old new : World)
-    → IsSettled old.roots → NoThreeDamaged old
-    → TransactionDone (heard_as One) (in_attempt t 0) old result new → new.shared ≡ false
-    → EachWas (WriteStatusFailure t result) old new
-write_status_why t result old new settled three e single =
-    each_device _ (WriteStatusFailure t result) old new
-    (λ j s v run. record {
-      answered = λ l w h. answered t One old three j s result new v run l (writes_on w refl h);
-      waited = λ l w h. waited t One old three j s result new v run l (writes_on w refl h);
-    })
-    (over_in t 0 old new settled single (heard_as One) result (as_transacted result e))

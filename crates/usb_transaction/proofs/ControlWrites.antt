@@ -1,31 +1,28 @@
 -- OUT of endpoint 0, with data or as the end of a control read: what it leaves of each device, and
 -- why it fails.
-use Rattle.std.proofs.Common.{◌≡◌, ◌≢◌, ℕ, if◌then◌else◌, Bool, true, false, List, Option, None}
-use Rattle.std.proofs.Common.{Some, Result, Ok, Err, refl, sym, subst, ap, ◌∙◌, inl, inr, ◌≤◌, []}
-use Rattle.std.proofs.Common.{arith}
+use Rattle.std.proofs.Common.{◌≡◌, ◌≢◌, ℕ, if◌then◌else◌, Bool, true, false, List, Option, Some}
+use Rattle.std.proofs.Common.{Result, Ok, Err, refl, sym, subst, ap, ◌∙◌, inl, inr, ◌≤◌, [], arith}
 use Rattle.usb_packet.specs.{Toggle, One}
 use Rattle.usb_device.specs.{State, Reply, Answer, Location, Write, written_on, refused, forgotten}
 use Rattle.usb_device.specs.{is_busy, nak_row, out_row, Way, heard, out_law, IsPacketOf, OnlyWrite}
-use Rattle.usb_device.specs.{WriteAt, WriteOn, WritingAt, ahead, OnlyStage}
+use Rattle.usb_device.specs.{WriteAt, WriteOn, WritingAt, OnlyStage}
 use Rattle.usb_device.specs.Attempt.{whole}
 use Rattle.usb_device.proofs.Interface.{control_write, out_only_write}
 use Rattle.usb_world.specs.{Attempt, Outcome, EachWas, DidOut, got, World, outcome_in}
 use Rattle.usb_world.specs.declared.types.Outcome.TheVariants.{Payload, Ack, Nak, Stall, Nothing}
 use Rattle.usb_tree.specs.{IsSettled}
-use Rattle.usb_transaction.specs.{Target, TransFault, Stalled, Busy, NoAnswer, Bus, is_at}
-use Rattle.usb_transaction.specs.{heard_when_sent, WriteEnds, WriteOut, Transacted, out_attempt}
-use Rattle.usb_transaction.specs.{CanAnswer, packed, Expects, IsInRead, Listens, Lost}
-use Rattle.usb_transaction.specs.{NoThreeDamaged, ReadStatus, StatusReadFailure, TransactionDone}
-use Rattle.usb_transaction.specs.{WriteOutFailure}
+use Rattle.usb_transaction.specs.{Target, TransFault, Busy, NoAnswer, is_at, heard_when_sent}
+use Rattle.usb_transaction.specs.{WriteEnds, WriteOut, Transacted, out_attempt, CanAnswer, packed}
+use Rattle.usb_transaction.specs.{Expects, IsInRead, Listens, Lost, NoThreeDamaged, ReadStatus}
+use Rattle.usb_transaction.specs.{StatusReadFailure, WriteOutFailure}
 use Rattle.usb_transaction.proofs.DeviceRuns.{IsEnd, Through, at_from, delivered_out, each_device}
-use Rattle.usb_transaction.proofs.DeviceRuns.{of_bus, over_out, Moves, OutcomeOfSpec, as_whole}
-use Rattle.usb_transaction.proofs.DeviceRuns.{could, heeded, listens_on, mine, others_stay_then}
-use Rattle.usb_transaction.proofs.DeviceRuns.{spared, summed}
+use Rattle.usb_transaction.proofs.DeviceRuns.{over_transaction, out_kind, of_bus, Moves}
+use Rattle.usb_transaction.proofs.DeviceRuns.{OutcomeOfSpec, as_whole, could, heeded, listens_on}
+use Rattle.usb_transaction.proofs.DeviceRuns.{mine, others_stay_then, spared, summed}
 use Rattle.usb_transaction.proofs.WriteAttempts.{naks_left, SaysOut, StageMoves, ends_heard}
 use Rattle.usb_transaction.proofs.WriteAttempts.{ends_law, expects_still, is_in_read-moves}
 use Rattle.usb_transaction.proofs.WriteAttempts.{law_says, law_waits, moves_twice, says_from}
 use Rattle.usb_transaction.proofs.WriteAttempts.{whole_heard}
-use Rattle.usb_transaction.proofs.Trails.{as_transacted}
 use Rattle.usb_transaction.proofs.LastOutcomes.{sent_last}
 use Rattle.usb_device.specs.declared.answer.Answer.TheVariants as answer
 
@@ -42,34 +39,19 @@ WriteHeard old w bytes Nothing v = WriteAt old w bytes v
 module _ (old : List ℕ) (w : Write) (bytes : List ℕ) (v : State) where
   heard_by : (max : ℕ) (a : Option Answer) → WriteOn old w bytes a v
       → WriteHeard old w bytes (got max a) v
-  heard_by max None h = h
-  heard_by max (Some answer.Ack) h = h
-  heard_by max (Some answer.Nak) h = h
-  heard_by max (Some answer.Stall) h = h
-  heard_by max (Some (answer.Data u b)) h = absurd h
+  heard_by max a h = grind arith
 
   still : (o : Outcome) → WriteHeard old w bytes o v → WriteAt old w bytes v
-  still (Payload given b) h = absurd h
-  still Ack h = ahead h
-  still Nak h = h
-  still Stall h = absurd h
-  still Nothing h = h
+  still o h = grind arith
 
   write_ends : (result : Result (List ℕ) TransFault) (o : Outcome) (outcomes : List Outcome)
       → WriteHeard old w bytes o v → IsEnd heard_when_sent result o outcomes
       → WriteEnds old w bytes result v
-  write_ends (Ok done) Ack outcomes h e = h
-  write_ends (Ok done) o outcomes h e = cc e
-  write_ends (Err Stalled) o outcomes h e = subst (λ x. WriteHeard old w bytes x v) e h
-  write_ends (Err Busy) o outcomes h e = still o h
-  write_ends (Err NoAnswer) o outcomes h e = still o h
-  write_ends (Err (Bus fault)) o outcomes h e = still o h
+  write_ends result o outcomes h e = grind (arith, still)
 
 not_done : (o : Outcome) → o ≢ Ack → (result : Result (List ℕ) TransFault) (outcomes : List Outcome)
     → IsEnd heard_when_sent result o outcomes → (done : List ℕ) → result ≢ Ok done
-not_done Ack n result outcomes e done is = n refl
-not_done o n (Ok bytes) outcomes e done is = cc e
-not_done o n (Err fault) outcomes e done is = cc is
+not_done o n result outcomes e done is = grind arith
 
 module _ (t : Target) (toggle : Toggle) (bytes : List ℕ) where
   abbrev a_write : Attempt
@@ -89,14 +71,7 @@ module _ (t : Target) (toggle : Toggle) (bytes : List ℕ) where
 
   -- it stands where it stood
   unmoved : (s : State) (o : Outcome) → (is_at s t ≡ true → o ≡ Nothing) → OutResult s o s
-  unmoved s o none = record {
-    others = λ away. refl;
-    frame = refl;
-    naks = omega arith;
-    write = λ at old w e p a. subst (λ x. WriteHeard old w bytes x s) (sym (none at)) a;
-    refuses = λ h. (h, refl, λ at e. cc (sym (none at) ∙ e));
-    ends = λ e f. (refl, inl refl, λ at. subst (λ x. SaysOut s x s) (sym (none at)) tt);
-  }
+  unmoved s o none = grind (arith, none)
 
   abbrev Refuses : State → ℕ → Way → Reply → Type 0
   Refuses u max t3 r = ((forgotten r.1).stage ≡ refused) × ((forgotten r.1).taken ≡ u.taken)
@@ -109,17 +84,13 @@ module _ (t : Target) (toggle : Toggle) (bytes : List ℕ) where
 
   refuses_if : (u : State) → u.stage ≡ refused → (max : ℕ) (t3 : Way) (busy : Bool)
       → Refuses u max t3 (if busy then nak_row u else out_row u u.stage toggle bytes)
-  refuses_if u e max t3 true = (e, refl, no_ack max t3 answer.Nak (λ f. cc f))
-  refuses_if u e max t3 false =
-      subst (Refuses u max t3) (sym (ap (λ g. out_row u g toggle bytes) e))
-      (e, refl, no_ack max t3 answer.Stall (λ f. cc f))
+  refuses_if u e max t3 busy = grind (arith, no_ack)
 
   refuses_out : (u : State) → u.stage ≡ refused → (max : ℕ) (t1 t2 t3 : Way)
       → ((out_law u 0 toggle bytes t1 t2 t3).1.stage ≡ refused)
       × ((out_law u 0 toggle bytes t1 t2 t3).1.taken ≡ u.taken)
       × (got max (out_law u 0 toggle bytes t1 t2 t3).0 ≢ Ack)
-  refuses_out u e max whole whole t3 = refuses_if u e max t3 (is_busy u)
-  refuses_out u e max t1 t2 t3 = (e, refl, λ f. cc f)
+  refuses_out u e max t1 t2 t3 = grind (arith, refuses_if)
 
   one_out : (u : State) (t1 t2 t3 : Way) → is_at u t ≡ true
       → OutResult u (got t.max (out_law u 0 toggle bytes t1 t2 t3).0)
@@ -128,9 +99,7 @@ module _ (t : Target) (toggle : Toggle) (bytes : List ℕ) where
     others = mine t u at;
     frame = out_only_write u toggle bytes t1 t2 t3;
     naks = naks_left u toggle bytes t1 t2 t3;
-    write = λ a old w e p so. heard_by old w bytes _ t.max _
-        (subst (λ g. WriteOn old w bytes (out_law u 0 g bytes t1 t2 t3).0
-        (out_law u 0 g bytes t1 t2 t3).1) e (control_write old w bytes u so p t1 t2 t3));
+    write = grind (arith, control_write, heard_by);
     refuses = λ e. let x = refuses_out u e t.max t1 t2 t3 in (x.0, x.1, λ a. x.2);
     ends = λ e f. rw (e, f) (let x = ends_law t.max u t1 t2 t3 in (x.0, x.1, λ a. x.2));
   }
@@ -145,10 +114,7 @@ module _ (t : Target) (toggle : Toggle) (bytes : List ℕ) where
 
   out_says : (x : World) (j : Location) (u v : State) → DidOut a_write toggle bytes x j u v
       → is_at u t ≡ true → OutcomeOfSpec u.spec (heard_when_sent (outcome_in a_write x))
-  out_says x j u v (DidOut.other d e) at = mine t u at d
-  out_says x j u v (DidOut.silent d q o e) at = inl (ap heard_when_sent o)
-  out_says x j u v (DidOut.asked d q y o e) at =
-      rw o (law_says u toggle bytes t.max q y.first y.second y.third)
+  out_says x j u v did at = grind (arith, law_says, mine)
 
   at_after : (s u : State) (o : Outcome) → OutResult s o u → is_at s t ≡ true → is_at u t ≡ true
   at_after s u o x = at_from t s u (ap (λ z. z.registers) x.frame)
@@ -161,8 +127,7 @@ module _ (t : Target) (toggle : Toggle) (bytes : List ℕ) where
     naks = omega (arith, x.naks, y.naks);
     write = λ at old w e p a.
         y.write (at_after s u Nothing x at) old w e p (x.write at old w e p a);
-    refuses = λ h. let f = x.refuses h in let g = y.refuses f.0 in
-        (g.0, g.1 ∙ f.1, λ at. g.2 (at_after s u Nothing x at));
+    refuses = grind (arith, at_after, x.refuses, y.refuses);
     ends = λ e f. let a = x.ends e f in let b = y.ends e f in (
       cc (a.0, b.0),
       moves_twice s u v a.1 b.1,
@@ -206,11 +171,7 @@ module _ (t : Target) (toggle : Toggle) (bytes : List ℕ) where
         frame = x.frame;
         write = λ at old w e p a.
             write_ends old w bytes v result o outcomes (x.write at old w e p a) is;
-        refused = λ h. (
-          (x.refuses h).0,
-          (x.refuses h).1,
-          λ at. not_done o ((x.refuses h).2 at) result outcomes is,
-        );
+        refused = grind (arith, not_done, x.refuses);
         could = so_could;
         naks = x.naks;
       }
@@ -225,27 +186,10 @@ module _ (t : Target) (toggle : Toggle) (bytes : List ℕ) where
             kept = elim y.1 [ inl e ↦ inl e | inr z ↦ inr z.0 ];
             done = λ at b r. subst (λ z. SaysOut s z v) (sent_last o (packed b)
                 (subst (λ q. IsEnd heard_when_sent q o outcomes) r is)) (y.2 at);
-            stalled = λ at h r. subst (λ z. SaysOut s z v)
-                (subst (λ q. IsEnd heard_when_sent q o outcomes) r is) (y.2 at) h;
+            stalled = grind arith;
             could = so_could;
             naks = x.naks;
           }
-
-  pub write_leaves : (result : Result (List ℕ) TransFault) (old new : World) → IsSettled old.roots
-      → Transacted heard_when_sent a_write old result new → new.shared ≡ false
-      → EachWas (WriteOut t toggle bytes result) old new
-  write_leaves result old new settled x single =
-      each_device _ (WriteOut t toggle bytes result) old new (write_out result old new)
-      (over_out t 0 toggle bytes old new settled single heard_when_sent result x)
-
-pub status_leaves : (t : Target) (result : Result (List ℕ) TransFault) (old new : World)
-    → IsSettled old.roots
-    → Transacted heard_when_sent (out_attempt t 0 One []) old result new → new.shared ≡ false
-    → EachWas (ReadStatus t result) old new
-status_leaves t result old new settled x single =
-    each_device _ (ReadStatus t result) old new
-    (λ j s v run. read_status t One [] result old new j s v run refl refl)
-    (over_out t 0 One [] old new settled single heard_when_sent result x)
 
 -- Why it fails
 
@@ -289,36 +233,45 @@ module _ (t : Target) (toggle : Toggle) (bytes : List ℕ) (Is : State → Type 
       rw (z.is, z.gave) (law_waits u toggle bytes t.max x.1 z.first z.second z.third n))
       (omega (arith, few))
 
-pub write_out_why : (t : Target) (toggle : Toggle) (bytes : List ℕ)
-    (result : Result (List ℕ) TransFault) (old new : World) → IsSettled old.roots
-    → NoThreeDamaged old
-    → TransactionDone heard_when_sent (out_attempt t 0 toggle bytes) old result new
-    → new.shared ≡ false → EachWas (WriteOutFailure t bytes result) old new
-write_out_why t toggle bytes result old new settled three e single =
-    each_device _ (WriteOutFailure t bytes result) old new
-    (λ j s v run.
-    let keeps = λ (u : State) (t1 t2 t3 : Way) (h : Expects bytes u).
-    expects_still u toggle bytes h t1 t2 t3 in
-    let heeds = λ (u : State) (h : Expects bytes u). whole_heard u toggle bytes t.max h in
-    record {
-      answered = λ l h. answered t toggle bytes (Expects bytes) keeps heeds result run l h three;
-      waited = λ l h. waited t toggle bytes (Expects bytes) keeps heeds result run l h;
-    })
-    (over_out t 0 toggle bytes old new settled single heard_when_sent result
-    (as_transacted result e))
+-- Each device
 
-pub read_status_why : (t : Target) (result : Result (List ℕ) TransFault) (old new : World)
-    → IsSettled old.roots → NoThreeDamaged old
-    → TransactionDone heard_when_sent (out_attempt t 0 One []) old result new → new.shared ≡ false
-    → EachWas (StatusReadFailure t result) old new
-read_status_why t result old new settled three e single =
-    each_device _ (StatusReadFailure t result) old new
+-- what an OUT of endpoint 0 says of it: what it leaves, and why it failed; also where it is to end
+-- a control read
+pub record ControlOutTold (t : Target) (toggle : Toggle) (bytes : List ℕ)
+    (result : Result (List ℕ) TransFault) (old : World) (j : Location) (s v : State) : Type 0 where
+  pub leaves : WriteOut t toggle bytes result j s v
+  pub read : toggle ≡ One → bytes ≡ [] → ReadStatus t result j s v
+  pub why : NoThreeDamaged old → WriteOutFailure t bytes result j s v
+  pub read_why : NoThreeDamaged old → toggle ≡ One → bytes ≡ [] → StatusReadFailure t result j s v
+
+pub control_out_told : (t : Target) (toggle : Toggle) (bytes : List ℕ)
+    (result : Result (List ℕ) TransFault) (old new : World) → IsSettled old.roots
+    → Transacted heard_when_sent (out_attempt t 0 toggle bytes) old result new → new.shared ≡ false
+    → EachWas (ControlOutTold t toggle bytes result old) old new
+control_out_told t toggle bytes result old new settled x single =
+    each_device old new
     (λ j s v run.
-    let keeps = λ (u : State) (t1 t2 t3 : Way) (h : IsInRead u).
-    is_in_read-moves u (out_law u 0 One [] t1 t2 t3).1 (ends_law t.max u t1 t2 t3).1 h in
-    let heeds = λ (u : State) (h : IsInRead u). ends_heard t.max u h (is_busy u) in
+    let expects = λ (u : State) (t1 t2 t3 : Way) (h : Expects bytes u).
+    expects_still u toggle bytes h t1 t2 t3 in
+    let takes = λ (u : State) (h : Expects bytes u). whole_heard u toggle bytes t.max h in
     record {
-      answered = λ l h. answered t One [] IsInRead keeps heeds result run l h three;
-      waited = λ l h. waited t One [] IsInRead keeps heeds result run l h;
-    })
-    (over_out t 0 One [] old new settled single heard_when_sent result (as_transacted result e))
+      leaves = write_out t toggle bytes result old new j s v run;
+      read = read_status t toggle bytes result old new j s v run;
+      why = λ three. record {
+        answered = λ l h. answered t toggle bytes (Expects bytes) expects takes result run l h
+            three;
+        waited = λ l h. waited t toggle bytes (Expects bytes) expects takes result run l h;
+      };
+      read_why = λ three one none.
+          let stays = λ (u : State) (t1 t2 t3 : Way) (h : IsInRead u).
+          is_in_read-moves u (out_law u 0 toggle bytes t1 t2 t3).1
+          (rw (one, none) (ends_law t.max u t1 t2 t3).1) h in
+          let ends : (u : State) → IsInRead u
+          → heard_when_sent (got t.max (out_law u 0 toggle bytes whole whole whole).0) ≢ Lost =
+          λ u h. rw (one, none) (ends_heard t.max u h (is_busy u)) in
+          record {
+            answered = λ l h. answered t toggle bytes IsInRead stays ends result run l h three;
+            waited = λ l h. waited t toggle bytes IsInRead stays ends result run l h;
+          };
+    }) (over_transaction (out_kind t 0 toggle bytes) old settled heard_when_sent new single result
+    x)

@@ -1,10 +1,10 @@
 -- One device over the attempts of a transaction: what it was, what each attempt did to it, and what
 -- it is.
 use Rattle.std.proofs.lemmas.Bool.Decides.{nat_tests}
-use Rattle.std.proofs.Common.{◌≡◌, ◌≢◌, ◌⊎◌, inl, inr, ◌&&◌, ◌||◌, not, nat_lt, if◌then◌else◌, ℕ}
-use Rattle.std.proofs.Common.{◌+◌, ◌<◌, ◌≤◌, ◌==◌, List, [], ◌∷◌, true, false, Option, None, Some}
-use Rattle.std.proofs.Common.{Result, Ok, Err, refl, sym, subst, ap, ◌∙◌, arith}
-use Rattle.usb_packet.specs.{Toggle, Zero, One, other}
+use Rattle.std.proofs.Common.{◌≡◌, ◌≢◌, ◌⊎◌, inl, inr, nat_lt, ℕ, ◌+◌, ◌<◌, ◌≤◌, ◌==◌, List, []}
+use Rattle.std.proofs.Common.{◌∷◌, true, false, Option, None, Some, Result, Ok, Err, refl, sym}
+use Rattle.std.proofs.Common.{subst, ap, ◌∙◌, arith}
+use Rattle.usb_packet.specs.{Toggle, other}
 use Rattle.usb_device.specs.{Spec, State, Reply, is_busy, Way, in_law, out_law, row_of, Location}
 use Rattle.usb_device.specs.{reach_on, state_on}
 use Rattle.usb_device.specs.Attempt.{whole, broken}
@@ -12,17 +12,17 @@ use Rattle.usb_port.specs.{PortState}
 use Rattle.usb_world.specs.{Attempt, BusFault, Outcome, IsMade, got, World, Made, attempt, after}
 use Rattle.usb_world.specs.{outcome_in, damage_in, Relation, Was, EachWas, DidIn, DidOut}
 use Rattle.usb_world.specs.declared.types.Outcome.TheVariants.{Nak, Stall, Nothing}
-use Rattle.usb_tree.specs.{IsSettled, deep_at, address_of}
+use Rattle.usb_tree.specs.{IsSettled, address_of}
 use Rattle.usb_world.proofs.Interface.{AttemptCut, cut_or_same, each_in, each_out, made_of}
-use Rattle.usb_world.proofs.Interface.{made_unshared, made_whole, unmade}
-use Rattle.usb_tree.proofs.Interface.{decided, neither, false_true}
+use Rattle.usb_world.proofs.Interface.{each_wider, made_unshared, made_whole, unmade}
+use Rattle.usb_tree.proofs.Interface.{neither, false_true}
 use Rattle.usb_transaction.specs.{Target, HeardOutcome, Moved, Lost, TransFault, Stalled, Busy}
-use Rattle.usb_transaction.specs.{CanAnswer, NotReady, Refused, heard_as}
+use Rattle.usb_transaction.specs.{CanAnswer, NotReady, Refused, heard_as, NoAnswer, Bus, polled_as}
+use Rattle.usb_transaction.specs.{NoThreeDamaged, Listens, IsNotOfBus, is_at, AttemptLog, start}
+use Rattle.usb_transaction.specs.{next, waits_with, errors_running, waits_in, IsNoEnd, KeepsTrying}
+use Rattle.usb_transaction.specs.{LastOutcome, BusFailed, Transacted, Polled, packed, in_attempt}
+use Rattle.usb_transaction.specs.{out_attempt}
 use Rattle.usb_transaction.proofs.LastOutcomes.{no_packet, packet_heard, packet_in, packet_of}
-use Rattle.usb_transaction.specs.{NoAnswer, Bus, polled_as, NoThreeDamaged, Listens, IsNotOfBus}
-use Rattle.usb_transaction.specs.{is_at, AttemptLog, start, next, waits_with, errors_running}
-use Rattle.usb_transaction.specs.{waits_in, IsNoEnd, KeepsTrying, LastOutcome, TransactionDone}
-use Rattle.usb_transaction.specs.{BusFailed, Transacted, Polled, packed, in_attempt, out_attempt}
 use Rattle.usb_transaction.proofs.Trails.{LostRun, damaged_more, last_erred, last_waited, lost_more}
 use Rattle.usb_transaction.proofs.Trails.{lost_run_none, run_short, trail_settled}
 
@@ -41,12 +41,27 @@ Any s = Unit {0}
 -- of the device that stood there this is so, too
 pub was_then : {R S : Relation} {w : World} {j : Location} {u v : State} (x : Was R w j u)
     → S j x.before v → Was S w j v
-was_then x so = record { before = x.before; on = x.on; stands = x.stands; so = so }
+was_then x so = grind arith
 
-pub each_device : (R S : Relation) (old new : World)
+pub each_device : {R S : Relation} (old new : World)
     → ((j : Location) (s v : State) → R j s v → S j s v) → EachIf Any R old new → EachWas S old new
-each_device R S old new f x j v on there = let was = x j v on there tt in
+each_device old new f x j v on there = let was = x j v on there tt in
     was_then was (f j was.before v was.so)
+
+-- what a transaction leaves of a device, and why it failed, where no three attempts running are
+-- damaged
+pub record DeviceTold (Leaves Fails : Relation) (old : World) (j : Location) (s v : State) : Type 0
+  where
+    pub leaves : Leaves j s v
+    pub why : NoThreeDamaged old → Fails j s v
+
+pub told_leaves : {Leaves Fails : Relation} (old new : World)
+    → EachWas (DeviceTold Leaves Fails old) old new → EachWas Leaves old new
+told_leaves old new = each_wider _ _ (λ j s v y. y.leaves) old new
+
+pub told_why : {Leaves Fails : Relation} (old new : World) → NoThreeDamaged old
+    → EachWas (DeviceTold Leaves Fails old) old new → EachWas Fails old new
+told_why old new three = each_wider _ _ (λ j s v y. y.why three) old new
 
 -- what is so of it over two spans, one behind the other
 pub each_if-joined : {P : State → Type 0} {R S T : Relation} (old mid new : World)
@@ -121,91 +136,109 @@ Through Did a hear result old new =
 pub of_bus : {A : Type 0} (P : Result A TransFault → Type 0)
     → ((fault : BusFault) → P (Err (Bus fault))) → (result : Result A TransFault) → IsOfBus result
     → P result
-of_bus P f (Err (Bus fault)) gave = f fault
-of_bus P f _ gave = absurd (gave tt)
+of_bus P f result gave = grind arith
 
 pub tells_end : (hear : Outcome → HeardOutcome) (result : Result (List ℕ) TransFault) (o : Outcome)
     (outcomes : List Outcome) → KeepsTrying hear outcomes → LastOutcome hear result o outcomes
     → IsEnd hear result o outcomes
-tells_end hear (Err Busy) o outcomes g t = (last_waited hear o outcomes g t, t)
-tells_end hear (Err NoAnswer) o outcomes g t = (last_erred hear o outcomes t, t)
-tells_end hear (Err (Bus fault)) o outcomes g t = tt
-tells_end hear _ o outcomes g t = t
+tells_end hear result o outcomes g t = grind (arith, last_erred, last_waited)
 
 -- Each device has such a run
 
-module _ (Did : Deeds) (a : Attempt) (P : State → Type 0)
-    (back : (w : World) (j : Location) (u v : State) → Did w j u v → P v → P u)
-    (does : (w : World) → IsMade a w → (after (attempt a) w).shared ≡ false
-    → EachIf P (Did w) w (after (attempt a) w)) (old : World) (settled : IsSettled old.roots)
-  where
-    pub over_trail : {new : World} {outcomes : List Outcome} → AttemptLog a old outcomes new
-        → new.shared ≡ false → EachIf P (λ j s v. Run Did a old j s outcomes new v) old new
-    over_trail start single =
-        λ j v on there h. record { before = v; on = on; stands = there; so = none }
-    over_trail (next w t made) single =
-        each_if-joined old w (after (attempt a) w) (back w) (λ j s u v r d. more w u v t made r d)
-        (over_trail t (made_unshared a w made single).before)
-        (does w (made_of a w (trail_settled t settled) made) single)
+-- a kind of attempt: what it does to each device of which this is so after it
+pub record Kind (a : Attempt) : Type 1 where
+  pub Did : Deeds
+  pub Of : State → Type 0
+  pub back : (w : World) (j : Location) (u v : State) → Did w j u v → Of v → Of u
+  pub does : (w : World) → IsMade a w → (after (attempt a) w).shared ≡ false
+      → EachIf Of (Did w) w (after (attempt a) w)
 
-    pub over_last : (hear : Outcome → HeardOutcome) (Last : Outcome → List Outcome → Type 0)
-        (GaveUp : Type 0) {new : World} {o : Outcome} {outcomes : List Outcome} → new.shared ≡ false
-        → AttemptLog a old (o ∷ outcomes) new → KeepsTrying hear outcomes → Last o outcomes
-        → EachIf P (RunThrough Did a hear Last GaveUp old new) old new
-    over_last hear Last GaveUp single (next w t made) onward is =
-        each_if-joined old w (after (attempt a) w) (back w)
-        (λ j s u v r d. last w u t r onward d is (λ n. (made, refl)))
-        (over_trail t (made_unshared a w made single).before)
-        (does w (made_of a w (trail_settled t settled) made) single)
+module _ {a : Attempt} (k : Kind a) (old : World) (settled : IsSettled old.roots) where
+  abbrev RunOver : (Outcome → HeardOutcome) → (Outcome → List Outcome → Type 0) → Type 0 → World
+      → Relation
+  RunOver hear Last GaveUp new = RunThrough k.Did a hear Last GaveUp old new
 
-    module _ (hear : Outcome → HeardOutcome) (new : World) (single : new.shared ≡ false) where
-      -- the attempt that the bus gave up was made all the same, or not
-      pub over_cut : (Last : Outcome → List Outcome → Type 0) (GaveUp : Type 0) (fault : BusFault)
-          → GaveUp → ((o : Outcome) (outcomes : List Outcome) → Last o outcomes)
-          → BusFailed hear a old fault new
-          → EachIf P (RunThrough Did a hear Last GaveUp old new) old new
-      over_cut Last GaveUp fault gave is c =
-          pick (cut_or_same a c.mid fault new c.fits (trail_settled c.trail settled) c.refused
-          c.fails single)
-        where
-          pick : AttemptCut a c.mid new → EachIf P (RunThrough Did a hear Last GaveUp old new) old
-              new
-          pick (unmade u each) =
-              each_if-joined old c.mid new (λ j u v e. subst P e)
-              (λ j s u v r e. stopped gave (subst (Run Did a old j s c.outcomes c.mid) (sym e) r)
-              c.onward) (over_trail c.trail u) (λ j v on there h. each j v on there)
-          pick (made_whole u m x r) =
-              each_if-joined old c.mid new (back c.mid)
-              (λ j s u v run d. last c.mid u c.trail run c.onward d
-              (is (outcome_in a c.mid) c.outcomes) (λ n. absurd (n gave))) (over_trail c.trail u)
-              (λ j v on there. does c.mid m x j v (ap (λ k. reach_on k j) r ∙ on)
-              (ap (λ k. state_on k j) r ∙ there))
+  pub over_trail : {new : World} {outcomes : List Outcome} → AttemptLog a old outcomes new
+      → new.shared ≡ false → EachIf k.Of (λ j s v. Run k.Did a old j s outcomes new v) old new
+  over_trail start single =
+      λ j v on there h. record { before = v; on = on; stands = there; so = none }
+  over_trail (next w t made) single =
+      each_if-joined old w (after (attempt a) w) (k.back w) (λ j s u v r d. more w u v t made r d)
+      (over_trail t (made_unshared a w made single).before)
+      (k.does w (made_of a w (trail_settled t settled) made) single)
 
-      pub over_end : (result : Result (List ℕ) TransFault) → TransactionDone hear a old result new
-          → EachIf P (Through Did a hear result old new) old new
-      over_end result e = over_last hear (IsEnd hear result) (IsOfBus result) single e.trail
-          e.onward
-          (tells_end hear result e.last e.outcomes e.onward e.tells)
+  pub over_last : (hear : Outcome → HeardOutcome) (Last : Outcome → List Outcome → Type 0)
+      (GaveUp : Type 0) {new : World} {o : Outcome} {outcomes : List Outcome} → new.shared ≡ false
+      → AttemptLog a old (o ∷ outcomes) new → KeepsTrying hear outcomes → Last o outcomes
+      → EachIf k.Of (RunOver hear Last GaveUp new) old new
+  over_last hear Last GaveUp single (next w t made) onward is =
+      each_if-joined old w (after (attempt a) w) (k.back w)
+      (λ j s u v r d. last w u t r onward d is (λ n. (made, refl)))
+      (over_trail t (made_unshared a w made single).before)
+      (k.does w (made_of a w (trail_settled t settled) made) single)
 
-      pub over_transaction : (result : Result (List ℕ) TransFault)
-          → Transacted hear a old result new → EachIf P (Through Did a hear result old new) old new
-      over_transaction (Err (Bus fault)) x =
-          over_cut (IsEnd hear (Err (Bus fault))) (IsOfBus {A = List ℕ} (Err (Bus fault))) fault
-          (λ n. n) (λ o outcomes. tt) x
-      over_transaction result x = over_end result x
+  module _ (hear : Outcome → HeardOutcome) (new : World) (single : new.shared ≡ false) where
+    -- the attempt that the bus gave up was made all the same, or not
+    over_cut : (Last : Outcome → List Outcome → Type 0) (GaveUp : Type 0) (fault : BusFault)
+        → GaveUp → ((o : Outcome) (outcomes : List Outcome) → Last o outcomes)
+        → BusFailed hear a old fault new → EachIf k.Of (RunOver hear Last GaveUp new) old new
+    over_cut Last GaveUp fault gave is c =
+        pick (cut_or_same a c.mid fault new c.fits (trail_settled c.trail settled) c.refused c.fails
+        single)
+      where
+        pick : AttemptCut a c.mid new → EachIf k.Of (RunOver hear Last GaveUp new) old new
+        pick (unmade u each) =
+            each_if-joined old c.mid new (λ j u v e. subst k.Of e)
+            (λ j s u v r e. stopped gave (subst (Run k.Did a old j s c.outcomes c.mid) (sym e) r)
+            c.onward) (over_trail c.trail u) (λ j v on there h. each j v on there)
+        pick (made_whole u m x r) =
+            each_if-joined old c.mid new (k.back c.mid)
+            (λ j s u v run d. last c.mid u c.trail run c.onward d
+            (is (outcome_in a c.mid) c.outcomes) (λ n. absurd (n gave))) (over_trail c.trail u)
+            (λ j v on there. k.does c.mid m x j v (ap (λ k. reach_on k j) r ∙ on)
+            (ap (λ k. state_on k j) r ∙ there))
 
-    pub over_poll : (toggle : Toggle) (new : World) → new.shared ≡ false
-        → (result : Result (Option (List ℕ)) TransFault) → Polled toggle a old result new
-        → EachIf P (RunThrough Did a (polled_as toggle) (IsPollEnd toggle result) (IsOfBus result)
-        old
-        new) old new
-    over_poll toggle new single (Ok None) x =
-        over_last (polled_as toggle) (IsPollEnd toggle (Ok None))
-        (IsOfBus {A = Option (List ℕ)} (Ok None)) single x.trail x.onward refl
-    over_poll toggle new single (Ok (Some bytes)) x =
-        over_transaction (polled_as toggle) new single (Ok bytes) x
-    over_poll toggle new single (Err fault) x =
-        over_transaction (polled_as toggle) new single (Err fault) x
+    pub over_transaction : (result : Result (List ℕ) TransFault) → Transacted hear a old result new
+        → EachIf k.Of (Through k.Did a hear result old new) old new
+    over_transaction (Err (Bus fault)) x =
+        over_cut (IsEnd hear (Err (Bus fault))) (IsOfBus {A = List ℕ} (Err (Bus fault))) fault
+        (λ n. n) (λ o outcomes. tt) x
+    over_transaction result x =
+        over_last hear (IsEnd hear result) (IsOfBus result) single x.trail x.onward
+        (tells_end hear result x.last x.outcomes x.onward x.tells)
+
+  pub over_poll : (toggle : Toggle) (new : World) → new.shared ≡ false
+      → (result : Result (Option (List ℕ)) TransFault) → Polled toggle a old result new
+      → EachIf k.Of (RunOver (polled_as toggle) (IsPollEnd toggle result) (IsOfBus result) new) old
+      new
+  over_poll toggle new single (Ok None) x =
+      over_last (polled_as toggle) (IsPollEnd toggle (Ok None))
+      (IsOfBus {A = Option (List ℕ)} (Ok None)) single x.trail x.onward refl
+  over_poll toggle new single (Ok (Some bytes)) x =
+      over_transaction (polled_as toggle) new single (Ok bytes) x
+  over_poll toggle new single (Err fault) x =
+      over_transaction (polled_as toggle) new single (Err fault) x
+
+-- IN, and OUT
+
+abbrev pub in_kind : (t : Target) (ep : ℕ) → Kind (in_attempt t ep)
+in_kind t ep = record {
+  Did = DidIn (in_attempt t ep);
+  Of = Any;
+  back = λ w j u v d h. tt;
+  does = λ w made u j v on there h. each_in (in_attempt t ep) w made
+      (record { kind = refl; payload = refl }) u j v on there;
+}
+
+abbrev pub out_kind : (t : Target) (ep : ℕ) (toggle : Toggle) (bytes : List ℕ)
+    → Kind (out_attempt t ep toggle bytes)
+out_kind t ep toggle bytes = record {
+  Did = DidOut (out_attempt t ep toggle bytes) toggle bytes;
+  Of = Any;
+  back = λ w j u v d h. tt;
+  does = λ w made u j v on there h. each_out (out_attempt t ep toggle bytes) w toggle bytes made
+      (record { kind = refl; payload = refl }) u j v on there;
+}
 
 -- What is so of one device after the attempts that went on, and at the end
 
@@ -269,24 +302,16 @@ at_from t s u e h = ap (λ x. x.address == t.addr) e ∙ h
 -- one that is there had the address before
 pub had_address : (t : Target) (s v : State) → (is_at s t ≡ false → v ≡ s) → is_at v t ≡ true
     → is_at s t ≡ true
-had_address t s v f h = elim (decided (is_at s t)) [
-  | inl y ↦ y
-  | inr y ↦ ap (λ x. is_at x t) (sym (f y)) ∙ h
-]
+had_address t s v f h = grind arith
 
 -- it goes on listening where its description and its address stay
 pub listens_at : (t : Target) (place : Location) (s v : State) → v.spec ≡ s.spec
     → address_of v ≡ address_of s → Listens t place s → Listens t place v
-listens_at t place s v e f l = record {
-  at = ap (λ n. n == t.addr) f ∙ l.at;
-  loud = ap (λ x. x.silent) e ∙ l.loud;
-  hears = ap (λ x. if t.low then x.low && (not (deep_at false place.rest) || t.pre) else not x.low)
-      e ∙ l.hears;
-}
+listens_at t place s v e f l = grind (arith, l.at, l.loud)
 
 pub listens_on : (t : Target) (place : Location) (s v : State) → v.spec ≡ s.spec
     → v.registers ≡ s.registers → Listens t place s → Listens t place v
-listens_on t place s v e f l = listens_at t place s v e (ap (λ x. x.address) f) l
+listens_on t place s v e f l = grind (arith, listens_at)
 
 -- one that is busy, and not by its description, has a NAK left to give
 pub positive : (s : State) → is_busy s ≡ true → s.spec.busy ≡ false → 0 < s.naks
@@ -361,9 +386,7 @@ asked_in t ep w j u v (DidIn.asked d q b below stood x o e) at = (
 
 pub in_others : (t : Target) (ep : ℕ) (w : World) (j : Location) (u v : State)
     → DidIn (in_attempt t ep) w j u v → is_at u t ≡ false → v ≡ u
-in_others t ep w j u v (DidIn.other d e) away = e
-in_others t ep w j u v (DidIn.silent d q o e) away = e
-in_others t ep w j u v (DidIn.asked d q b below stood x o e) away = false_true (sym away ∙ d)
+in_others t ep w j u v did away = grind (arith, false_true)
 
 pub delivered_out : (t : Target) (ep : ℕ) (toggle : Toggle) (bytes : List ℕ) (w : World)
     (j : Location) (u v : State) → DidOut (out_attempt t ep toggle bytes) toggle bytes w j u v
@@ -392,62 +415,7 @@ delivered_out t ep toggle bytes w j u v (DidOut.asked d q x o e) at =
 pub out_others : (t : Target) (ep : ℕ) (toggle : Toggle) (bytes : List ℕ) (w : World) (j : Location)
     (u v : State) → DidOut (out_attempt t ep toggle bytes) toggle bytes w j u v
     → is_at u t ≡ false → v ≡ u
-out_others t ep toggle bytes w j u v (DidOut.other d e) away = e
-out_others t ep toggle bytes w j u v (DidOut.silent d q o e) away = e
-out_others t ep toggle bytes w j u v (DidOut.asked d q x o e) away = false_true (sym away ∙ d)
-
--- each device over a transaction of IN, of OUT, over a poll, and over attempts of IN or OUT
-
-module _ (t : Target) (ep : ℕ) where
-  abbrev a_in : Attempt
-  a_in = in_attempt t ep
-
-  pub does_in : (P : State → Type 0) (w : World) → IsMade a_in w
-      → (after (attempt a_in) w).shared ≡ false
-      → EachIf P (DidIn a_in w) w (after (attempt a_in) w)
-  does_in P w made u j v on there h =
-      each_in a_in w made (record { kind = refl; payload = refl }) u j v on there
-
-  module _ (old new : World) (settled : IsSettled old.roots) (single : new.shared ≡ false) where
-    pub over_in : (hear : Outcome → HeardOutcome) (result : Result (List ℕ) TransFault)
-        → Transacted hear a_in old result new
-        → EachIf Any (Through (DidIn a_in) a_in hear result old new) old new
-    over_in hear = over_transaction (DidIn a_in) a_in Any (λ w j u v d h. tt) (does_in Any) old
-        settled hear new single
-
-    pub over_polled : (toggle : Toggle) (result : Result (Option (List ℕ)) TransFault)
-        → Polled toggle a_in old result new
-        → EachIf Any (RunThrough (DidIn a_in) a_in (polled_as toggle) (IsPollEnd toggle result)
-        (IsOfBus result) old new) old new
-    over_polled toggle = over_poll (DidIn a_in) a_in Any (λ w j u v d h. tt) (does_in Any) old
-        settled toggle new single
-
-    pub over_in_trail : {outcomes : List Outcome} → AttemptLog a_in old outcomes new
-        → EachIf Any (λ j s v. Run (DidIn a_in) a_in old j s outcomes new v) old new
-    over_in_trail x = over_trail (DidIn a_in) a_in Any (λ w j u v d h. tt) (does_in Any) old settled
-        x single
-
-module _ (t : Target) (ep : ℕ) (toggle : Toggle) (bytes : List ℕ) where
-  abbrev a_out : Attempt
-  a_out = out_attempt t ep toggle bytes
-
-  pub does_out : (P : State → Type 0) (w : World) → IsMade a_out w
-      → (after (attempt a_out) w).shared ≡ false
-      → EachIf P (DidOut a_out toggle bytes w) w (after (attempt a_out) w)
-  does_out P w made u j v on there h = each_out a_out w toggle bytes made
-      (record { kind = refl; payload = refl }) u j v on there
-
-  module _ (old new : World) (settled : IsSettled old.roots) (single : new.shared ≡ false) where
-    pub over_out : (hear : Outcome → HeardOutcome) (result : Result (List ℕ) TransFault)
-        → Transacted hear a_out old result new
-        → EachIf Any (Through (DidOut a_out toggle bytes) a_out hear result old new) old new
-    over_out hear = over_transaction (DidOut a_out toggle bytes) a_out Any (λ w j u v d h. tt)
-        (does_out Any) old settled hear new single
-
-    pub over_out_trail : {outcomes : List Outcome} → AttemptLog a_out old outcomes new
-        → EachIf Any (λ j s v. Run (DidOut a_out toggle bytes) a_out old j s outcomes new v) old new
-    over_out_trail x = over_trail (DidOut a_out toggle bytes) a_out Any (λ w j u v d h. tt)
-        (does_out Any) old settled x single
+out_others t ep toggle bytes w j u v did away = grind (arith, false_true)
 
 pub one_wait : (h : HeardOutcome) (n : ℕ) → waits_with h n ≤ n + 1
 one_wait h n = grind arith
@@ -458,10 +426,7 @@ pub record Turns (awaited given after : Toggle) (h : HeardOutcome) (Damaged : Ty
   pub behind : given ≡ other awaited → (after ≡ awaited) ⊎ ((after ≡ other awaited) × Damaged)
 
 either : (t awaited : Toggle) → (t ≡ awaited) ⊎ (t ≡ other awaited)
-either Zero Zero = inl refl
-either Zero One = inr refl
-either One Zero = inr refl
-either One One = inl refl
+either t awaited = grind arith
 
 -- it gives the awaited toggle, and there were few waits; or it gives the other one, and at least as
 -- many attempts running were damaged as there were waits
@@ -503,9 +468,7 @@ OutcomeOfSpec spec h = (h ≡ Lost) ⊎ ((spec.silent ≡ false) × ((h ≡ NotR
 
 says_free : (spec : Spec) (h : HeardOutcome) → OutcomeOfSpec spec h → h ≢ Lost → h ≢ NotReady
     → (spec.silent ≡ false) × (spec.busy ≡ false)
-says_free spec h (inl e) some ready = absurd (some e)
-says_free spec h (inr x) some ready =
-    elim x.1 [ inl e ↦ absurd (ready e) | inr calm ↦ (x.0, calm) ]
+says_free spec h says some ready = grind arith
 
 -- what an answer says of its description; the first wait was heard
 abbrev Waited : Spec → ℕ → Type 0
@@ -513,8 +476,7 @@ Waited spec n = (n ≡ 0) ⊎ (spec.silent ≡ false)
 
 one_waited : (spec : Spec) (h : HeardOutcome) (n : ℕ) → OutcomeOfSpec spec h → Waited spec n
     → Waited spec (waits_with h n)
-one_waited spec h n (inl e) waits = rw e waits
-one_waited spec h n (inr x) waits = inr x.0
+one_waited spec h n says waits = grind arith
 
 could_answer : {A : Type 0} (Done : A → Outcome → Type 0) (hear : Outcome → HeardOutcome)
     (spec : Spec) → hear Stall ≡ Refused
@@ -522,14 +484,7 @@ could_answer : {A : Type 0} (Done : A → Outcome → Type 0) (hear : Outcome �
     → (r : Result A TransFault) (o : Outcome) (outcomes : List Outcome)
     → OutcomeOfSpec spec (hear o) → Waited spec (waits_in hear (o ∷ outcomes))
     → End Done hear r o outcomes → CanAnswer spec r
-could_answer Done hear spec refuses done (Ok x) o outcomes says waits e =
-    says_free spec (hear o) says (done x o e).0 (done x o e).1
-could_answer Done hear spec refuses done (Err Stalled) o outcomes says waits e =
-    let same = ap hear e ∙ refuses in
-    says_free spec (hear o) says (λ f. cc (sym same ∙ f)) (λ f. cc (sym same ∙ f))
-could_answer Done hear spec refuses done (Err Busy) o outcomes says waits e =
-    elim waits [ inl unwaited ↦ absurd (omega (arith, unwaited, e.1)) | inr loud ↦ loud ]
-could_answer Done hear spec refuses done r o outcomes says waits e = tt
+could_answer Done hear spec refuses done r o outcomes says waits e = grind (arith, says_free)
 
 module _ {A : Type 0} (Done : A → Outcome → Type 0) (result : Result A TransFault) {Did : Deeds}
     {a : Attempt} {hear : Outcome → HeardOutcome} {old new : World} {j : Location} {s v : State}
@@ -653,7 +608,4 @@ result_of got P F some nil cut (Err (Bus fault)) c e h = cut fault c h
 pub brought : (awaited : Toggle) (result : Result (List ℕ) TransFault) (o : Outcome)
     (outcomes : List Outcome) → IsEnd (heard_as awaited) result o outcomes → IsNotOfBus result
     → packet_heard (heard_as awaited o) ≡ packet_in result
-brought awaited (Ok bytes) o outcomes e n = ap packet_heard e
-brought awaited (Err Stalled) o outcomes e n = ap (λ x. packet_heard (heard_as awaited x)) e
-brought awaited (Err (Bus fault)) o outcomes e n = absurd n
-brought awaited (Err fault) o outcomes e n = no_packet (heard_as awaited o) e.0
+brought awaited result o outcomes e n = grind (arith, no_packet)

@@ -39,8 +39,7 @@ flips_even (suc (suc n)) t e = other_twice (flips n t) ∙ flips_even n t (omega
 
 pub flips_odd : (n : ℕ) (t : Toggle) → n % 2 ≢ 0 → flips n t ≡ other t
 unfolding flips
-flips_odd zero t e = absurd (omega (arith, e))
-flips_odd (suc n) t e = ap other (flips_even n t (omega (arith, e)))
+flips_odd n t e = grind (arith, flips_even)
 
 pub flips_more : (n : ℕ) (first toggle next : Toggle) → toggle ≡ flips n first → next ≡ other toggle
     → next ≡ flips (n + 1) first
@@ -123,35 +122,34 @@ pub in_is : (t : Target) (ep : ℕ) (to : Destination) → to.address ≡ t.addr
 in_is t ep to a b c d e = rw (a, b, c, d, e) refl
 
 pub in_fits : (t : Target) (ep : ℕ) → IsTarget t → ep < 16 → IsAttempt (in_attempt t ep)
-in_fits t ep i e = record {
-  addr_fits = i.addr_fits;
-  ep_fits = e;
-  max_least = i.max_least;
-  max_most = i.max_most;
-  pre_low = i.pre_low;
-  payload_sent = refl;
-  payload_fits = tt;
-}
+in_fits t ep i e = grind arith
 
 -- one more packet has room
 pub row_room : (moved most max room size : ℕ) → moved < most → most ≤ 64 → max ≤ 64
     → room ≡ moved * max → size ≤ max → room + size ≤ 4096
-row_room moved most max room size less few fits is short =
-    let one : suc moved * max ≤ 64 * max = mul-le-mul_right max (omega (arith, less, few)) in
-    let more : suc moved * max ≡ moved * max + max = omega arith in
-    omega (arith, one, more, fits, is, short)
+row_room moved most max room size less few fits is short = grind (arith, mul-le-mul_right)
 
 -- where it did not end whole, it has fewer than all
 pub few_answered : (moved most : ℕ) (end : RowEnd) (o : Outcome) → end ≡ Answered o
     → RowCounts moved most end → moved < most
 few_answered moved most end o is counts = rw is at counts
 
-module _ (t : Target) (ep : ℕ) (to : Destination) (is : in_packet to ≡ in_attempt t ep)
-    (fits : IsAttempt (in_attempt t ep)) (first : Toggle) {old : World}
-    {before : Option (List ℕ)} (settled : IsSettled old.roots) {most : ℕ} {done : RowDone}
-    {got : List ℕ} {now : World} {text : Option (List ℕ)} {toggle : Toggle}
-    (turned : toggle ≡ flips done.moved first)
-    (m : InsMade to first most old before done got now text) where
+pub record InsBegun (t : Target) (ep : ℕ) (first : Toggle) (most : ℕ) (old : World)
+    (before : Option (List ℕ)) (done : RowDone) (got : List ℕ) (now : World)
+    (text : Option (List ℕ)) (toggle : Toggle) : Type 0 where
+  pub to : Destination
+  pub is : in_packet to ≡ in_attempt t ep
+  pub fits : IsAttempt (in_attempt t ep)
+  pub settled : IsSettled old.roots
+  pub turned : toggle ≡ flips done.moved first
+  pub made : InsMade to first most old before done got now text
+
+module _ {t : Target} {ep : ℕ} {first : Toggle} {most : ℕ} {old : World}
+    {before : Option (List ℕ)} {done : RowDone} {got : List ℕ} {now : World}
+    {text : Option (List ℕ)} {toggle : Toggle}
+    (b : InsBegun t ep first most old before done got now text toggle) where
+  open b use {to, is, fits, settled, turned, made as m}
+
   abbrev Ends : RowEnd → Type 0
   Ends end = RowEnds (done.moved ≡ most) (done.moved < most) (in_packet to)
       (λ outcome. is_full to.max (flips done.moved first) outcome ≡ false) end m.mid m.between now
@@ -163,15 +161,7 @@ module _ (t : Target) (ep : ℕ) (to : Destination) (is : in_packet to ≡ in_at
   row_lost : {next : Toggle} {new : World} (fault : TransFault) → done.moved < most
       → AsksIn t ep (flips done.moved first) m.mid (Err fault) new
       → next ≡ flips done.moved first → RowLost t ep first most old fault next new
-  row_lost fault few x same = record {
-    full = done.moved;
-    few = few;
-    got = got;
-    mid = m.mid;
-    before = so_far.asked;
-    lost = x;
-    turned = same;
-  }
+  row_lost fault few x same = grind (arith, so_far)
 
   pub ins_whole : done.end ≡ Whole → 1 ≤ most → RowCame t ep first most old done.moved got toggle now
       × StepRun (transaction_bound * done.moved) old before now text
@@ -206,8 +196,7 @@ module _ (t : Target) (ep : ℕ) (to : Destination) (is : in_packet to ≡ in_at
 
     answered_says : StepRun transaction_bound m.mid m.between new written
         × AsksIn t ep (flips done.moved first) m.mid result new
-    answered_says = let x = says m.mid m.between so_far.settled (rw is at answered_ends.2) in
-        (x.0, subst (λ z. AsksIn t ep z m.mid result new) turned x.1)
+    answered_says = grind (arith, answered_ends, so_far)
 
     answered_went : {n : ℕ} → done.moved + transaction_bound ≤ n → StepRun n old before new written
     answered_went {n} le = went_wider (done.moved + transaction_bound) n
@@ -311,24 +300,27 @@ out_is t ep to a b c d e toggle bytes = rw (a, b, c, d, e) refl
 
 pub out_fits : (t : Target) (ep : ℕ) → IsTarget t → ep < 16 → (toggle : Toggle) (bytes : List ℕ)
     → length bytes ≤ t.max → IsAttempt (out_attempt t ep toggle bytes)
-out_fits t ep i e toggle bytes short = record {
-  addr_fits = i.addr_fits;
-  ep_fits = e;
-  max_least = i.max_least;
-  max_most = i.max_most;
-  pre_low = i.pre_low;
-  payload_sent = refl;
-  payload_fits = short;
-}
+out_fits t ep i e toggle bytes short = grind arith
 
-module _ (t : Target) (ep : ℕ) (to : Destination) (max : to.max ≡ t.max)
-    (is : (toggle : Toggle) (bytes : List ℕ) → out_packet to toggle bytes ≡ out_attempt t ep toggle bytes)
-    (fits : (toggle : Toggle) (bytes : List ℕ) → length bytes ≤ t.max
-    → IsAttempt (out_attempt t ep toggle bytes)) (first : Toggle) {old : World}
-    {before : Option (List ℕ)} (settled : IsSettled old.roots) {total : List ℕ} {done : RowDone}
-    {now : World} {text : Option (List ℕ)} {toggle : Toggle}
-    (turned : toggle ≡ flips done.moved first)
-    (m : OutsMade to first total old before done now text) where
+pub record OutsBegun (t : Target) (ep : ℕ) (first : Toggle) (total : List ℕ) (old : World)
+    (before : Option (List ℕ)) (done : RowDone) (now : World) (text : Option (List ℕ))
+    (toggle : Toggle) : Type 0 where
+  pub to : Destination
+  pub max : to.max ≡ t.max
+  pub is : (toggle : Toggle) (bytes : List ℕ) → out_packet to toggle bytes
+      ≡ out_attempt t ep toggle bytes
+  pub fits : (toggle : Toggle) (bytes : List ℕ) → length bytes ≤ t.max
+      → IsAttempt (out_attempt t ep toggle bytes)
+  pub least : 1 ≤ t.max
+  pub settled : IsSettled old.roots
+  pub turned : toggle ≡ flips done.moved first
+  pub made : OutsMade to first total old before done now text
+
+module _ {t : Target} {ep : ℕ} {first : Toggle} {total : List ℕ} {old : World}
+    {before : Option (List ℕ)} {done : RowDone} {now : World} {text : Option (List ℕ)}
+    {toggle : Toggle} (b : OutsBegun t ep first total old before done now text toggle) where
+  open b use {to, max, is, fits, least, settled, turned, made as m}
+
   abbrev OutEnds : RowEnd → Type 0
   OutEnds end = RowEnds (m.rest ≡ []) (0 < length m.rest)
       (out_packet to (flips done.moved first) (take to.max m.rest)) (λ outcome. outcome ≢ Ack) end
@@ -365,16 +357,7 @@ module _ (t : Target) (ep : ℕ) (to : Destination) (max : to.max ≡ t.max)
 
   pub outs_whole : done.end ≡ Whole → 0 < length total → RowGone t ep first total old done.moved toggle now
       × StepRun (transaction_bound * done.moved) old before now text
-  outs_whole end some =
-      let e : OutEnds Whole = subst OutEnds end m.ends in
-      let all : m.sent ≡ total =
-      sym (m.split ∙ ap (λ z. m.sent ++ z) e.0 ∙ append-nil m.sent) in
-      let taken = subst (λ z. AllTaken to first old before done.moved z m.mid m.between) all m.taken
-      in (
-        rw e.1 (row_all_gone t ep to max is fits first settled taken some turned),
-        went_wider done.moved (transaction_bound * done.moved) (rw (e.1, e.2) so_sent.went)
-            (omega arith),
-      )
+  outs_whole end some = grind (arith, append-nil, row_all_gone, so_sent, went_wider)
 
   -- the packet that did not go at once
   pub outs_packet : {packet : List ℕ} → 0 < length m.rest
@@ -388,24 +371,19 @@ module _ (t : Target) (ep : ℕ) (to : Destination) (max : to.max ≡ t.max)
       ∙ drop-append-add m.sent m.rest 0 in
       front ∙ ap (λ l. take t.max l) left
 
-  outs_few : 0 < length m.rest → 1 ≤ t.max → done.moved < div_ceil (length total) t.max
-  outs_few some least =
-      let size : length m.sent ≡ done.moved * t.max =
-      m.full some ∙ ap (λ k. done.moved * k) max in
-      let c = div_ceil_times (length total) t.max least in
-      lt_of_mul-lt-mul_right t.max
-      (omega (arith, c, size, some, ap length m.split, length-append m.sent m.rest))
+  outs_few : 0 < length m.rest → done.moved < div_ceil (length total) t.max
+  outs_few some = grind (arith, div_ceil_times, length-append, lt_of_mul-lt-mul_right)
 
-  pub outs_cut : {fault : BusFault} → 1 ≤ t.max → done.end ≡ Faulted fault
+  pub outs_cut : {fault : BusFault} → done.end ≡ Faulted fault
       → RowKept t ep first total old (Bus fault) toggle now
       × StepRun (transaction_bound * div_ceil (length total) t.max) old before now text
-  outs_cut {fault} least end =
+  outs_cut {fault} end =
       let e : OutEnds (Faulted fault) = subst OutEnds end m.ends in
       let packet = take t.max m.rest in
       let short : length packet ≤ t.max = omega (arith, length-take t.max m.rest) in
       let fit = fits (flips done.moved first) packet short in
       let made = subst (λ a. Attempts a m.mid m.between (Err fault) now text) out_next e.1 in
-      let few = outs_few e.0 least in
+      let few = outs_few e.0 in
       let x = sends_out t ep (flips done.moved first) packet m.mid now so_sent.settled
       (Err (Bus fault))
       (cut_at_once fit made) in (
@@ -426,13 +404,7 @@ module _ (t : Target) (ep : ℕ) (to : Destination) (max : to.max ≡ t.max)
       outs_ends = subst OutEnds end m.ends
 
       outs_made : Attempts (out_attempt t ep toggle packet) m.mid m.between (Ok o) now text
-      outs_made =
-          let P : Attempt → Type 0 = λ a. Attempts a m.mid m.between (Ok o) now text in
-          let made : P (out_attempt t ep (flips done.moved first) (take t.max m.rest)) =
-          subst P out_next outs_ends.2 in
-          let due : P (out_attempt t ep toggle (take t.max m.rest)) =
-          subst (λ z. P (out_attempt t ep z (take t.max m.rest))) (sym turned) made in
-          subst (λ z. P (out_attempt t ep toggle z)) (sym (outs_packet outs_ends.0 front)) due
+      outs_made = grind (arith, out_next, outs_ends, outs_packet)
 
       outs_say : StepRun transaction_bound m.mid m.between new written
           × SendsOut t ep (flips done.moved first) (take t.max m.rest) m.mid result new
@@ -472,7 +444,7 @@ module _ (t : Target) (ep : ℕ) (to : Destination) (max : to.max ≡ t.max)
         outs_more end front says (omega arith),
       )
 
-  pub outs_kept : 1 ≤ t.max → {o : Outcome} → done.end ≡ Answered o → {packet : List ℕ}
+  pub outs_kept : {o : Outcome} → done.end ≡ Answered o → {packet : List ℕ}
       → packet ≡ take t.max (drop (done.moved * t.max) total) → {fault : TransFault} {new : World}
       {written : Option (List ℕ)} {next : Toggle}
       → AfterFirst (out_attempt t ep toggle packet) o now text
@@ -480,9 +452,9 @@ module _ (t : Target) (ep : ℕ) (to : Destination) (max : to.max ≡ t.max)
       × SendsOut t ep toggle packet w (Err fault) new) → next ≡ toggle
       → RowKept t ep first total old fault next new
       × StepRun (transaction_bound * div_ceil (length total) t.max) old before new written
-  outs_kept least end front {fault} says same =
+  outs_kept end front {fault} says same =
       let e = outs_ends end front says in
       let x = outs_say end front says in (
         row_kept fault e.0 x.1 (same ∙ turned),
-        outs_more end front says (omega (arith, outs_few e.0 least)),
+        outs_more end front says (omega (arith, outs_few e.0)),
       )

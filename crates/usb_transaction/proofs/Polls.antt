@@ -1,17 +1,16 @@
 -- A poll of a hub's status endpoint (11.12.3): what it leaves of each device, and why it fails.
-use Rattle.std.proofs.Common.{◌≡◌, ◌≢◌, ◌≤◌, ◌⊎◌, inl, inr, ℕ, ◌/◌, ◌%◌, ◌==◌, nat_le}
-use Rattle.std.proofs.Common.{nat_lt, ◌&&◌}
-use Rattle.std.proofs.Common.{if◌then◌else◌, Bool, true, false, List, [], ◌∷◌, length, Option, None}
-use Rattle.std.proofs.Common.{Some, Result, Ok, Err, refl, sym, subst, ap, ◌∙◌, arith}
+use Rattle.std.proofs.Common.{◌≡◌, ◌≢◌, ◌≤◌, ◌⊎◌, inl, inr, ℕ, nat_le, ◌&&◌, if◌then◌else◌, Bool}
+use Rattle.std.proofs.Common.{true, false, List, [], ◌∷◌, length, Option, None, Some, Result, Ok}
+use Rattle.std.proofs.Common.{Err, refl, sym, subst, ap, ◌∙◌, arith}
 use Rattle.std.proofs.lemmas.Bool.Decides.{nat_tests}
 use Rattle.arrayvec.specs.ArrayVec.{ArrayVec}
 use Rattle.usb_packet.specs.{Toggle, other, is_same}
 use Rattle.usb_port.specs.{PortState}
 use Rattle.usb_device.specs.{Answer, tells_changes, change_bits, change_bytes, hub_ports, told_bits}
-use Rattle.usb_device.specs.{status_length, status_number, State, Reply, forgotten}
-use Rattle.usb_device.specs.{acknowledged, payload, Way, is_whole, heard, gave, held_law, in_law}
-use Rattle.usb_device.specs.{Ports, full, row_of, place_on, Location, PollAt, level, told, ahead}
-use Rattle.usb_device.specs.{NeverTold, PollOn, OnlyChanges}
+use Rattle.usb_device.specs.{status_length, status_number, State, Reply, forgotten, acknowledged}
+use Rattle.usb_device.specs.{payload, Way, is_whole, heard, gave, held_law, in_law, Ports, full}
+use Rattle.usb_device.specs.{row_of, place_on, Location, PollAt, level, told, ahead, NeverTold}
+use Rattle.usb_device.specs.{PollOn, OnlyChanges}
 use Rattle.usb_device.specs.declared.answer.Answer.TheVariants as answer
 use Rattle.usb_device.specs.declared.transfer.InEndpoint.TheVariants as by
 use Rattle.usb_device.specs.Attempt.{whole}
@@ -25,25 +24,19 @@ use Rattle.usb_tree.proofs.Interface.{decided, false_true}
 use Rattle.usb_transaction.specs.{TransFault, Stalled, Busy, NoAnswer, Bus, HeardOutcome, Moved}
 use Rattle.usb_transaction.specs.{Repeat, Lost, Target, NoThreeDamaged, Listens, PollFailure}
 use Rattle.usb_transaction.specs.{polled, polled_as, IsNotOfBus, IsStatusEndpoint, is_at, ToldIn}
-use Rattle.usb_transaction.specs.{ToldSince, ToldBy}
-use Rattle.usb_transaction.specs.{ToldSome, none_came, one_came, PollEnds, ChangesIn, AttemptLog}
-use Rattle.usb_transaction.specs.{IsNoEnd, Polled, packed}
-use Rattle.usb_transaction.specs.{in_attempt}
+use Rattle.usb_transaction.specs.{ToldSince, ToldBy, ToldSome, none_came, one_came, PollEnds}
+use Rattle.usb_transaction.specs.{ChangesIn, AttemptLog, IsNoEnd, Polled, packed, in_attempt}
 use Rattle.usb_transaction.proofs.DeviceRuns.{AttemptDelivered, IsOfBus, IsPollEnd, RunThrough}
-use Rattle.usb_transaction.proofs.DeviceRuns.{AttemptLeft, as_whole, asked_in, at_end, each_device}
-use Rattle.usb_transaction.proofs.DeviceRuns.{Turns, few_repeats, heeded, in_others, listens_on}
-use Rattle.usb_transaction.proofs.DeviceRuns.{PollGot, of_bus, over_polled, stays_away}
+use Rattle.usb_transaction.proofs.DeviceRuns.{over_poll, in_kind, DeviceTold, AttemptLeft, as_whole}
+use Rattle.usb_transaction.proofs.DeviceRuns.{asked_in, at_end, each_device, Turns, few_repeats}
+use Rattle.usb_transaction.proofs.DeviceRuns.{heeded, in_others, listens_on, PollGot, of_bus}
+use Rattle.usb_transaction.proofs.DeviceRuns.{stays_away}
 use Rattle.usb_transaction.proofs.LastOutcomes.{polled_last}
 
 -- the bytes of some bits are no more than a packet of the hub has (11.12.4)
 few_bytes : (ports bits max : ℕ) → status_length ports ≤ max
     → nat_le (length (change_bytes ports bits)) max ≡ true
-few_bytes ports bits max m = by_ports (nat_lt 7 ports) refl
-  where
-    by_ports : (b : Bool) → nat_lt 7 ports ≡ b
-        → nat_le (length (if b then bits % 256 ∷ bits / 256 ∷ [] else bits % 256 ∷ [])) max ≡ true
-    by_ports true e = grind (arith, nat_tests, m)
-    by_ports false e = grind (arith, nat_tests, m)
+few_bytes ports bits max m = grind (arith, nat_tests)
 
 -- The replies to IN of a configured hub's status endpoint, by whether all packets came whole
 
@@ -75,23 +68,11 @@ module _ (s : State) (P : Bool → Reply → Type 0) (silent : (held : Option �
     by_byte : (max : ℕ) → Room max → (t2 t3 : Way) (held : Option ℕ) (bits : ℕ)
         → P (is_whole t2 && is_whole t3) (gave (record s { held = held }) by.Changes max
         s.changes.toggle (bytes_of bits) t2 t3)
-    by_byte max m whole t3 held bits =
-        rw (few_bytes (hub_ports s.spec.hub) bits max m) (gives (is_whole t3) held bits)
-    by_byte max m t2 t3 held bits = silent held
+    by_byte max m t2 t3 held bits = grind (arith, few_bytes)
 
     by_held : (row : List PortState) (max : ℕ) → Room max → (t2 t3 : Way) (held : Option ℕ)
         → P (is_whole t2 && is_whole t3) (held_law s row held max t2 t3)
-    by_held row max m t2 t3 (Some bits) = by_byte max m t2 t3 s.held bits
-    by_held row max m t2 t3 None = new bits (bits == 0)
-      where
-        bits : ℕ
-        bits = change_bits (hub_ports s.spec.hub) row
-
-        new : (bits : ℕ) (none : Bool) → P (is_whole t2 && is_whole t3)
-            (if none then (heard t2 (Some answer.Nak), s) else gave
-            (record s { held = Some bits }) by.Changes max s.changes.toggle (bytes_of bits) t2 t3)
-        new bits true = by_heard t2 t3 (Some answer.Nak) (waits (is_whole t3))
-        new bits false = by_byte max m t2 t3 (Some bits) bits
+    by_held row max m t2 t3 held = grind (arith, by_byte, by_heard)
 
     by_reply : tells_changes s.spec s.registers ≡ true → (row : List PortState) (max : ℕ) → Room max
         → (t1 t2 t3 : Way) → P (is_whole t1 && is_whole t2 && is_whole t3)
@@ -123,24 +104,7 @@ never_lost b false e = cc e
 
 step_byte : (t : Toggle) (s : State) (clear : Bool) (held : Option ℕ) (b : ArrayVec ℕ)
     → PollStep t s clear (Payload s.changes.toggle b) (poll_byte_state s held clear)
-step_byte t s true held b =
-    record {
-      frame = refl;
-      quiet = refl;
-      heeds = λ c. never_lost b (is_same t s.changes.toggle);
-      unstalled = λ q e. cc e;
-      even = λ q n. elim (rw (q, is_same-refl t) at n) [ ];
-      behind = λ q n. inl (ap other q ∙ other-other t);
-    }
-step_byte t s false held b =
-    record {
-      frame = refl;
-      quiet = refl;
-      heeds = λ c. never_lost b (is_same t s.changes.toggle);
-      unstalled = λ q e. cc e;
-      even = λ q n. elim (rw (q, is_same-refl t) at n) [ ];
-      behind = λ q n. inr (q, refl);
-    }
+step_byte t s clear held b = grind (arith, is_same-refl, never_lost, other-other)
 
 poll_step : (t : Toggle) (s : State) → tells_changes s.spec s.registers ≡ true
     → (row : List PortState) (ep max : ℕ) → ep ≡ status_number s.spec s.registers
@@ -192,7 +156,7 @@ module _ (ports : ℕ) (Told : ℕ → Type 0) (bits : ℕ) (t : Toggle) (max : 
     (m : status_length ports ≤ max) (v : State) (counted : hub_ports v.spec.hub ≡ ports) where
   fits_came : (given : ℕ) (bytes : List ℕ) → bytes ≡ change_bytes (hub_ports v.spec.hub) given
       → nat_le (length bytes) max ≡ true
-  fits_came given bytes is = rw (is, counted) (few_bytes ports given max m)
+  fits_came given bytes is = grind (arith, counted, few_bytes)
 
   -- no byte came, or one that ends the poll
   came : (o : Option Answer) → PollOn (ToldSome ports Told) bits t o v → PollAt (ToldSome ports Told) t v
@@ -253,8 +217,7 @@ module _ (ports : ℕ) (Told : ℕ → Type 0) (bits : ℕ) (t : Toggle) (max : 
 due_came : (a : Attempt) (w : World) → Made w (after (attempt a) w)
     → (at_attempt w).taken ≤ (after (attempt a) w).taken
 unfolding with_attempt
-due_came a w made = let same : (after (attempt a) w).taken ≡ (at_attempt w).taken =
-    ap (λ (v : World). v.taken) (made_step a w made) in omega (arith, same)
+due_came a w made = grind (arith, made_step)
 
 -- A hub that tells of changes, at the target
 
@@ -281,7 +244,7 @@ module _ (t : Target) (ep : ℕ) (toggle : Toggle) (old : World) (j : Location) 
     counted = ap (λ (y : State). hub_ports y.spec.hub) x
 
     number : ep ≡ status_number u.spec u.registers
-    number = h.number ∙ sym (ap (λ (y : State). status_number y.spec y.registers) x)
+    number = grind arith
 
     room : status_length (hub_ports u.spec.hub) ≤ t.max
     room = subst (λ n. status_length n ≤ t.max) (sym counted) h.fits
@@ -293,20 +256,14 @@ module _ (t : Target) (ep : ℕ) (toggle : Toggle) (old : World) (j : Location) 
     clear = is_whole asked.1.first && is_whole asked.1.second && is_whole asked.1.third
 
     is_clear : Listens t j s → damage_in w ≡ None → clear ≡ true
-    is_clear l none =
-        as_whole asked.1 none (listens_on t j s u (ap (λ z. z.spec) x) (ap (λ z. z.registers) x) l)
-        (λ x y z. is_whole x && is_whole y && is_whole z)
+    is_clear l none = grind (arith, as_whole, asked, listens_on)
 
     step : PollStep toggle u clear (outcome_in a w) v
     step = poll_step toggle u tells asked.0 ep t.max number room asked.1.first asked.1.second
         asked.1.third (outcome_in a w) v asked.1.gave asked.1.is
 
     frame : OnlyChanges s v
-    frame = step.frame ∙ ap {A = State} (λ y. record y {
-      memory = v.memory;
-      changes = v.changes;
-      held = v.held;
-    }) x
+    frame = grind (arith, step)
 
     counted_then : hub_ports v.spec.hub ≡ ports
     counted_then = ap (λ (y : State). hub_ports y.spec.hub) frame
@@ -344,19 +301,7 @@ module _ (t : Target) (ep : ℕ) (toggle : Toggle) (old : World) (j : Location) 
       told_here : (b : PortState) (below : Ports) → place_on (at_attempt w).roots j
           ≡ Some (full b u below) → (now : World) (later : List Outcome) → AttemptLog a w later now
           → ToldIn a old now j (change_bits (hub_ports u.spec.hub) (row_of below))
-      told_here b below stood now later since =
-          record {
-            outcomes = outcomes;
-            mid = w;
-            trail = trail;
-            b = b;
-            s = u;
-            below = below;
-            stood = stood;
-            told = refl;
-            later = later;
-            since = since;
-          }
+      told_here b below stood now later since = grind arith
 
       -- up to the attempt, or where it was made past it
       abbrev Ever : ℕ → Type 0
@@ -482,34 +427,28 @@ module _ (t : Target) (ep : ℕ) (toggle : Toggle) (old : World) (j : Location) 
 
 -- Each device
 
-pub poll_leaves : (t : Target) (ep : ℕ) (toggle : Toggle)
+pub changes_told : (t : Target) (ep : ℕ) (toggle : Toggle)
     (result : Result (Option (List ℕ)) TransFault) (old new : World) → IsSettled old.roots
     → Polled toggle (in_attempt t ep) old result new → new.shared ≡ false
-    → EachWas (ChangesIn t ep toggle old result new) old new
-poll_leaves t ep toggle result old new settled x single =
-    each_device _ (ChangesIn t ep toggle old result new) old new
+    → EachWas (DeviceTold (ChangesIn t ep toggle old result new)
+    (λ j s v. IsNotOfBus result → PollFailure t ep toggle result j s v) old) old new
+changes_told t ep toggle result old new settled x single =
+    each_device old new
     (λ j s v run.
     let away : (is_at s t ≡ false → v ≡ s) = stays_away t (λ w u x. in_others t ep w j u x) run in
     record {
-      others = away;
-      frame = λ h. elim (decided (is_at s t)) [
-        | inl at ↦ (left t ep toggle old j s at h result new v run).0
-        | inr y ↦ subst (OnlyChanges s) (sym (away y)) refl
-      ];
-      poll = λ at h. (left t ep toggle old j s at h result new v run).1;
-    })
-    (over_polled t ep old new settled single toggle result x)
-
-pub poll_why : (t : Target) (ep : ℕ) (toggle : Toggle)
-    (result : Result (Option (List ℕ)) TransFault) (old new : World) → IsSettled old.roots
-    → NoThreeDamaged old → Polled toggle (in_attempt t ep) old result new → IsNotOfBus result
-    → new.shared ≡ false → EachWas (PollFailure t ep toggle result) old new
-poll_why t ep toggle result old new settled three x sound single =
-    each_device _ (PollFailure t ep toggle result) old new
-    (λ j s v run. record {
-      answered = λ l h start quiet fault e.
-          answers t ep toggle old j s l.at h three l quiet fault (subst IsNotOfBus e sound) new v
-          (subst (λ r. RunThrough (DidIn (in_attempt t ep)) (in_attempt t ep) (polled_as toggle)
-          (IsPollEnd toggle r) (IsOfBus r) old new j s v) e run);
-    })
-    (over_polled t ep old new settled single toggle result x)
+      leaves = record {
+        others = away;
+        frame = λ h. elim (decided (is_at s t)) [
+          | inl at ↦ (left t ep toggle old j s at h result new v run).0
+          | inr y ↦ subst (OnlyChanges s) (sym (away y)) refl
+        ];
+        poll = λ at h. (left t ep toggle old j s at h result new v run).1;
+      };
+      why = λ three sound. record {
+        answered = λ l h start quiet fault e.
+            answers t ep toggle old j s l.at h three l quiet fault (subst IsNotOfBus e sound) new v
+            (subst (λ r. RunThrough (DidIn (in_attempt t ep)) (in_attempt t ep) (polled_as toggle)
+            (IsPollEnd toggle r) (IsOfBus r) old new j s v) e run);
+      };
+    }) (over_poll (in_kind t ep) old settled toggle new single result x)

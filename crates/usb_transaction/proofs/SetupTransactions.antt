@@ -1,16 +1,15 @@
 -- SETUP: setup data that were accepted more than once are as if they were accepted once, the last
 -- time; and who is not reset by them.
-use Rattle.std.proofs.Common.{◌≡◌, ◌⊎◌, inl, inr, ℕ, ◌==◌, ◌&&◌, if◌then◌else◌}
-use Rattle.std.proofs.Common.{true, false, List, [], ◌∷◌, length, Option, None, Some}
-use Rattle.std.proofs.Common.{Result, Ok, Err, refl, sym, subst, ap, ◌∙◌, arith}
+use Rattle.std.proofs.Common.{◌≡◌, ◌⊎◌, inl, inr, ℕ, ◌==◌, ◌&&◌, if◌then◌else◌, true, false, List}
+use Rattle.std.proofs.Common.{[], ◌∷◌, length, Option, None, Some, Result, Ok, Err, refl, sym}
+use Rattle.std.proofs.Common.{subst, ap, ◌∙◌, arith}
 use Rattle.std.proofs.lemmas.Option.{same_Some}
 use Rattle.usb_request.specs.{Setup, setup_of}
 use Rattle.usb_port.specs.{PortState}
-use Rattle.usb_device.specs.{Leaves, Outcome, outcome}
-use Rattle.usb_device.specs.{registers_at_setup, State, with_endpoints, begun}
-use Rattle.usb_device.specs.{accepted, effect_of_request, asked_by_setup, Way, is_whole, setup_law}
-use Rattle.usb_device.specs.{Ports, full, acted, row_of, Location, path_to, reach_on, state_on}
-use Rattle.usb_device.specs.{place_on, Place}
+use Rattle.usb_device.specs.{Leaves, Outcome, outcome, State, with_endpoints, accepted}
+use Rattle.usb_device.specs.{effect_of_request, asked_by_setup, Way, is_whole, setup_law, Ports}
+use Rattle.usb_device.specs.{full, acted, row_of, Location, path_to, reach_on, state_on, place_on}
+use Rattle.usb_device.specs.{Place}
 use Rattle.usb_device.specs.Attempt.{whole}
 use Rattle.usb_device.proofs.Interface.{begun-twice, outcome-again}
 use Rattle.usb_world.specs.{Attempt, is_harmless, resets, Relation, Was, EachWas, DidSetup, IsMade}
@@ -23,13 +22,13 @@ use Rattle.usb_world.proofs.Interface.{each_setup, made_is, made_reach, made_tru
 use Rattle.usb_world.proofs.Interface.{register_address, setup_in, setup_place_in, setup_sound_in}
 use Rattle.usb_world.proofs.Interface.{stands, state_stands, step_new}
 use Rattle.usb_tree.proofs.Interface.{decided, equal_same, false_true}
-use Rattle.usb_transaction.specs.{TransFault, Stalled, Busy, Target, NoThreeDamaged, Listens}
-use Rattle.usb_transaction.specs.{SetupFailure, set_up_as, is_at, CanAccept, AcceptedAt}
-use Rattle.usb_transaction.specs.{AcceptedSince, SetupDone, IsSpared, EachSpared, AttemptLog}
-use Rattle.usb_transaction.specs.{TransactionDone, Transacted, waits_in, setup_attempt}
+use Rattle.usb_transaction.specs.{TransFault, Stalled, Busy, Target, Listens, SetupFailure}
+use Rattle.usb_transaction.specs.{set_up_as, is_at, CanAccept, AcceptedAt, AcceptedSince, SetupDone}
+use Rattle.usb_transaction.specs.{IsSpared, EachSpared, AttemptLog, Transacted, waits_in}
+use Rattle.usb_transaction.specs.{setup_attempt}
 use Rattle.usb_transaction.proofs.DeviceRuns.{IsEnd, IsOfBus, AttemptLeft, at_end, each_if-joined}
-use Rattle.usb_transaction.proofs.DeviceRuns.{Moves, heeded, listens_at, of_bus, over_end, Through}
-use Rattle.usb_transaction.proofs.DeviceRuns.{was_then, over_transaction, stays_away}
+use Rattle.usb_transaction.proofs.DeviceRuns.{DeviceTold, Moves, heeded, listens_at, of_bus}
+use Rattle.usb_transaction.proofs.DeviceRuns.{Through, was_then, over_transaction, stays_away}
 
 -- A request asks the same once it was accepted
 
@@ -39,10 +38,7 @@ spec_stays d o = grind arith
 asked_twice : (d : State) (first : List PortState) (r : Setup)
     → outcome (accepted d first r).spec (accepted d first r).registers r
     ≡ outcome d.spec d.registers r
-asked_twice d first r =
-    let o : Outcome = outcome d.spec d.registers r in
-    ap (λ s. outcome s (registers_at_setup d.registers o) r) (spec_stays d o)
-    ∙ outcome-again d.spec d.registers r o refl
+asked_twice d first r = grind (arith, outcome-again, spec_stays)
 
 -- a device is as after setup data that it accepted with these ports
 pub record AcceptedWith (bytes : List ℕ) (s v : State) : Type 0 where
@@ -70,8 +66,7 @@ kept_as_before bytes s v (inr y) =
     subst (AsBefore r s) (sym y.is) (record {
       spec = spec_stays s o;
       address = register_address s.registers o;
-      again = λ row. ap (begun (accepted s y.row r) row r.length) again
-          ∙ begun-twice s y.row row r.length o;
+      again = grind (arith, begun-twice);
       asks = ap effect_of_request again;
     })
 
@@ -90,18 +85,12 @@ module _ (t : Target) (request : Setup) where
   -- of a request that resets none it is so of each device
   pub spared_all : (R : Relation) (old new : World) → is_harmless request ≡ true
       → EachSpared t request R old new → EachWas R old new
-  spared_all R old new harmless e j s on there = e j s on there (λ h. false_true (sym h ∙ harmless))
+  spared_all R old new harmless e j s on there = grind (arith, false_true)
 
   -- a device that has an address now had one before: it was at the target, or is the same
   was_spared : (s v : State) → (is_at s t ≡ false → v ≡ s) → IsSpared t request v
       → IsSpared t request s
-  was_spared s v f x h = (
-    (x h).0,
-    λ none. elim (decided (is_at s t)) [
-      | inl y ↦ (x h).0 (sym (equal_same (address_of s) t.addr y) ∙ none)
-      | inr y ↦ (x h).1 (ap (λ d. address_of d) (f y) ∙ none)
-    ],
-  )
+  was_spared s v f x h = grind (arith, decided, equal_same)
 
   pub spared_joined : (R S T : Relation) → LeavesOthers t S
       → ((j : Location) (s u v : State) → R j s u → S j u v → T j s v) → (old mid new : World)
@@ -114,8 +103,7 @@ module _ (t : Target) (request : Setup) where
 
 -- a device that was just reset has no address
 new_at_0 : (x : Option Place) (v : State) → IsNew x → stands x ≡ Some v → address_of v ≡ 0
-new_at_0 (Some (full b s a)) v n e = ap (λ d. address_of d) (same_Some v s (sym e)) ∙ n.0
-new_at_0 _ v n e = elim n [ ]
+new_at_0 x v n e = grind (arith, same_Some)
 
 -- the device accepted them in this attempt
 pub record AcceptedNow (t : Target) (bytes : List ℕ) (w : World) (j : Location) (s v : State) :
@@ -166,13 +154,7 @@ module _ (t : Target) (bytes : List ℕ) (eight : length bytes ≡ 8) (w : World
 
   unmoved : (s : State) → v ≡ s → (is_at s t ≡ true → outcome_in a w ≡ Nothing)
       → (Listens t j s → damage_in w ≡ None → outcome_in a w ≡ Ack) → SetupResult t bytes w j s v
-  unmoved s e n h = record {
-    others = λ away. e;
-    same = kept_as_before bytes s v (inl e);
-    kept = inl e;
-    answered = λ at. inl (n at);
-    heeds = h;
-  }
+  unmoved s e n h = grind (arith, kept_as_before)
 
   -- the device that holds the address, by how the packets came
   module _ (s : State) (at : is_at s t ≡ true) (loud : s.spec.silent ≡ false) (b : PortState)
@@ -223,9 +205,7 @@ module _ (t : Target) (bytes : List ℕ) (eight : length bytes ≡ 8) (w : World
         → place_on new.roots j ≡ Some (full b (setup_law s (row_of below) bytes t1 t2 t3).1
         (acted (if is_whole t1 && is_whole t2 then asked_by_setup s (setup_of bytes)
         else Leaves) below)) → SetupResult t bytes w j s v
-    by_ways whole whole whole e o l = taken e (inr o) l
-    by_ways whole whole t3 e o l = taken e (inl o) l
-    by_ways t1 t2 t3 e o l = unmoved s e (λ y. o) heard_whole
+    by_ways t1 t2 t3 e o l = grind (arith, heard_whole, taken, unmoved)
 
     of_holder : SetupResult t bytes w j s v
     of_holder =
@@ -265,8 +245,7 @@ accepting t bytes eight w m u j v on there x =
 
 pub kept_of : {t : Target} {bytes : List ℕ} {old : World} {j : Location} {s v : State} → (v ≡ s)
     ⊎ AcceptedSince t bytes old j s v → SetupKept bytes s v
-kept_of (inl e) = inl e
-kept_of (inr y) = inr (record { row = row_of y.at.holder.below; is = y.at.is })
+kept_of kept = grind arith
 
 -- to SETUP nothing is a wait
 never_waits : (outcomes : List bus.Outcome) → waits_in set_up_as outcomes ≡ 0
@@ -298,11 +277,7 @@ module _ (t : Target) (bytes : List ℕ) (old : World) (j : Location) (s : State
         }
 
     kept_more : (v ≡ u) ⊎ AcceptedNow t bytes w j u v → KeptSince v
-    kept_more (inl e) = subst KeptSince (sym e) k
-    kept_more (inr x) = inr (record {
-      now = after (attempt (setup_attempt t bytes)) w;
-      at = accepted_at x;
-    })
+    kept_more is = grind (arith, accepted_at)
 
   -- what the answer says of the device that was asked
   abbrev Ends : World → State → Result (List ℕ) TransFault → Type 0
@@ -357,29 +332,25 @@ module _ (t : Target) (bytes : List ℕ) (old : World) (j : Location) (s : State
       gave in
       record { others = away; kept = k; done = λ h. none.0; could = λ h. none.1 }) run
 
-pub setup_leaves : (t : Target) (bytes : List ℕ) (result : Result (List ℕ) TransFault)
+-- setup data that come whole are answered by ACK
+pub set_up_told : (t : Target) (bytes : List ℕ) (result : Result (List ℕ) TransFault)
     (old new : World) → length bytes ≡ 8 → IsSettled old.roots
     → Transacted set_up_as (setup_attempt t bytes) old result new → new.shared ≡ false
-    → EachSpared t (setup_of bytes) (SetupDone t bytes result old new) old new
-setup_leaves t bytes result old new eight settled x single =
-    spared_wider t (setup_of bytes) _ (SetupDone t bytes result old new)
-    (λ j s v run. set_up_done t bytes old j s result new v run) old new
-    (over_transaction (SetupResult t bytes) (setup_attempt t bytes) (IsSpared t (setup_of bytes))
-    (λ w j u v d. was_spared t (setup_of bytes) u v d.others) (accepting t bytes eight) old
-    settled set_up_as new single result x)
-
--- setup data that come whole are answered by ACK
-pub set_up_why : (t : Target) (bytes : List ℕ) (result : Result (List ℕ) TransFault)
-    (old new : World) → length bytes ≡ 8 → IsSettled old.roots → NoThreeDamaged old
-    → TransactionDone set_up_as (setup_attempt t bytes) old result new → new.shared ≡ false
-    → EachSpared t (setup_of bytes) (SetupFailure t result) old new
-set_up_why t bytes result old new eight settled three x single =
-    spared_wider t (setup_of bytes) _ (SetupFailure t result)
+    → EachSpared t (setup_of bytes)
+    (DeviceTold (SetupDone t bytes result old new) (SetupFailure t result) old) old new
+set_up_told t bytes result old new eight settled x single =
+    spared_wider t (setup_of bytes) _ _
     (λ j s v run. record {
-      answered = λ l. heeded (Moves set_up_as) result run (Listens t j)
-          (λ w u y d n k. listens_at t j u y d.same.spec d.same.address k) l
-          three (λ w u y d k none q. cc (sym (ap set_up_as (d.heeds k none)) ∙ q));
+      leaves = set_up_done t bytes old j s result new v run;
+      why = λ three. record {
+        answered = λ l. heeded (Moves set_up_as) result run (Listens t j)
+            (λ w u y d n k. listens_at t j u y d.same.spec d.same.address k) l
+            three (λ w u y d k none q. cc (sym (ap set_up_as (d.heeds k none)) ∙ q));
+      };
     }) old new
-    (over_end (SetupResult t bytes) (setup_attempt t bytes) (IsSpared t (setup_of bytes))
-    (λ w j u v d. was_spared t (setup_of bytes) u v d.others) (accepting t bytes eight) old
-    settled set_up_as new single result x)
+    (over_transaction {a = setup_attempt t bytes} (record {
+      Did = SetupResult t bytes;
+      Of = IsSpared t (setup_of bytes);
+      back = λ w j u v d. was_spared t (setup_of bytes) u v d.others;
+      does = accepting t bytes eight;
+    }) old settled set_up_as new single result x)

@@ -6,13 +6,12 @@ use Rattle.usb_packet.specs.{Toggle}
 use Rattle.usb_world.specs.{Damage, Attempt, BusFault, Outcome, damage_of, World, Made, Step}
 use Rattle.usb_world.specs.{attempt, after, outcome_in, damage_in, Course, here}
 use Rattle.usb_tree.specs.{IsSettled}
-use Rattle.usb_world.proofs.Interface.{AttemptCut, course_then, cut_or_same, made_damages}
-use Rattle.usb_world.proofs.Interface.{made_unshared, made_whole, settled_course, unmade}
-use Rattle.usb_transaction.specs.{HeardOutcome, Moved, Refused, Lost, TransFault, Bus, IsOnly}
-use Rattle.usb_transaction.specs.{GivenUp, TransactionAttempts, NoThreeDamaged, IsNotOfBus}
-use Rattle.usb_transaction.specs.{AttemptLog, start, next, errors_with, waits_with, errors_running}
-use Rattle.usb_transaction.specs.{waits_in, IsNoEnd, KeepsTrying, TransactionDone, BusFailed}
-use Rattle.usb_transaction.specs.{Transacted, Polled}
+use Rattle.usb_world.proofs.Interface.{course_then, cut_or_same, made_damages, made_unshared}
+use Rattle.usb_world.proofs.Interface.{settled_course}
+use Rattle.usb_transaction.specs.{HeardOutcome, Lost, TransFault, Bus, IsOnly, TransactionAttempts}
+use Rattle.usb_transaction.specs.{NoThreeDamaged, IsNotOfBus, AttemptLog, start, next, errors_with}
+use Rattle.usb_transaction.specs.{errors_running, waits_in, IsNoEnd, KeepsTrying, TransactionDone}
+use Rattle.usb_transaction.specs.{BusFailed, Transacted, Polled}
 
 -- A trail is a course of steps each of which is the attempt
 
@@ -29,7 +28,7 @@ only_course a outcomes old new r = trail_course (λ w made. refl) r
 
 pub trail_settled : {a : Attempt} {old new : World} {outcomes : List Outcome}
     → AttemptLog a old outcomes new → IsSettled old.roots → IsSettled new.roots
-trail_settled {a} {old} {new} {outcomes} t = settled_course (only_course a outcomes old new t)
+trail_settled t = grind (arith, only_course, settled_course)
 
 -- no two reachable devices held one address before it
 pub trail_unshared : {a : Attempt} {old new : World} {outcomes : List Outcome}
@@ -47,8 +46,7 @@ trail_damages {a} (next w t made) = made_damages a w made ∙ trail_damages t
 pub as_transacted : {hear : Outcome → HeardOutcome} {a : Attempt} {old new : World}
     (result : Result (List ℕ) TransFault) → TransactionDone hear a old result new
     → Transacted hear a old result new
-as_transacted (Err (Bus fault)) e = absurd e.tells
-as_transacted result e = e
+as_transacted result e = grind arith
 
 pub ended_of : {hear : Outcome → HeardOutcome} {a : Attempt} {old new : World}
     (result : Result (List ℕ) TransFault) → Transacted hear a old result new → IsNotOfBus result
@@ -59,42 +57,20 @@ ended_of result x n = x
 pub transacted_unshared : (hear : Outcome → HeardOutcome) (a : Attempt) (old new : World)
     (result : Result (List ℕ) TransFault) → Transacted hear a old result new → IsSettled old.roots
     → new.shared ≡ false → old.shared ≡ false
-transacted_unshared hear a old new (Err (Bus fault)) x settled single =
-    by_cut (cut_or_same a x.mid fault new x.fits (trail_settled x.trail settled) x.refused x.fails
-    single)
-  where
-    by_cut : AttemptCut a x.mid new → old.shared ≡ false
-    by_cut (unmade h each) = trail_unshared x.trail h
-    by_cut (made_whole h m u r) = trail_unshared x.trail h
-transacted_unshared hear a old new result x settled single = trail_unshared x.trail single
+transacted_unshared hear a old new result x settled single =
+    grind (arith, cut_or_same, trail_settled, trail_unshared)
 
 module _ {A : Type 0} (a : Attempt) (old new : World) where
   -- where the bus did not give up
   ended_attempts : (result : Result A TransFault)
       → ((fault : BusFault) → result ≡ Err (Bus fault) → ⊥) → {outcomes : List Outcome}
       → AttemptLog a old outcomes new → TransactionAttempts (IsOnly a) old result new
-  ended_attempts result sound t = record {
-    whole = λ n. only_course a _ old new t;
-    cut = λ fault e. absurd (sound fault e);
-  }
+  ended_attempts result sound t = grind (arith, only_course)
 
   -- and where it did
   cut_attempts : {hear : Outcome → HeardOutcome} (fault : BusFault) → BusFailed hear a old fault new
       → TransactionAttempts {A = A} (IsOnly a) old (Err (Bus fault)) new
-  cut_attempts fault x = record {
-    whole = λ n. absurd n;
-    cut =
-        λ f e. subst (λ y. GivenUp (IsOnly a) old y new) (cc e)
-        (record {
-          mid = x.mid;
-          course = only_course a x.outcomes old x.mid x.trail;
-          last = a;
-          is = refl;
-          fits = x.fits;
-          refused = x.refused;
-          fails = x.fails;
-        });
-  }
+  cut_attempts fault x = grind (arith, only_course, x.trail, x.fits, x.refused, x.fails)
 
 pub transacted_attempts : (hear : Outcome → HeardOutcome) (a : Attempt)
     (result : Result (List ℕ) TransFault) (old new : World) → Transacted hear a old result new
@@ -123,23 +99,12 @@ few_waits hear (o ∷ outcomes) g = g.2
 pub last_waited : (hear : Outcome → HeardOutcome) (o : Outcome) (outcomes : List Outcome)
     → KeepsTrying hear outcomes → waits_in hear (o ∷ outcomes) ≡ 256 → IsNoEnd (hear o)
 unfolding waits_in
-last_waited hear o outcomes g e = by_heard (hear o) (few_waits hear outcomes g) e
-  where
-    by_heard : (h : HeardOutcome) → waits_in hear outcomes < 256
-        → waits_with h (waits_in hear outcomes) ≡ 256 → IsNoEnd h
-    by_heard (Moved bytes) l e = omega (arith, l, e)
-    by_heard Refused l e = omega (arith, l, e)
-    by_heard h l e = tt
+last_waited hear o outcomes g e = grind (arith, few_waits)
 
 pub last_erred : (hear : Outcome → HeardOutcome) (o : Outcome) (outcomes : List Outcome)
     → errors_running hear (o ∷ outcomes) ≡ 3 → IsNoEnd (hear o)
 unfolding errors_running
-last_erred hear o outcomes e = by_heard (hear o) e
-  where
-    by_heard : (h : HeardOutcome) → errors_with h (errors_running hear outcomes) ≡ 3 → IsNoEnd h
-    by_heard (Moved bytes) e = omega (arith, e)
-    by_heard Refused e = omega (arith, e)
-    by_heard h e = tt
+last_erred hear o outcomes e = grind arith
 
 -- Damaged attempts running
 
@@ -149,10 +114,7 @@ pub record LostRun (damages : List Damage) (n attempts : ℕ) : Type 0 where
   pub each : (m k : ℕ) → m + k ≡ attempts → k < n → damage_of damages m ≢ None
 
 pub lost_run_none : (damages : List Damage) (attempts : ℕ) → LostRun damages 0 attempts
-lost_run_none damages attempts = record {
-  enough = omega arith;
-  each = λ m k e lt. absurd (omega (arith, lt));
-}
+lost_run_none damages attempts = grind arith
 
 -- there are at most two
 pub run_short : (old : World) (n attempts : ℕ) → NoThreeDamaged old → LostRun old.damages n attempts

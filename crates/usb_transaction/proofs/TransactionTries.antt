@@ -1,18 +1,15 @@
 -- How a transaction goes on, try by try, how it ends, and how many attempts it makes.
-use Rattle.std.proofs.Common.{◌≡◌, inl, inr, refl, sym, subst, ap, ◌∙◌, arith, ℕ, ◌+◌, ◌*◌, ◌<◌}
-use Rattle.std.proofs.Common.{◌≤◌, ◌⊎◌, length, List, [], ◌∷◌, true, false, Option, None, Some}
-use Rattle.std.proofs.Common.{Result, Ok, Err}
+use Rattle.std.proofs.Common.{◌≡◌, refl, sym, subst, ap, ◌∙◌, arith, ℕ, ◌+◌, ◌*◌, ◌<◌, ◌≤◌, length}
+use Rattle.std.proofs.Common.{List, [], ◌∷◌, true, false, Option, None, Some, Result, Ok, Err}
 use Rattle.arrayvec.specs.ArrayVec.{ArrayVec}
 use Rattle.usb_packet.specs.{Toggle}
 use Rattle.usb_world.specs.{Attempt, BusFault, Outcome, World, AttemptsWithin, IsAttempt}
-use Rattle.usb_world.specs.{FitsMaximum}
 use Rattle.usb_world.specs.declared.types.Outcome.TheVariants.{Nak, Stall}
 use Rattle.usb_world.proofs.Interface.{spends_none, spends_then, spends_wider}
 use Rattle.usb_bus.specs.{Attempts, Traced, still, attempted, StepRun}
-use Rattle.usb_transaction.specs.{HeardOutcome, Moved, NotReady, Refused, Repeat, Lost, Tries}
-use Rattle.usb_transaction.specs.{HearsAs, TransFault}
-use Rattle.usb_transaction.specs.{Stalled, Busy, NoAnswer, Bus, heard_as, polled_as, set_up_as}
-use Rattle.usb_transaction.specs.{acks, AttemptLog, start, next, errors_with, waits_with}
+use Rattle.usb_transaction.specs.{HeardOutcome, Moved, Refused, Repeat, Lost, Tries, HearsAs}
+use Rattle.usb_transaction.specs.{TransFault, Stalled, Busy, NoAnswer, Bus, heard_as, polled_as}
+use Rattle.usb_transaction.specs.{set_up_as, acks, AttemptLog, start, next, errors_with, waits_with}
 use Rattle.usb_transaction.specs.{errors_running, waits_in, IsNoEnd, KeepsTrying, LastOutcome}
 use Rattle.usb_transaction.specs.{TransactionDone, BusFailed, Transacted, Waiting, Polled, packed}
 use Rattle.usb_transaction.specs.{AttemptsMade, Ends, transaction_bound}
@@ -68,8 +65,7 @@ going_more {hear} {a} {o} {errors} {waits} {old} {mid} {new} e w g made on x y f
   );
   running = running;
   waited = waited;
-  spends = spends_wider (3 * waits + errors + 1) (3 * w + e) old new
-      (spends_then (3 * waits + errors) 1 old mid new g.spends made.counts.spends) le;
+  spends = grind (arith, spends_then, spends_wider, g.spends, made.counts.spends);
 }
   where
     running : errors_with (hear o) (errors_running hear g.outcomes) ≡ e
@@ -78,35 +74,10 @@ going_more {hear} {a} {o} {errors} {waits} {old} {mid} {new} e w g made on x y f
     waited : waits_with (hear o) (waits_in hear g.outcomes) ≡ w
     waited = ap (λ n. waits_with (hear o) n) g.waited ∙ y
 
-going_error : {hear : Outcome → HeardOutcome} {a : Attempt} {o : Outcome} (errors waits : ℕ)
-    {old mid new : World} {before now : Option (List ℕ)} → errors + 1 < 3 → waits < 256
-    → TryingOn hear a errors waits old mid → Attempts a mid before (Ok o) new now → Lost ≡ hear o
-    → TryingOn hear a (errors + 1) waits old new
-going_error errors waits few calm g made lost =
-    going_more (errors + 1) waits g made (subst (λ h. IsNoEnd h) lost tt)
-    (ap (λ h. errors_with h errors) (sym lost)) (ap (λ h. waits_with h waits) (sym lost)) few
-    calm (omega arith)
-
-third_error : {hear : Outcome → HeardOutcome} {a : Attempt} {o : Outcome} (errors waits : ℕ)
-    {old mid : World} (g : TryingOn hear a errors waits old mid) → Lost ≡ hear o → errors + 1 ≡ 3
-    → LastOutcome hear (Err NoAnswer) o g.outcomes
-unfolding errors_running
-third_error {hear} errors waits g lost third =
-    ap (λ x. errors_with x (errors_running hear g.outcomes)) (sym lost) ∙ ap (λ n. n + 1) g.running
-    ∙ third
-
 going_cut_off : {hear : Outcome → HeardOutcome} {a : Attempt} {fault : BusFault} {errors waits : ℕ}
     {old mid new : World} {before now : Option (List ℕ)} → TryingOn hear a errors waits old mid
     → Attempts a mid before (Err fault) new now → BusFailed hear a old fault new
-going_cut_off {mid = mid} g x = record {
-  fits = g.fits;
-  outcomes = g.outcomes;
-  mid = mid;
-  trail = g.trail;
-  onward = g.onward;
-  refused = x.counts;
-  fails = x.fails;
-}
+going_cut_off = grind arith
 
 -- A loop of tries: how it stands, with what it wrote
 
@@ -127,28 +98,21 @@ stands_new t w fits is = rw is (record {
   traced = still;
 })
 
--- a NAK or a repeat
-abbrev pub IsWait : HeardOutcome → Type 0
-IsWait h = (h ≡ NotReady) ⊎ (h ≡ Repeat)
-
-record Waits (h : HeardOutcome) : Type 0 where
-  on : IsNoEnd h
-  none : (n : ℕ) → errors_with h n ≡ 0
-  more : (n : ℕ) → waits_with h n ≡ n + 1
-
-waits_of : (h : HeardOutcome) → IsWait h → Waits h
-waits_of h (inl e) = subst Waits (sym e) (record { on = tt; none = λ n. refl; more = λ n. refl })
-waits_of h (inr e) = subst Waits (sym e) (record { on = tt; none = λ n. refl; more = λ n. refl })
-
 module _ {hear : Outcome → HeardOutcome} {a : Attempt} {t : Tries} {old mid : World}
     {first before : Option (List ℕ)} (s : TryStands hear a t old first mid before) where
   -- its last attempt
   pub went_last : {b : Attempt} {r : Result Outcome BusFault} {new : World} {now : Option (List ℕ)}
       → IsAttempt b → Attempts b mid before r new now → StepRun transaction_bound old first new now
   went_last {b} {r} {new} fits x = record {
-    spends = spends_wider (3 * t.waits + t.errors + 1) transaction_bound old new
-        (spends_then (3 * t.waits + t.errors) 1 old mid new s.going.spends x.counts.spends)
-        (omega (arith, s.few, s.calm));
+    spends = grind (
+      arith,
+      spends_then,
+      spends_wider,
+      s.going.spends,
+      x.counts.spends,
+      s.few,
+      s.calm,
+    );
     traced = attempted b r fits s.traced x;
   }
 
@@ -158,40 +122,9 @@ module _ {hear : Outcome → HeardOutcome} {a : Attempt} {t : Tries} {old mid : 
 
   module _ {o : Outcome} {new : World} {now : Option (List ℕ)}
       (made : Attempts a mid before (Ok o) new now) where
-    pub stands_error : (u : Tries) → Lost ≡ hear o → u ≡ record t { errors = t.errors + 1 }
-        → u.errors < 3 → TryStands hear a u old first new now
-    stands_error u lost is few =
-        let two : t.errors + 1 < 3 = subst (λ x. x.errors < 3) is few in
-        rw is (record {
-          few = two;
-          calm = s.calm;
-          going = going_error t.errors t.waits two s.calm s.going made lost;
-          traced = attempted a (Ok o) s.going.fits s.traced made;
-        })
-
-    pub stands_waited : (h : HeardOutcome) (u : Tries) → h ≡ hear o → IsWait h
-        → u ≡ record t { errors = 0; waits = t.waits + 1 } → u.waits < 256
-        → TryStands hear a u old first new now
-    stands_waited h u heard wait is calm =
-        let less : t.waits + 1 < 256 = subst (λ x. x.waits < 256) is calm in
-        let w : Waits (hear o) = subst Waits heard (waits_of h wait) in
-        rw is (record {
-          few = omega arith;
-          calm = less;
-          going = going_more 0 (t.waits + 1) s.going made w.on (w.none t.errors) (w.more t.waits)
-              (omega arith) less (omega (arith, s.few));
-          traced = attempted a (Ok o) s.going.fits s.traced made;
-        })
-
     ended : (result : Result (List ℕ) TransFault) → LastOutcome hear result o s.going.outcomes
         → TransactionDone hear a old result new
-    ended result tells = record {
-      outcomes = s.going.outcomes;
-      last = o;
-      trail = trail_more s.going.trail made;
-      onward = s.going.onward;
-      tells = tells;
-    }
+    ended result tells = grind (arith, trail_more)
 
     pub told_moved : (bytes : ArrayVec ℕ) → hear o ≡ Moved bytes
         → Transacted hear a old (Ok bytes.items) new
@@ -199,24 +132,6 @@ module _ {hear : Outcome → HeardOutcome} {a : Attempt} {t : Tries} {old mid : 
 
     pub told_stalled : o ≡ Stall → Transacted hear a old (Err Stalled) new
     told_stalled is = ended (Err Stalled) is
-
-    -- the third error running
-    pub told_silent : (u : Tries) → Lost ≡ hear o → u ≡ record t { errors = t.errors + 1 }
-        → u.errors ≡ 3 → Transacted hear a old (Err NoAnswer) new
-    told_silent u lost is third =
-        let counted = ap (λ x. x.errors) (sym is) ∙ third in
-        ended (Err NoAnswer) (third_error t.errors t.waits s.going lost counted)
-
-    -- the 256th wait
-    pub told_busy : (h : HeardOutcome) (u : Tries) → h ≡ hear o → IsWait h
-        → u ≡ record t { errors = 0; waits = t.waits + 1 } → u.waits ≡ 256
-        → Transacted hear a old (Err Busy) new
-    unfolding waits_in
-    told_busy h u heard wait is full =
-        let one_wait = (subst Waits heard (waits_of h wait)).more (waits_in hear s.going.outcomes)
-        in
-        let counted = ap (λ n. n + 1) s.going.waited ∙ ap (λ x. x.waits) (sym is) ∙ full in
-        ended (Err Busy) (one_wait ∙ counted)
 
 -- An outcome that is to be heard, of the last attempt of a loop of tries
 
@@ -252,9 +167,7 @@ module _ {hear : Outcome → HeardOutcome} {a : Attempt} {t : Tries} {o : Outcom
       rw is (record {
         few = errors;
         calm = waits;
-        going = going_more (errors_with (hear o) t.errors) (waits_with (hear o) t.waits)
-            p.stands.going p.made on refl refl errors waits
-            (try_more (hear o) t.errors t.waits on p.stands.few);
+        going = grind (arith, going_more, try_more, p.stands.going, p.made, p.stands.few);
         traced = attempted a (Ok o) p.stands.going.fits p.stands.traced p.made;
       })
 
@@ -276,6 +189,32 @@ module _ {hear : Outcome → HeardOutcome} {a : Attempt} {t : Tries} {o : Outcom
       (ap (λ n. errors_with (hear o) n) p.stands.going.running ∙ x)
   heard_fault (Bus fault) stall x = absurd x
 
+-- An outcome that was heard as an error, or as a repeat
+module _ {hear : Outcome → HeardOutcome} {a : Attempt} {t : Tries} {o : Outcome} {old mid new :
+    World}
+    {first before now : Option (List ℕ)} (s : TryStands hear a t old first mid before)
+    (made : Attempts a mid before (Ok o) new now) (u : Tries) where
+  abbrev pending : Pending hear a t o old first new now
+  pending = record { mid = mid; before = before; stands = s; made = made }
+
+  module _ (lost : Lost ≡ hear o) (is : u ≡ record t { errors = t.errors + 1 }) where
+    pub stands_error : u.errors < 3 → TryStands hear a u old first new now
+    stands_error few = heard_on pending u (subst (λ h. HearsAs t h (Ok None) u) lost
+        (tt, is, few, subst (λ x. x.waits < 256) (sym is) s.calm))
+
+    pub told_silent : u.errors ≡ 3 → Transacted hear a old (Err NoAnswer) new
+    told_silent third = heard_fault pending u NoAnswer (λ e. cc (lost ∙ sym e))
+        (subst (λ h. errors_with h t.errors ≡ 3) lost (ap (λ x. x.errors) (sym is) ∙ third))
+
+  module _ (again : Repeat ≡ hear o) (is : u ≡ record t { errors = 0; waits = t.waits + 1 }) where
+    pub stands_waited : u.waits < 256 → TryStands hear a u old first new now
+    stands_waited calm = heard_on pending u (subst (λ h. HearsAs t h (Ok None) u) again
+        (tt, is, subst (λ x. x.errors < 3) (sym is) (omega arith), calm))
+
+    pub told_busy : u.waits ≡ 256 → Transacted hear a old (Err Busy) new
+    told_busy full = heard_fault pending u Busy (λ e. cc (again ∙ sym e))
+        (subst (λ h. waits_with h t.waits ≡ 256) again (ap (λ x. x.waits) (sym is) ∙ full))
+
 -- the bus gave up the first attempt
 module _ {a : Attempt} {w v : World} {before now : Option (List ℕ)} (fits : IsAttempt a) where
   pub went_once : {b : Attempt} {r : Result Outcome BusFault} → IsAttempt b
@@ -292,12 +231,7 @@ module _ {a : Attempt} {w v : World} {before now : Option (List ℕ)} (fits : Is
 pub told_waiting : {toggle : Toggle} {a : Attempt} {t : Tries} {o : Outcome} {old mid new : World}
     {first before now : Option (List ℕ)} → TryStands (polled_as toggle) a t old first mid before
     → Attempts a mid before (Ok o) new now → o ≡ Nak → Waiting toggle a old new
-told_waiting {toggle} {a} {t} {o} {old} {mid} {new} s made is = record {
-  outcomes = s.going.outcomes;
-  trail = subst (λ x. AttemptLog a old (x ∷ s.going.outcomes) new) is
-      (trail_more s.going.trail made);
-  onward = s.going.onward;
-}
+told_waiting s made is = grind (arith, trail_more, s.going.trail, s.going.onward)
 
 -- Setup data: three attempts at most
 
@@ -331,8 +265,7 @@ module _ {a : Attempt} {n : ℕ} {old mid : World} {first before : Option (List 
       → IsAttempt b → Attempts b mid before r new now → StepRun 3 old first new now
   set_up_went {b} {r} {new} fits x = record {
     spends =
-        spends_wider (n + 1) 3 old new (spends_then n 1 old mid new s.spends x.counts.spends)
-        (omega (arith, few));
+        grind (arith, spends_then, spends_wider, s.spends, x.counts.spends);
     traced = attempted b r fits s.traced x;
   }
 
@@ -340,29 +273,25 @@ module _ {a : Attempt} {n : ℕ} {old mid : World} {first before : Option (List 
       (result : Result (List ℕ) TransFault) → Attempts a mid before (Ok o) new now
       → LastOutcome set_up_as result o (s.going few).outcomes
       → TransactionDone set_up_as a old result new
-  set_up_ended {o} result made tells = record {
-    outcomes = (s.going few).outcomes;
-    last = o;
-    trail = trail_more (s.going few).trail made;
-    onward = (s.going few).onward;
-    tells = tells;
-  }
+  set_up_ended result made tells = grind (arith, trail_more)
 
   pub set_up_again : {o : Outcome} {new : World} {now : Option (List ℕ)}
       → Attempts a mid before (Ok o) new now → acks o ≡ false
       → SetUpStands a (n + 1) old first new now
-  set_up_again {o} {new} made not = record {
-    spends = spends_then n 1 old mid new s.spends made.counts.spends;
-    going = λ more. going_error n 0 more (omega arith) (s.going few) made (set_up_lost o not);
-    ended = λ third. set_up_ended (Err NoAnswer) made
-        (third_error n 0 (s.going few) (set_up_lost o not) third);
-    traced = attempted a (Ok o) (s.going few).fits s.traced made;
-  }
+  unfolding errors_running
+  set_up_again {o} {new} made not =
+      let lost : Lost ≡ set_up_as o = set_up_lost o not in
+      record {
+        spends = spends_then n 1 old mid new s.spends made.counts.spends;
+        going = grind (arith, going_more, s.going);
+        ended = grind (arith, set_up_ended, s.going);
+        traced = attempted a (Ok o) (s.going few).fits s.traced made;
+      }
 
   pub set_up_told : {o : Outcome} {new : World} {now : Option (List ℕ)}
       → Attempts a mid before (Ok o) new now → acks o ≡ true
       → Transacted set_up_as a old (Ok []) new
-  set_up_told {o} made is = set_up_ended (Ok []) made (set_up_moved o is)
+  set_up_told made is = grind (arith, set_up_ended, set_up_moved)
 
   pub set_up_cut : {fault : BusFault} {new : World} {now : Option (List ℕ)}
       → Attempts a mid before (Err fault) new now → Transacted set_up_as a old (Err (Bus fault)) new
@@ -371,8 +300,7 @@ module _ {a : Attempt} {n : ℕ} {old mid : World} {first before : Option (List 
 -- all three
 pub set_up_spent : {a : Attempt} {n : ℕ} {old now : World} {first text : Option (List ℕ)} → n ≤ 3
     → SetUpStands a n old first now text → StepRun 3 old first now text
-set_up_spent {n = n} {old = old} {now = now} le s =
-    record { spends = spends_wider n 3 old now s.spends le; traced = s.traced }
+set_up_spent = grind (arith, spends_wider)
 
 -- How many attempts came before each answer
 
@@ -389,12 +317,7 @@ trail_lasted (next w t made) = let x = trail_lasted t in
 
 trail_worked : {a : Attempt} {old new : World} {last : Outcome} {outcomes : List Outcome} (n : ℕ)
     → n ≤ length (last ∷ outcomes) → AttemptLog a old (last ∷ outcomes) new → AttemptsMade n old new
-trail_worked n le (next w t made) = let x = trail_lasted t in
-    record {
-      sound = x.sound made.sound;
-      least = omega (arith, x.least, made.one, le);
-      still = made.still;
-    }
+trail_worked n le trail = grind (arith, trail_lasted)
 
 -- an outcome is at most one error and one wait
 one_each : (h : HeardOutcome) (n m k : ℕ) → n ≤ k → m ≤ k → (errors_with h n ≤ k + 1)
@@ -424,15 +347,10 @@ pub poll_ends : (toggle : Toggle) (a : Attempt) (old new : World)
     → Ends old result new
 poll_ends toggle a old new (Ok None) x = trail_worked 1 (omega arith) x.trail
 poll_ends toggle a old new (Ok (Some bytes)) x = ends_of (polled_as toggle) a old new (Ok bytes) x
-poll_ends toggle a old new (Err Stalled) x = ends_of (polled_as toggle) a old new (Err Stalled) x
-poll_ends toggle a old new (Err Busy) x = ends_of (polled_as toggle) a old new (Err Busy) x
-poll_ends toggle a old new (Err NoAnswer) x = ends_of (polled_as toggle) a old new (Err NoAnswer) x
-poll_ends toggle a old new (Err (Bus fault)) x =
-    ends_of (polled_as toggle) a old new (Err (Bus fault)) x
+poll_ends toggle a old new (Err fault) x = ends_of (polled_as toggle) a old new (Err fault) x
 
 -- data that were read fit
 pub read_fits : {a : Attempt} (toggle : Toggle) (o : Outcome) (bytes : ArrayVec ℕ) {mid new : World}
     {before now : Option (List ℕ)} → Moved bytes ≡ heard_as toggle o
     → Attempts a mid before (Ok o) new now → length bytes.items ≤ a.max
-read_fits {a} toggle o bytes e made = subst (λ x. FitsMaximum a.max x)
-    (heard_moved toggle o bytes e) made.counts.fits
+read_fits toggle o bytes e made = grind (arith, heard_moved, made.counts.fits)

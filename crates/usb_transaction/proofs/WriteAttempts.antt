@@ -1,8 +1,8 @@
 -- One OUT of endpoint 0: what the device that it is for answers, and what that leaves of its NAKs,
 -- of its stage and of what it expects.
 use Rattle.std.proofs.Common.{◌≡◌, ◌≢◌, inl, inr, ℕ, ◌+◌, ◌≤◌, nat_lt, if◌then◌else◌, Bool, true}
-use Rattle.std.proofs.Common.{false, List, [], length, Option, Some, refl, sym, subst, ap, ◌∙◌}
-use Rattle.std.proofs.Common.{arith, ◌⊎◌}
+use Rattle.std.proofs.Common.{false, List, [], length, Option, Some, refl, sym, subst, ◌∙◌, arith}
+use Rattle.std.proofs.Common.{◌⊎◌}
 use Rattle.std.proofs.lemmas.Bool.Decides.{nat_tests}
 use Rattle.usb_packet.specs.{Toggle, One}
 use Rattle.usb_device.specs.{Answer, State, Reply, Stage, Write, WriteData, written_on, reading}
@@ -40,59 +40,41 @@ module _ (u : State) (toggle : Toggle) (bytes : List ℕ) where
   no_nak_write w x = (tt, refl)
 
   no_nak_row : (g : Stage) → NoNakReply (out_row u g toggle bytes)
-  no_nak_row (writing w) = no_nak_write w _
-  no_nak_row (reading text wanted k) = no_nak_status toggle bytes
-  no_nak_row read = no_nak_status toggle bytes
-  no_nak_row g = (tt, refl)
+  no_nak_row g = grind (arith, no_nak_status, no_nak_write)
 
   abbrev pub row_of_busy : Bool → Reply
   row_of_busy busy = if busy then nak_row u else out_row u u.stage toggle bytes
 
   -- it has no more NAKs to give than before
   fewer_naks : (busy : Bool) → (row_of_busy busy).1.naks ≤ u.naks
-  fewer_naks true = omega arith
-  fewer_naks false = omega (arith, (no_nak_row u.stage).1)
+  fewer_naks busy = grind (arith, no_nak_row)
 
   pub naks_left : (t1 t2 t3 : Way) → (out_law u 0 toggle bytes t1 t2 t3).1.naks ≤ u.naks
-  naks_left whole whole t3 = fewer_naks (is_busy u)
-  naks_left t1 t2 t3 = omega arith
+  naks_left t1 t2 t3 = grind (arith, fewer_naks)
 
   -- only one that is not silent is heard, and only one that is not always busy says more than NAK
   says_by : (max : ℕ) → u.spec.silent ≡ false → (t3 : Way) (busy : Bool) → is_busy u ≡ busy
       → OutcomeOfSpec u.spec (heard_when_sent (got max (heard t3 (row_of_busy busy).0)))
-  says_by max loud whole true e = inr (loud, inl refl)
-  says_by max loud whole false e = inr (loud, inr (not_busy u e))
-  says_by max loud t3 busy e = inl refl
+  says_by max loud t3 busy e = grind (arith, not_busy)
 
   pub law_says : (max : ℕ) → u.spec.silent ≡ false → (t1 t2 t3 : Way)
       → OutcomeOfSpec u.spec (heard_when_sent (got max (out_law u 0 toggle bytes t1 t2 t3).0))
-  law_says max loud whole whole t3 = says_by max loud t3 (is_busy u) refl
-  law_says max loud t1 t2 t3 = inl refl
+  law_says max loud t1 t2 t3 = grind (arith, says_by)
 
   -- a wait is a NAK fewer
   no_wait : (max : ℕ) (t3 : Way) (a : Option Answer) → IsNoNak a → (n : ℕ)
       → waits_with (heard_when_sent (got max (heard t3 a))) n ≡ n
-  no_wait max whole (Some answer.Nak) p n = absurd p
-  no_wait max whole (Some (answer.Data v b)) p n = absurd p
-  no_wait max t3 a p n = refl
+  no_wait max t3 a p n = grind arith
 
   fewer_waits : (max : ℕ) → u.spec.busy ≡ false → (t3 : Way) (busy : Bool) → is_busy u ≡ busy
       → (n : ℕ) → waits_with (heard_when_sent (got max (heard t3 (row_of_busy busy).0))) n
       + (row_of_busy busy).1.naks ≤ n + u.naks
-  fewer_waits max calm whole true e n = omega (arith, positive u e calm)
-  fewer_waits max calm t3 true e n = omega arith
-  fewer_waits max calm t3 false e n =
-      omega (
-        arith,
-        no_wait max t3 (out_row u u.stage toggle bytes).0 (no_nak_row u.stage).0 n,
-        (no_nak_row u.stage).1,
-      )
+  fewer_waits max calm t3 busy e n = grind (arith, no_nak_row, no_wait, positive)
 
   pub law_waits : (max : ℕ) → u.spec.busy ≡ false → (t1 t2 t3 : Way) (n : ℕ)
       → waits_with (heard_when_sent (got max (out_law u 0 toggle bytes t1 t2 t3).0)) n
       + (out_law u 0 toggle bytes t1 t2 t3).1.naks ≤ n + u.naks
-  law_waits max calm whole whole t3 n = fewer_waits max calm t3 (is_busy u) refl n
-  law_waits max calm t1 t2 t3 n = omega arith
+  law_waits max calm t1 t2 t3 n = grind (arith, fewer_waits)
 
   -- it goes on expecting the packet
   expects_packet : (w : Write) → length bytes ≤ max_packet u.spec → u.stage ≡ writing w
@@ -124,10 +106,7 @@ module _ (u : State) (toggle : Toggle) (bytes : List ℕ) where
   fits_answered : (max : ℕ) (w : Write) (a b c : Bool) → heard_when_sent (got max
       (write_row u w bytes (if a then Wrong else if false then TooLong else if b then Repeat
       else if c then Wrong else Next)).0) ≢ Lost
-  fits_answered max w true b c e = cc e
-  fits_answered max w false true c e = cc e
-  fits_answered max w false false true e = cc e
-  fits_answered max w false false false e = cc e
+  fits_answered max w a b c e = grind arith
 
   within_maximum : length bytes ≤ max_packet u.spec → nat_lt (max_packet u.spec) (length bytes) ≡ false
   within_maximum few = grind (arith, nat_tests, few)
@@ -137,10 +116,7 @@ module _ (u : State) (toggle : Toggle) (bytes : List ℕ) where
 
   answered_by : (max : ℕ) → Expects bytes u → (busy : Bool)
       → heard_when_sent (got max (row_of_busy busy).0) ≢ Lost
-  answered_by max x true = λ e. cc e
-  answered_by max (refused_write h) false = subst (row_heard max) (sym h) (λ e. cc e)
-  answered_by max (data_write w h few) false = subst (row_heard max) (sym h)
-      (rw (within_maximum few) (fits_answered max w _ _ _))
+  answered_by max x busy = grind (arith, fits_answered, within_maximum)
 
   pub whole_heard : (max : ℕ) → Expects bytes u
       → heard_when_sent (got max (out_law u 0 toggle bytes whole whole whole).0) ≢ Lost
@@ -164,8 +140,7 @@ is_of_read read = true
 is_of_read g = false
 
 in_no_read : (g : Stage) (s : State) → s.stage ≡ g → is_of_read g ≡ false → IsInRead s → ⊥
-in_no_read g s e f (in_stage answer wanted known r) = cc (sym f ∙ ap is_of_read (sym e ∙ r))
-in_no_read g s e f (over r) = cc (sym f ∙ ap is_of_read (sym e ∙ r))
+in_no_read g s e f reads = grind arith
 
 module _ (max : ℕ) (s : State) where
   abbrev EndsOut : Outcome → State → Type 0
@@ -194,11 +169,7 @@ module _ (max : ℕ) (s : State) where
   -- one that comes whole is answered
   pub ends_heard : IsInRead s → (busy : Bool)
       → heard_when_sent (got max (row_of_busy s One [] busy).0) ≢ Lost
-  ends_heard h true e = cc e
-  ends_heard (in_stage text wanted known h) false e =
-      cc (sym (ap (λ g. heard_when_sent (got max (out_row s g One []).0)) h) ∙ e)
-  ends_heard (over h) false e =
-      cc (sym (ap (λ g. heard_when_sent (got max (out_row s g One []).0)) h) ∙ e)
+  ends_heard h busy e = grind arith
 
 -- one that stands where another stands is in a control read if the other is
 as_other : (s u : State) → u.stage ≡ s.stage → IsInRead u → IsInRead s

@@ -1,5 +1,5 @@
 -- The lemmas that crates above cite. All others are for this crate alone.
-pub use Rattle.usb_world.proofs.addresses.AddressesInTransfers.{course_keeps, data_calm, data_own}
+pub use Rattle.usb_world.proofs.addresses.AddressesInTransfers.{course_keeps, data_own}
 pub use Rattle.usb_world.proofs.addresses.AddressesKept.{quiet_resets, ready_own, step_own}
 pub use Rattle.usb_world.proofs.addresses.AddressesKept.{step_unshared, taken_state}
 pub use Rattle.usb_world.proofs.addresses.AddressesTaken.{seen, unseen}
@@ -33,16 +33,16 @@ pub use Rattle.usb_world.proofs.courses.LiftedSteps.{attempt_cases, happened_by,
 pub use Rattle.usb_world.proofs.courses.LiftedSteps.{kept_course, made_sound, over_coming}
 pub use Rattle.usb_world.proofs.courses.LiftedSteps.{over_course, over_ready, over_step, over_taken}
 pub use Rattle.usb_world.proofs.courses.LiftedSteps.{with_call, with_limit_told}
-pub use Rattle.usb_world.proofs.attempts.MadeAttempts.{limited, made_damages, made_step}
+pub use Rattle.usb_world.proofs.attempts.MadeAttempts.{made_damages, made_step}
 pub use Rattle.usb_world.proofs.attempts.MadeAttempts.{made_unshared}
-pub use Rattle.usb_world.proofs.holders.OneDevice.{other_address, rest_state, rested_effect}
-pub use Rattle.usb_world.proofs.holders.OneDevice.{settled_memory, stands, state_stands}
+pub use Rattle.usb_world.proofs.holders.OneDevice.{rest_state, rested_effect}
+pub use Rattle.usb_world.proofs.holders.OneDevice.{settled_memory}
+pub use Rattle.usb_world.proofs.packets.PacketEffects.{stands, state_stands}
 pub use Rattle.usb_world.proofs.holders.OneDevice.{token_calls}
 pub use Rattle.usb_world.proofs.holders.OneHolder.{is_state, remembers, third}
 pub use Rattle.usb_world.proofs.holders.OneHolderAttempts.{holder_in, in_in, made_here, made_is}
 pub use Rattle.usb_world.proofs.holders.OneHolderAttempts.{made_of, made_true, nobody_in, out_in}
 pub use Rattle.usb_world.proofs.holders.OneHolderAttempts.{ready_settled, setup_in, setup_sound_in}
-pub use Rattle.usb_world.proofs.holders.OneHolderAttempts.{silent_in, silent_reply}
 pub use Rattle.usb_world.proofs.holders.OneHolderPorts.{setup_place_in, silent_place_in}
 pub use Rattle.usb_world.proofs.attempts.Outcomes.{brings, given_by, got_given, got_nak}
 pub use Rattle.usb_world.proofs.attempts.Outcomes.{got_payload, got_stall}
@@ -64,7 +64,7 @@ pub use Rattle.usb_world.proofs.ports.RootResets.{rest_own, same_is, taken_disti
 pub use Rattle.usb_world.proofs.ports.SanePorts.{ports_counted, ports_stand, reach_live}
 pub use Rattle.usb_world.proofs.ports.SanePorts.{sane_new_ports, sane_spec}
 pub use Rattle.usb_world.proofs.courses.StepInvariants.{between_after, between_course}
-pub use Rattle.usb_world.proofs.courses.StepInvariants.{between_opening, between_ready}
+pub use Rattle.usb_world.proofs.courses.StepInvariants.{between_ready}
 pub use Rattle.usb_world.proofs.courses.StepInvariants.{course_taken, ready_taken, sane_called_at}
 pub use Rattle.usb_world.proofs.courses.StepInvariants.{sane_happened, sane_ports, settled_after}
 pub use Rattle.usb_world.proofs.courses.StepInvariants.{settled_called, settled_course}

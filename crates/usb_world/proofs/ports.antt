@@ -7,4 +7,3 @@ pub mod PortRequestsExample
 pub mod RestingPorts
 pub mod RootResets
 pub mod SanePorts
-pub mod ToldChanges

@@ -1,5 +1,6 @@
 -- The way to a place in a tree.
 pub mod AlikeTrees
+pub mod LoneWalks
 pub mod OneWalk
 pub mod Routes
 pub mod RoutesKept

@@ -59,7 +59,7 @@ pub use SanePorts.{HasItsPorts, IsSanePort}
 unfoldable pub use SanePorts.{Consistent, ConsistentPlace}
 pub use SaneProofs.{Consistent-prop, IsSpec-prop, all_prop}
 pub use CutPackets.{IsStopped}
-pub use ExchangeEffects.{Exchanged, PacketWent, PacketsWent, StaysPlugged}
+pub use ExchangeEffects.{Exchanged, MadeAlong, PacketWent, PacketsWent, SentAlong, StaysPlugged}
 pub use Route.{holder_path, way_in}
 pub use Courses.{HoldsMapped, Injective, KeepsPendingAt, NoReset, NoneNames, QuietStep, Reached}
 pub use Courses.{Undisturbed, UndisturbedOrPends, address_at, at_path, is_harmless, is_made}

@@ -13,7 +13,7 @@ ghost use Rattle.usb_world.specs.Wire.{has_its_bit, marked, marked_some};
 ghost use Rattle.usb_world.specs.declared.wire.Mark.TheVariants.{Flipped};
 ghost use Rattle.usb_world.specs.Exchanges.{ack_if, blank, token_of, payload_of, answer_place, answer_mark, reply_of, goes_out, token_out, payload_out, sent_as, is_lost, clears_at};
 ghost use Rattle.usb_tree.specs.AttemptPackets.{IsSettled, after_sent};
-ghost use Rattle.usb_world.specs.ExchangeEffects.{StaysPlugged, PacketWent, PacketsWent, Exchanged};
+ghost use Rattle.usb_world.specs.ExchangeEffects.{StaysPlugged, PacketsWent, SentAlong, MadeAlong, Exchanged};
 ghost use Rattle.usb_world.specs.CutPackets.{IsStopped};
 ghost use Rattle.usb_world.specs.Steps.{IsCut};
 ghost use Rattle.usb_world.specs.HeardAnswers.{heard_above};
@@ -223,13 +223,8 @@ fn exchange_whole(
     requires attempt { IsAttempt (attempt_data attempt.now) }
     requires way { is_whole_tree path.now ≡ false }
     requires alone { AloneAt (token_out (attempt_data attempt.now) None) roots.old path.now }
-    ensures plugged { StaysPlugged roots.old roots.new }
-    ensures settled { IsSettled roots.new }
-    ensures made { OnOk result (Exchanged (attempt_data attempt.now) None roots.old roots.new
-        exchange.new) }
-    ensures cut { OnErr result (IsCut (attempt_data attempt.now) None roots.old roots.new) }
-    ensures kept { IfOk result (λ kept. kept ≡ true
-        → KeptAt (attempt_data attempt.now).addr port roots.old roots.new path.now) }
+    ensures { MadeAlong (attempt_data attempt.now) None path.now port roots.old roots.new
+        exchange.new result }
 {
     put_whole_token(attempt, &mut exchange.token);
     put_whole_payload(attempt, &mut exchange.payload);
@@ -270,7 +265,6 @@ fn host_side(attempt: &Attempt) -> HostSide
 
 /// The same of any attempt, one packet after the other.
 #[inline(never)]
-#[tactic(auto, using(crate::proofs::attempts::Exchanges::over_settled, crate::proofs::attempts::Refusals::over_cut))]
 fn exchange_by_packets(
     roots: &mut Ports,
     path: &[u8],
@@ -281,13 +275,8 @@ fn exchange_by_packets(
 ) -> Result<bool, AllocError>
     requires attempt { IsAttempt (attempt_data attempt.now) }
     requires alone { AloneAt (token_out (attempt_data attempt.now) damage) roots.old path.now }
-    ensures plugged { StaysPlugged roots.old roots.new }
-    ensures settled { IsSettled roots.new }
-    ensures made { OnOk result (Exchanged (attempt_data attempt.now) damage roots.old roots.new
-        exchange.new) }
-    ensures cut { OnErr result (IsCut (attempt_data attempt.now) damage roots.old roots.new) }
-    ensures kept { IfOk result (λ kept. kept ≡ true
-        → KeptAt (attempt_data attempt.now).addr port roots.old roots.new path.now) }
+    ensures { MadeAlong (attempt_data attempt.now) damage path.now port roots.old roots.new
+        exchange.new result }
 {
     let mut quiet = false;
     let made = send_packets(roots, path, port, attempt, damage, &mut quiet, exchange);
@@ -464,10 +453,7 @@ fn send(
     heard: &mut Hearing,
 ) -> Result<(), AllocError>
     requires { AloneAt sent.now roots.old path.now }
-    ensures plugged { StaysPlugged roots.old roots.new }
-    ensures steps { OnOk result (PacketWent sent.now roots.old roots.new heard.old heard.new) }
-    ensures alone { AloneAt None roots.new path.now }
-    ensures stopped { OnErr result (IsStopped sent.now roots.old roots.new) }
+    ensures { SentAlong sent.now path.now roots.old roots.new heard.old heard.new result }
 {
     match sent {
         None => Ok(()),

@@ -32,7 +32,7 @@ use usb_request::request_type::{DEVICE_OUT, PORT_OUT};
 ///
 /// Memory was refused for the host's data.
 #[inline(always)]
-#[tactic(auto, using(crate::proofs::attempts::Silence::stays_plugged_refl))]
+#[tactic(auto, using(crate::proofs::attempts::Exchanges::stays_plugged_refl))]
 pub fn make_exchange_by(
     roots: &mut Ports,
     holders: &mut Holders,

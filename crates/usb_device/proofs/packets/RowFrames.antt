@@ -1,8 +1,8 @@
 -- What each row leaves as it is.
-use Rattle.std.proofs.Common.{◌≡◌, ℕ, ◌==◌, if◌then◌else◌, Bool, true, false, List, [], None, Some}
+use Rattle.std.proofs.Common.{◌≡◌, ℕ, ◌==◌, if◌then◌else◌, Bool, true, false, List, None, Some}
 use Rattle.std.proofs.Common.{Option, get_or, refl, ap, sym, ◌∙◌, rules}
 use Rattle.std.proofs.lemmas.Bool.{eqb-true}
-use Rattle.usb_packet.specs.{TokenKind, OutTok, InTok, SetupTok, Toggle, Zero, One, Packet, Token}
+use Rattle.usb_packet.specs.{TokenKind, OutTok, InTok, SetupTok, Toggle, Zero, Packet, Token}
 use Rattle.usb_packet.specs.{Payload}
 use Rattle.usb_packet.specs.declared.Packet.TheVariants as packet
 use Rattle.arrayvec.specs.ArrayVec.{ArrayVec}
@@ -11,7 +11,7 @@ use Rattle.usb_device.specs.{idle, takes_configuration, halted, InEnd, no_in, re
 use Rattle.usb_device.specs.{begun_if, is_of_setting, takes_setting}
 use Rattle.usb_device.specs.{given_row, in_hesitates, taken_row, with_at, reading, max_packet}
 use Rattle.usb_device.specs.{packet_at, toggle_at, State, Reply}
-use Rattle.usb_device.specs.{received, answered, forgotten, begun, gives, in_row, status_row}
+use Rattle.usb_device.specs.{received, answered, forgotten, begun, gives, in_row}
 use Rattle.usb_device.specs.{out_row, ack_row, token_row, payload_row, source_row, held_row}
 use Rattle.usb_device.specs.{in_other_row, in_end_row, sink_row, out_end_row, in_ack_row, in_end}
 use Rattle.usb_device.specs.{after_memory, in_max, Keeps, Write, WriteData, Next, judged, writing}
@@ -41,10 +41,6 @@ keeps-in p d (reading answer wanted k) =
       | Some bytes ↦ gives d by.Control (toggle_at k) bytes
     ]).1) [ None ↦ search rules | Some bytes ↦ search rules ]
 keeps-in p d s = search rules
-
-keeps-status : (p : Packet) (d : State) (t : Toggle) (b : List ℕ) → Keeps p d (status_row d t b).1
-keeps-status p d One [] = search rules
-keeps-status p d t b = search rules
 
 keeps-write : (u : Toggle) (c : ArrayVec ℕ) (d : State) (w : Write) (b : List ℕ) (x : WriteData)
     → Keeps (Payload u c) d (write_row d w b x).1

@@ -27,7 +27,7 @@ sound_before w v result h again = split w.fault refl
 
 pub attempt_sound : {a : Attempt} {w v : World} {t s : Option (List ℕ)}
     (result : Result Outcome BusFault) → Attempts a w t result v s → v.fault ≡ None → w.fault ≡ None
-attempt_sound {a} {w} {v} result made h = sound_before w v result h made.counts.again
+attempt_sound {w} {v} result made h = sound_before w v result h made.counts.again
 
 pub attempt_after : {a : Attempt} {w v : World} {t s : Option (List ℕ)}
     (result : Result Outcome BusFault) → Attempts a w t result v s → v.fault ≡ None
@@ -39,7 +39,7 @@ pub traced_only_later : {old : World} {t : Option (List ℕ)} {new : World} {s :
     → Traced old t new s → OnlyLater old new
 unfolding after
 traced_only_later {old} still h = record { sound = h; course = here old }
-traced_only_later {old} (attempted {w} {v} a result fits before made) h =
+traced_only_later {old} (attempted a result fits before made) h =
     let work = traced_only_later before (attempt_sound result made h) in
     record {
       sound = work.sound;

@@ -275,7 +275,7 @@ pub pends_on : (So : Spec → Type 0) (p : List ℕ) {old new : World}
     → Course (KeepsPendingAt p) old new → IsOccupied old p → PendingOr So p old → PendingOr So p new
 pends_on So p c (inl pending) so = inl (pending_persists p c pending)
 pends_on So p c (inr is) (inl pending) = inl (pending_persists p c pending)
-pends_on So p {old} {new} c (inr is) (inr so) = elim (stands_or_pends p c is.0) [
+pends_on So p {old} c (inr is) (inr so) = elim (stands_or_pends p c is.0) [
   | inr y ↦ inl y
   | inl y ↦ (let s = is_some-value (state_there old.roots p) is.1 in
       inr (λ v there. subst So (same_Some s.0.spec v.spec (sym (ap (option_map spec_of) s.1)
@@ -288,16 +288,16 @@ pub pends_reached : (So : Spec → Type 0) (p : List ℕ) (w : World) → IsReac
 pends_reached So p w (inl pending) so = inl pending
 pends_reached So p w (inr is) so = inr (λ s there. so s is.1 there)
 
-pub stops_wider : (A B : Spec → Option Cause) (port : HubPort) (address : ℕ) (stop : Stop)
-    (old new : World) → ((spec : Spec) (cause : Cause) → A spec ≡ Some cause → B spec ≡ Some cause)
+pub stops_wider : {A B : Spec → Option Cause} {port : HubPort} {address : ℕ} (stop : Stop)
+    {old new : World} → ((spec : Spec) (cause : Cause) → A spec ≡ Some cause → B spec ≡ Some cause)
     → StopsFairly A port address stop old new → StopsFairly B port address stop old new
-stops_wider A B port address (Refused cause) old new more stops = record {
+stops_wider (Refused cause) more stops = record {
   why = λ f p fair held. elim (stops.why f p fair held) [
     | inl pending ↦ inl pending
     | inr so ↦ inr (λ s there. more s.spec cause (so s there))
   ];
 }
-stops_wider A B port address (Fault why) old new more stops = record { why = stops.why }
+stops_wider (Fault why) more stops = record { why = stops.why }
 
 pub faulted_after : (port : HubPort) (address m n : ℕ) (why : EnumFault) {old mid new : World}
     {a b c d : Option (List ℕ)} → StepRun m old a mid b → StepRun n mid c new d

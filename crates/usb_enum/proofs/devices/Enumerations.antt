@@ -3,7 +3,7 @@
 use Rattle.std.proofs.Common.{◌≡◌, ◌⊎◌, ◌≤◌, ℕ, inl, inr, true, false, List, [], ◌∷◌, ◌++◌, Option}
 use Rattle.std.proofs.Common.{None, Some, refl, ap, sym, subst, ◌∙◌, arith}
 use Rattle.std.proofs.lemmas.Option.{same_Some}
-use Rattle.usb_world.specs.{BusFault, after_reset, after_taking, World}
+use Rattle.usb_world.specs.{BusFault, after_taking, World}
 use Rattle.usb_tree.specs.{same_path, is_way}
 use Rattle.usb_address.specs.{AddressMap, Unused, MapHolds, Enumerating, WhileBusWorks}
 use Rattle.usb_address.specs.{KeepsAddresses}
@@ -15,9 +15,9 @@ use Rattle.usb_tree.proofs.Interface.{decided, self_number, self_path}
 
 -- Till a fault
 
-pub till_weaker : (P Q : World → Type 0) (w : World) → (P w → Q w) → WhileBusWorks P w
+pub till_weaker : {P Q : World → Type 0} {w : World} → WhileBusWorks P w → (P w → Q w)
     → WhileBusWorks Q w
-till_weaker P Q w step t = record { so = λ none. step (t.so none); single = t.single }
+till_weaker t step = record { so = λ none. step (t.so none); single = t.single }
 
 -- which of the two addresses the device has; after a fault either may be said
 pub record Having (f : AddressMap) (p : List ℕ) (address : ℕ) (w : World) : Type 0 where
@@ -83,20 +83,19 @@ takes_then port address a b c m n = record {
 
 -- What each call does
 
-pub within_kept : (port : HubPort) (address : ℕ) (old new : World) → KeepsAddresses old new
+pub within_kept : {port : HubPort} {address : ℕ} {old new : World} → KeepsAddresses old new
     → Within port address old new
-within_kept port address old new keeps = record {
+within_kept {address} {old} keeps = record {
   stays = λ f p spare t.
       let h = having f p address old t in
-      till_weaker (MapHolds (after_taking f p h.has)) (Enumerating f p address) new
-      (λ o. record { has = h.has; is = h.is; owned = o })
-      (keeps.kept (after_taking f p h.has) h.owned);
+      till_weaker (keeps.kept (after_taking f p h.has) h.owned)
+      (λ o. record { has = h.has; is = h.is; owned = o });
 }
 
 pub within-keeps_addresses : (port : HubPort) (address : ℕ) (a b c : World)
     → Within port address a b → KeepsAddresses b c → Within port address a c
 within-keeps_addresses port address a b c within keeps =
-    within_then port address a b c within (within_kept port address b c keeps)
+    within_then port address a b c within (within_kept keeps)
 
 -- only the port that is being enumerated may claim address 0
 pub zero_there : (f : AddressMap) (p : List ℕ) (has : ℕ) → Unused f 0 → (x : List ℕ)
@@ -110,10 +109,8 @@ within_reset port address old new resets = record {
   stays = λ f p spare t.
       let h = having f p address old t in
       let g : AddressMap = after_taking f p h.has in
-      till_weaker (λ w. MapHolds g w ⊎ MapHolds (after_reset g p) w) (Enumerating f p address) new
-      (after_a_reset f p address h.has new spare.free h.is)
-      (resets.resets g p (at_taking f port p h.has spare.at) (zero_there f p h.has spare.none)
-      h.owned);
+      till_weaker (resets.resets g p (at_taking f port p h.has spare.at) (zero_there f p h.has
+      spare.none) h.owned) (after_a_reset f p address h.has new spare.free h.is);
 }
 
 -- SET_ADDRESS, at address 0
@@ -123,14 +120,12 @@ within_given port target address old new zero_is least gives = record {
   stays = λ f p spare t.
       let h = having f p address old t in
       let g : AddressMap = after_taking f p h.has in
-      till_weaker (λ w. MapHolds g w ⊎ MapHolds (after_taking g p address) w)
-      (Enumerating f p address) new (after_an_address f p address h.has new h.is)
-      (gives.gives g p
+      till_weaker (gives.gives g p
       (λ x e. after_taking-zero f p h.has x spare.none (e ∙ ap Some zero_is))
       (λ x y e k. after_taking-not_both f p address h.has x y spare.none spare.spare
       (λ z. omega (arith, z, least)) h.is e (k ∙ ap Some zero_is))
       (λ e. omega (arith, e, zero_is, least))
-      h.owned);
+      h.owned) (after_an_address f p address h.has new h.is);
 }
 
 -- Who holds which address

@@ -78,11 +78,11 @@ asks_then n old mid new a went b = record {
   control = control_then n old mid new a.control went b.control;
 }
 
-pub answer_asks : {A X : Type 0} (given : Spec → Option X) (Has : State → A → Type 0) (t : Target)
-    (request : Setup) (outcome : Result A PipeFault) (answer : Result (Vec ℕ) PipeFault)
-    (old new : World) → Queried t request old answer new → (new.shared ≡ false
+pub answer_asks : {A X : Type 0} {given : Spec → Option X} {Has : State → A → Type 0} {t : Target}
+    {request : Setup} {outcome : Result A PipeFault} {answer : Result (Vec ℕ) PipeFault}
+    {old new : World} → Queried t request old answer new → (new.shared ≡ false
     → EachWas (ReadAsked given Has t outcome) old new) → KeepsAddresses old new → OnlyAsks old new
-answer_asks given Has t request outcome answer old new asked what keeps = record {
+answer_asks {given} {Has} {t} {request} {outcome} {answer} {old} {new} asked what keeps = record {
   addresses = keeps;
   devices = record {
     stays = λ single. each_wider (ReadAsked given Has t outcome) StaysAs
@@ -356,15 +356,14 @@ at_port_then port address n old mid new a went b = record {
 pub at_asked : (port : HubPort) (address : ℕ) (old new : World) → OnlyAsks old new
     → AtPort port address old new
 at_asked port address old new asks = record {
-  within = within_kept port address old new asks.addresses;
+  within = within_kept asks.addresses;
   only = record {
     at = λ f p spare t none.
         only_at_rest p old new (asks.ports none) (asks.backlog none)
         (elsewhere_of p old new (asks.devices.stays
-        ((within_kept port address old new asks.addresses).stays f p spare t).single))
-        (asks.control none);
+        ((within_kept asks.addresses).stays f p spare t).single)) (asks.control none);
     named = λ f p spare t. named_kept p old new asks.devices
-        ((within_kept port address old new asks.addresses).stays f p spare t).single;
+        ((within_kept asks.addresses).stays f p spare t).single;
   };
 }
 

@@ -5,9 +5,8 @@ use Rattle.std.proofs.Common.{subst, ◌∙◌}
 use Rattle.std.proofs.lemmas.Bool.{eq-eqb}
 use Rattle.std.proofs.lemmas.Option.{same_Some}
 use Rattle.usb_port.specs.{PortState, is_low, is_attached, speed_of, seen, PortStatus}
-use Rattle.usb_device.specs.{State, Spec, Ports, vacant, taken, reach, reach_at, state_at}
-use Rattle.usb_device.specs.{port_at, Location, path_to, reach_on, state_on, state_there}
-use Rattle.usb_device.specs.{port_there}
+use Rattle.usb_device.specs.{State, Spec, Ports, vacant, taken, reach, reach_at, state_at, port_at}
+use Rattle.usb_device.specs.{Location, path_to, reach_on, state_on, state_there, port_there}
 use Rattle.usb_world.specs.{after_taking, Relation, Was, EachWas, spec_of, IsSanePort, Consistent}
 use Rattle.usb_world.specs.{AnyStep, Course, World}
 use Rattle.usb_tree.specs.{address_of}
@@ -135,8 +134,7 @@ reset_finds port address l m n status {old} {set} {told} {new} first second thir
           let h = having f p address set
           ((within_reset port address old set resets).stays f p spare t) in
           let port_told = shown.tells.tells (after_taking f p h.has) p
-          (at_taking f port p h.has spare.at) h.owned status
-          (done_at shown.outcome status shown.told) in
+          (at_taking f port p h.has spare.at) h.owned status (done_at shown.told) in
           path_on StaysAs (HasSpeed status.low_speed) (HasSpeed status.low_speed)
           (λ j s v x low. ap (λ y. y.low) (stays-spec s v x) ∙ low) p told new
           (keeps.stays (within.stays f p spare t).single)
@@ -157,7 +155,7 @@ pub answered_finds : (So : Spec → Type 0) (t : Target) (port : HubPort) (addre
     → AnswersSo So t mid new → StepRun n mid b new c
     → Within port address old mid → KeepsAddresses mid new
     → Finds (λ s. So s.spec × (address_of s ≡ t.addr)) port address old new
-answered_finds So t port address n {old} {mid} {new} is answered went within keeps =
+answered_finds So t port address n {mid} {new} is answered went within keeps =
     record {
       found = λ f p spare t0 order.
           let h = having f p address mid (within.stays f p spare t0) in
@@ -182,7 +180,7 @@ pub finds_on : (R : Relation) (A B : State → Type 0) (port : HubPort) (address
     {old mid new : World} → ((j : Location) (s v : State) → R j s v → A s → B v)
     → (new.shared ≡ false → EachWas R mid new) → Within port address old new
     → Finds A port address old mid → Finds B port address old new
-finds_on R A B port address {old} {mid} {new} f was within finds = record {
+finds_on R A B port address {mid} {new} f was within finds = record {
   found = λ g p spare t order. path_on R A B f p mid new (was (within.stays g p spare t).single)
       (finds.found g p spare t order);
 }
@@ -252,7 +250,7 @@ addressed_granted device s is read = record {
   low = is.speed;
   head = is.head;
   allowed = is.allowed;
-  bytes = read.0 (head_packet s.spec device.target.low device.target.max is.speed is.head);
+  bytes = read.0 (head_packet is.speed is.head);
   address = read.1;
 }
 

@@ -30,10 +30,10 @@ use Rattle.usb_enum.proofs.devices.Frames.{called_is, ends_without_fault, held_t
 
 -- What a call at a port gave
 
-pub done_at : {A : Type 0} (outcome : Result A PipeFault) (answer : A) → Ok answer ≡ at_port outcome
+pub done_at : {A : Type 0} {outcome : Result A PipeFault} {answer : A} → Ok answer ≡ at_port outcome
     → outcome ≡ Ok answer
-done_at (Ok given) answer is = cc
-done_at (Err why) answer is = absurd cc
+done_at {outcome = Ok given} is = cc
+done_at {outcome = Err why} is = absurd cc
 
 -- What stands at a port
 
@@ -91,7 +91,7 @@ pub reset_reaches : (port : HubPort) (address l m n : ℕ) (status : PortStatus)
     → AtPort port address old set → OnlyAsks set told → AtPort port address old told
     → AtPort port address told new → StatusAt port set (Ok status) told → status.enabled ≡ true
     → SettlesReset port status.reset_changed told (Ok tt) new → ReachesDevice port address old new
-reset_reaches port address l m n status {old} {set} {told} {new} first second third at_set asks
+reset_reaches port address l m n status {set} {told} {new} first second third at_set asks
     at_told at_settle shown enabled settles = record {
       reached = λ f p spare t order occupied none.
           let none_told = went_sound n told new third none in
@@ -99,8 +99,7 @@ reset_reaches port address l m n status {old} {set} {told} {new} first second th
           let later = at_told.within.stays f p spare t in
           let h = having f p address set (at_set.within.stays f p spare t) in
           let seen : PortStatusAt p status set told = shown.tells.tells (after_taking f p h.has) p
-          (at_taking f port p h.has spare.at) h.owned status
-          (done_at shown.outcome status shown.told) in
+          (at_taking f port p h.has spare.at) h.owned status (done_at shown.told) in
           let is_enabled : seen.port.enable ≡ true = sym (ap (λ x. x.enabled) seen.is) ∙ enabled in
           let pends : pending told.roots p ≡ true → IsReachedAt new p = λ x.
           inl (pending_persists p (at_settle.only.at f p spare later none).spares x) in
@@ -131,7 +130,7 @@ reset_reaches port address l m n status {old} {set} {told} {new} first second th
         let done : PortCallDone p ClearResetChange told new =
         cleared.calls.done (after_taking f p h.has) p ClearResetChange
         (called_is f port p address told spare h (clear_call C_PORT_RESET)
-        ClearResetChange refl) (done_at cleared.outcome tt cleared.told) in
+        ClearResetChange refl) (done_at cleared.told) in
         elim (done_stands p ClearResetChange refl told new done on) [
           | inl y ↦ enabled_at p new (called_port ClearResetChange b) y.0 done.row
               (y.1 ∙ ap (option_map (called_port ClearResetChange)) there) is_enabled
@@ -145,7 +144,7 @@ reset_reaches port address l m n status {old} {set} {told} {new} first second th
 pub reaches_rest : (port : HubPort) (address n : ℕ) {old mid new : World} {b c : Option (List ℕ)}
     → StepRun n mid b new c → (new.fault ≡ None → TouchesNoPort mid new)
     → ReachesDevice port address old mid → ReachesDevice port address old new
-reaches_rest port address n {old} {mid} {new} went rest reaches = record {
+reaches_rest port address n {mid} {new} went rest reaches = record {
   reached = λ f p spare t order occupied none. reached_on p (rest none p)
       (reaches.reached f p spare t order occupied (went_sound n mid new went none));
 }
@@ -164,7 +163,7 @@ reaches_addressed port address n given target result mid new went ordered reache
 pub reaches_set : (port : HubPort) (address n : ℕ) {old mid new : World} {b c : Option (List ℕ)}
     → StepRun n mid b new c → TakesAddress port address old mid → OnlySets address mid new
     → ReachesDevice port address old mid → ReachesDevice port address old new
-reaches_set port address n {old} {mid} {new} went takes sets reaches = record {
+reaches_set port address n {mid} {new} went takes sets reaches = record {
   reached = λ f p spare t order occupied none.
       let sound = went_sound n mid new went none in
       let own = (takes.took f p spare t).so sound in

@@ -29,19 +29,19 @@ few_said : (size : ℕ) (bytes said : List ℕ) → size ≤ 18 → length bytes
 few_said size bytes said fits most same =
     same ∙ take_all 18 bytes (omega (arith, fits, most))
 
-pub head_said : (t : Target) (bytes : Vec ℕ) (before said : List ℕ) (stalled : Cause)
-    (outcome : Result (Vec ℕ) PipeFault) (old new : World) → said ≡ take 18 bytes.items
+pub head_said : {t : Target} {bytes : Vec ℕ} {before said : List ℕ} (stalled : Cause)
+    {outcome : Result (Vec ℕ) PipeFault} {old new : World} → said ≡ take 18 bytes.items
     → Ok bytes ≡ answered_or stalled outcome → Queried t (get_device_descriptor 8) old outcome new
     → KeepsAnswered t.addr old outcome new
     → (new.shared ≡ false → EachWas (DeviceAsked t 8 outcome) old new)
     → Answers (BeginsWith said) t 8 before said old new
 unfolding get_device_descriptor
-head_said t bytes before said stalled outcome old new same is asked addresses what =
+head_said {t} {bytes} {said} stalled {outcome} {old} {new} same is asked addresses what =
     let got = subst (λ r. Queried t (get_device_descriptor 8) old r new)
-    (answered_ok stalled outcome bytes is) asked in
+    (answered_ok stalled is) asked in
     inr (record {
       bytes = bytes.items;
-      read = was_read stalled bytes is asked;
+      read = was_read stalled is asked;
       same = same;
       answers = answered (BeginsWith said) t 8 bytes
           (λ s loud free allowed first. (
@@ -52,17 +52,17 @@ head_said t bytes before said stalled outcome old new same is asked addresses wh
           stalled outcome old new is asked.ends addresses what;
     })
 
-pub whole_said : (t : Target) (bytes : Vec ℕ) (before said : List ℕ) (stalled : Cause)
-    (outcome : Result (Vec ℕ) PipeFault) (old new : World) → said ≡ take 18 bytes.items
+pub whole_said : {t : Target} {bytes : Vec ℕ} {before said : List ℕ} (stalled : Cause)
+    {outcome : Result (Vec ℕ) PipeFault} {old new : World} → said ≡ take 18 bytes.items
     → Ok bytes ≡ answered_or stalled outcome
     → Queried t (get_device_descriptor 18) old outcome new
     → KeepsAnswered t.addr old outcome new
     → (new.shared ≡ false → EachWas (DeviceAsked t 18 outcome) old new)
     → Answers (AtMaximum t (BeginsWith said)) t 18 before said old new
-whole_said t bytes before said stalled outcome old new same is asked addresses what =
+whole_said {t} {bytes} {said} stalled {outcome} {old} {new} same is asked addresses what =
     inr (record {
       bytes = bytes.items;
-      read = was_read stalled bytes is asked;
+      read = was_read stalled is asked;
       same = same;
       answers = answered (AtMaximum t (BeginsWith said)) t 18 bytes
           (λ s loud free allowed first max. (
@@ -75,7 +75,7 @@ whole_said t bytes before said stalled outcome old new same is asked addresses w
 
 -- Over steps
 
-module _ (port : HubPort) (address : ℕ) (before said : List ℕ) where
+module _ {port : HubPort} {address : ℕ} {before said : List ℕ} where
   -- what was said stays so
   pub said_on : {old mid new : World} → Says port address before said old mid → Leads mid new
       → Says port address before said old new
@@ -93,11 +93,11 @@ module _ (port : HubPort) (address : ℕ) (before said : List ℕ) where
   })
 
   -- what is said after other steps
-  pub said_after : (n : ℕ) {old mid new : World} {a b : Option (List ℕ)} → StepRun n old a mid b
+  pub said_after : {n : ℕ} {old mid new : World} {a b : Option (List ℕ)} → StepRun n old a mid b
       → Within port address old mid → Says port address before said mid new
       → Says port address before said old new
-  said_after n went within (inl same) = inl same
-  said_after n {old} {mid} {new} went within (inr w) = inr (record {
+  said_after went within (inl same) = inl same
+  said_after {n} {old} {mid} went within (inr w) = inr (record {
     target = w.target;
     is = w.is;
     size = w.size;
@@ -113,22 +113,22 @@ module _ (port : HubPort) (address : ℕ) (before said : List ℕ) where
   })
 
   -- what was said earlier, or later
-  pub said_then : (earlier : List ℕ) {old new : World} → Says port address earlier before old new
+  pub said_then : {earlier : List ℕ} {old new : World} → Says port address earlier before old new
       → Says port address before said old new → Says port address earlier said old new
-  said_then earlier {old} {new} first (inl same) =
+  said_then {earlier} {old} {new} first (inl same) =
       subst (λ x. Says port address earlier x old new) (sym same) first
-  said_then earlier first (inr w) = inr w
+  said_then first (inr w) = inr w
 
 -- Of the device at the port
 
 -- that awaits its address
-pub head_said_at : (port : HubPort) (address m n : ℕ) (t : Target) (before said : List ℕ)
+pub head_said_at : {port : HubPort} {address m n : ℕ} (t : Target) {before said : List ℕ}
     {old mid new : World} {a b c d : Option (List ℕ)} → IsSpokenTo port address t
     → StepRun m old a mid b → StepRun n mid c new d → Within port address old mid
     → KeepsAddresses mid new → Answers (BeginsWith said) t 8 before said mid new
     → Says port address before said old new
-head_said_at port address m n t before said is first next within keeps (inl same) = inl same
-head_said_at port address m n t before said {old} {mid} {new} is first next within keeps (inr a) =
+head_said_at t is first next within keeps (inl same) = inl same
+head_said_at {port} {address} {n} t {said} {new} is first next within keeps (inr a) =
     inr (record {
       target = t;
       is = is;
@@ -146,8 +146,8 @@ head_said_at port address m n t before said {old} {mid} {new} is first next with
     })
 
 -- that has it
-pub whole_said_at : (port : HubPort) (address m n : ℕ) (target t : Target)
-    (before said : List ℕ) {old mid given new : World} {a b c d : Option (List ℕ)}
+pub whole_said_at : {port : HubPort} {address m n : ℕ} (target t : Target)
+    {before said : List ℕ} {old mid given new : World} {a b c d : Option (List ℕ)}
     → IsSpokenTo port address t → target.addr ≡ 0 → t ≡ record target { addr = address }
     → Finds (AwaitsAddress target) port address old mid
     → (given.shared ≡ false → EachWas (AddressAsked target address (Ok tt) mid given) mid given)
@@ -155,10 +155,9 @@ pub whole_said_at : (port : HubPort) (address m n : ℕ) (target t : Target)
     → KeepsAddresses given new
     → Answers (AtMaximum t (BeginsWith said)) t 18 before said given new
     → Says port address before said old new
-whole_said_at port address m n target t before said is none same unnamed asked first within next
-    keeps (inl e) = inl e
-whole_said_at port address m n target t before said {old} {mid} {given} {new} is none same unnamed
-    asked first within next keeps (inr a) =
+whole_said_at target t is none same unnamed asked first within next keeps (inl e) = inl e
+whole_said_at {port} {address} {n} target t {said} {new} is none same unnamed asked first within
+    next keeps (inr a) =
     inr (record {
       target = t;
       is = is;
@@ -168,17 +167,17 @@ whole_said_at port address m n target t before said {old} {mid} {given} {new} is
       read = reading_after (leads_went first) a.read;
       same = a.same;
       own = spoken_finds (AtMaximum t (BeginsWith said)) (λ s. BeginsWith said s.spec) target t port
-          address n none same (λ s g read. read.0 (head_packet s.spec t.low t.max g.speed g.head))
-          unnamed asked within a.answers next keeps;
+          address n none same (λ s g read. read.0 (head_packet g.speed g.head)) unnamed asked within
+          a.answers next keeps;
       led = leads_none new;
     })
 
 -- Of what was found
 
-pub said_found : (port : HubPort) (addresses : Addresses) (said : List ℕ) (old new : World)
+pub said_found : {port : HubPort} (addresses : Addresses) {said : List ℕ} {old new : World}
     (result : Result Finding EnumFault) → IfOk result (λ finding. IsSaidWhole finding said)
     → (address : ℕ) × (((address ≡ 0) ⊎ IsFree addresses address)
     × Says port address [] said old new) → IfOk result (IsSaid port addresses said old new)
-said_found port addresses said old new (Ok finding) whole read =
+said_found addresses (Ok finding) whole read =
     record { whole = whole; read = read }
-said_found port addresses said old new (Err fault) whole read = tt
+said_found addresses (Err fault) whole read = tt

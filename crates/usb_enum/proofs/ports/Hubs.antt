@@ -59,13 +59,13 @@ told_of_hub wide tier bytes (Refused why) t text old new fits is (inr b) =
 told_of_hub wide tier bytes (Fault fault) t text old new fits is told = told
 
 -- the descriptor that a hub told
-pub count_told : (wide : Bool) (hub : Target) (stalled : Cause) (outcome : Result (Vec ℕ) PipeFault)
-    (bytes : Vec ℕ) (view : List ℕ) (old new : World) → Ok bytes ≡ answered_or stalled outcome
+pub count_told : (wide : Bool) {hub : Target} (stalled : Cause) {outcome : Result (Vec ℕ) PipeFault}
+    {bytes : Vec ℕ} {view : List ℕ} {old new : World} → Ok bytes ≡ answered_or stalled outcome
     → Queried hub get_hub_descriptor old outcome new → Ok view ≡ hub_spelled wide bytes.items
     → view ≡ bytes.items → CountTold hub old new (port_count view)
-count_told wide hub stalled outcome bytes view old new answered asked good same = record {
+count_told wide stalled {bytes} answered asked good same = record {
   bytes = bytes;
-  asked = rw (answered_ok stalled outcome bytes answered) at asked;
+  asked = rw (answered_ok stalled answered) at asked;
   good = hub_spelled-wide wide bytes.items (sym good ∙ ap Ok same);
   said = ap port_count same;
 }
@@ -77,7 +77,7 @@ pub powered_by : (hub : Target) (port : ℕ) (old new : World) (outcome : Result
     → IfOk result (λ _. IsPowered hub port old new)
 powered_by hub port old new outcome (Ok done) is ordered =
     subst (λ r. Commanded hub (set_port_feature PORT_POWER port) old r new)
-    (answered_ok cause.BadHub outcome tt is) ordered
+    (answered_ok cause.BadHub is) ordered
 powered_by hub port old new outcome (Err stop) is ordered = tt
 
 -- one port more

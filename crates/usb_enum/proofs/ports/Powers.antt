@@ -107,7 +107,7 @@ port_within (Some hub) g i h = within (split (not (g.configuration == 0)) (nat_l
 -- a port that is known as empty, and of which nothing is asked
 pub vacant_on : (p : List ℕ) {old new : World} → Course (LeavesPortAlone p) old new
     → IsKnownAs old p None → IsKnownAs new p None
-vacant_on p {old} {new} c (inl x) = inl (pending_persists p (course_wider (λ s w k. k.spares) c) x)
+vacant_on p c (inl x) = inl (pending_persists p (course_wider (λ s w k. k.spares) c) x)
 vacant_on p {old} {new} c (inr x) = elim (rests_or_pends p c x.0) [
   | inl y ↦ inr (y.0, spec_of-none (state_there new.roots p) (state_there old.roots p) y.1.what x.1)
   | inr y ↦ inl y
@@ -298,7 +298,7 @@ pub empties_ports : (t : Target) (value l m : ℕ) (told : Option HubFacts)
     → KeepsAddresses given set
     → ((facts : HubFacts) → told ≡ Some facts → Started t set started facts) → OnlyAsks started new
     → EmptiesPorts t.addr told before new
-empties_ports t value l m told outcome {before} {given} {set} {started} {new} went_given asks_given
+empties_ports t value l m told outcome {given} {set} went_given asks_given
     went_set done ordered what keeps starts asks = record {
       empty = configured_below t value l m told went_given asks_given.addresses went_set
           (subst (λ r. Commanded t (set_configuration value) given r set) done ordered)

@@ -2,14 +2,13 @@
 -- the one that the device finds by its value.
 use Rattle.std.proofs.Common.{◌≡◌, ◌∙◌, refl, sym, ap, subst, arith, Bool, true, false, ℕ, zero}
 use Rattle.std.proofs.Common.{suc, ◌<◌, ◌≤◌, ◌==◌, ◌&&◌, not, if◌then◌else◌, List, [], ◌∷◌, length}
-use Rattle.std.proofs.Common.{take, map, Option, None, Some, Result, Ok, Err, is_ok}
-use Rattle.std.proofs.Common.{nat_lt, nat_le, slice_get, slice_index, slice_index_or}
+use Rattle.std.proofs.Common.{take, map, Option, None, Some, Result, Ok, Err, is_ok, nat_lt, nat_le}
+use Rattle.std.proofs.Common.{slice_get, slice_index, slice_index_or}
 use Rattle.std.proofs.lemmas.List.{length-map}
 use Rattle.std.proofs.lemmas.List.Quantifiers.{position-Some}
 use Rattle.std.proofs.lemmas.Option.{same_Some}
 use Rattle.usb_descriptor.specs.{configuration_value, device_head_of, configuration_count}
-use Rattle.usb_device.specs.{text_with}
-use Rattle.usb_device.specs.{has_value as carries, Spec}
+use Rattle.usb_device.specs.{text_with, has_value as carries, Spec}
 use Rattle.usb_tree.proofs.Interface.{and_false, neither, same_equal}
 use Rattle.usb_enum.specs.{Cause, Silent, Busy, Stalled, BadDevice, TooDeep, BadHub, verdict}
 use Rattle.usb_enum.specs.{read_verdict, set_verdict, first_fault, texts_below, texts_of, text_read}

@@ -38,7 +38,7 @@ module _ (So : Spec → Type 0) (t : Target) (n : ℕ) (bytes : Vec ℕ)
       → KeepsAnswered t.addr old outcome new
       → (new.shared ≡ false → EachWas (DeviceAsked t n outcome) old new) → AnswersSo So t old new
   answered stalled outcome old new e ends addresses what =
-      let is = answered_ok stalled outcome bytes e in
+      let is = answered_ok stalled e in
       let keeps = subst (λ r. KeepsAnswered t.addr old r new) is addresses in
       let asked = subst (λ r. new.shared ≡ false → EachWas (DeviceAsked t n r) old new) is what in
       record {
@@ -48,13 +48,13 @@ module _ (So : Spec → Type 0) (t : Target) (n : ℕ) (bytes : Vec ℕ)
             new (asked single);
       }
 
-pub head_answered : (t : Target) (max : ℕ) (bytes : Vec ℕ) (stalled : Cause)
-    (outcome : Result (Vec ℕ) PipeFault) (old new : World) → Ok bytes ≡ answered_or stalled outcome
+pub head_answered : {t : Target} {max : ℕ} {bytes : Vec ℕ} (stalled : Cause)
+    {outcome : Result (Vec ℕ) PipeFault} {old new : World} → Ok bytes ≡ answered_or stalled outcome
     → device_head_of t.low bytes.items ≡ Ok max
     → EndsAfter 3 old outcome new → KeepsAnswered t.addr old outcome new
     → (new.shared ≡ false → EachWas (DeviceAsked t 8 outcome) old new)
     → AnswersSo (HasHead t.low max) t old new
-head_answered t max bytes stalled outcome old new e good =
+head_answered {t} {max} {bytes} stalled {outcome} {old} {new} e good =
     answered (HasHead t.low max) t 8 bytes
     (λ s loud free device first. record {
       loud = loud;
@@ -89,9 +89,9 @@ own_maximum : (low : Bool) (m : ℕ) → is_max_packet low m ≡ true
 own_maximum true m h = grind (arith, nat_tests, h)
 own_maximum false m h = full_maximum m (m == 16 || m == 32 || m == 64) refl h
 
-pub head_packet : (spec : Spec) (low : Bool) (max : ℕ) → spec.low ≡ low → HasHead low max spec
+pub head_packet : {spec : Spec} {low : Bool} {max : ℕ} → spec.low ≡ low → HasHead low max spec
     → max_packet spec ≡ max
-head_packet spec low max same head =
+head_packet {spec} {low} {max} same head =
     let m = slice_index spec.descriptor 7 in
     let there : slice_index (take 8 spec.descriptor) 7 ≡ m =
     get_or-take 8 spec.descriptor 7 0 (omega arith) in

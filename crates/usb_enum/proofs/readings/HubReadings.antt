@@ -16,7 +16,7 @@ use Rattle.usb_tree.proofs.Interface.{equal_same}
 use Rattle.usb_transaction.specs.{Target}
 use Rattle.usb_bus.specs.{StepRun}
 use Rattle.usb_pipe.specs.{PipeFault}
-use Rattle.usb_hub.specs.{DeviceStatus, KeepsDevices, hub_given, status_given, HubAsked}
+use Rattle.usb_hub.specs.{DeviceStatus, KeepsDevices, hub_given, HubAsked}
 use Rattle.usb_hub.specs.{StatusAsked}
 use Rattle.usb_enum.specs.{Cause, gives_hub, facts_of, is_hub_device, DeviceFact, AtMaximum, Ruled}
 use Rattle.usb_enum.specs.{HasPorts, HasSupply, IsGoodHub, holds_changes, answered_or}
@@ -24,15 +24,15 @@ use Rattle.usb_enum.proofs.refusals.Refusals.{answered_ok}
 use Rattle.usb_enum.proofs.readings.Readings.{given_allows, answer_learned, text_learned, learns_on}
 use Rattle.usb_enum.proofs.readings.Readings.{learns_kept}
 
-pub ports_learned : (wide : Bool) (t : Target) (stalled : Cause)
-    (outcome : Result (Vec ℕ) PipeFault)
-    (bytes : Vec ℕ) (hub : List ℕ) (old new : World) → Ok bytes ≡ answered_or stalled outcome
+pub ports_learned : {wide : Bool} {t : Target} (stalled : Cause)
+    {outcome : Result (Vec ℕ) PipeFault}
+    {bytes : Vec ℕ} {hub : List ℕ} {old : World} (new : World)
+    → Ok bytes ≡ answered_or stalled outcome
     → Ok hub ≡ hub_spelled wide bytes.items → hub ≡ bytes.items
     → (new.shared ≡ false → EachWas (HubAsked t outcome) old new)
     → DeviceFact (AtMaximum t (HasPorts wide (port_count hub))) t old new
-ports_learned wide t stalled outcome bytes hub old new answered good same =
-    text_learned hub_given (HasPorts wide (port_count hub)) t 9 outcome bytes old new
-    (answered_ok stalled outcome bytes answered)
+ports_learned {wide} stalled new answered good same what =
+    text_learned hub_given new (answered_ok stalled answered) what
     (λ spec text given first. record {
       text = text;
       given = given;
@@ -40,14 +40,12 @@ ports_learned wide t stalled outcome bytes hub old new answered good same =
       said = ap port_count (same ∙ first);
     })
 
-pub supply_learned : (t : Target) (stalled : Cause) (outcome : Result DeviceStatus PipeFault)
-    (status : DeviceStatus) (old new : World) → Ok status ≡ answered_or stalled outcome
+pub supply_learned : {t : Target} (stalled : Cause) {outcome : Result DeviceStatus PipeFault}
+    {status : DeviceStatus} {old : World} (new : World) → Ok status ≡ answered_or stalled outcome
     → (new.shared ≡ false → EachWas (StatusAsked t outcome) old new)
     → DeviceFact (HasSupply (supply_of false status.self_powered)) t old new
-supply_learned t stalled outcome status old new answered =
-    answer_learned status_given (λ s given. status_given s.spec ≡ Some given) t outcome old new
-    (HasSupply (supply_of false status.self_powered)) status
-    (answered_ok stalled outcome status answered)
+supply_learned stalled {status} new answered what =
+    answer_learned new (answered_ok stalled answered) what
     (λ s is. let given = given_allows s.spec.stalls.status _ status is in
     record {
       given = given.0;
@@ -145,7 +143,5 @@ pub hub_learned : (wide : Bool) (t : Target) (text : List ℕ) (ports supply m n
 hub_learned wide t text ports supply m n old a b new endpoint counted wa supplied wb keeps =
     let Facts : Spec → Type 0 = AtMaximum t
     (Ruled (IsGoodHub wide text (record { ports = ports; supply = supply }))) in
-    learns_kept Facts t n old b new
-    (learns_on (AtMaximum t (HasPorts wide ports)) (HasSupply supply) Facts t m old a b
-    (λ spec p s max ruled. is_good_hub_read wide text ports supply spec endpoint (p max) s ruled)
-    counted wa supplied) wb keeps
+    learns_kept (learns_on counted wa supplied (λ spec p s max ruled.
+    is_good_hub_read wide text ports supply spec endpoint (p max) s ruled)) wb keeps

@@ -14,7 +14,7 @@ use Rattle.usb_transaction.specs.{Target}
 use Rattle.usb_bus.specs.{StepRun}
 use Rattle.usb_pipe.specs.{PipeFault}
 use Rattle.usb_pipe.specs.declared.fault.PipeFault.TheVariants.{Stalled}
-use Rattle.usb_hub.specs.{StaysAs, KeepsDevices, unless_refused, config_given, HasText, ReadAsked}
+use Rattle.usb_hub.specs.{StaysAs, KeepsDevices, unless_refused, config_given, ReadAsked}
 use Rattle.usb_hub.specs.{TextAsked, ConfigAsked}
 use Rattle.usb_hub.proofs.Interface.{stays-registers, stays-spec, stays_joined}
 use Rattle.usb_enum.specs.{Cause, text_read, is_good_text, texts_below, config_fault, first_fault}
@@ -27,16 +27,16 @@ use Rattle.usb_enum.proofs.readings.TextBytes.{left_said}
 use Rattle.usb_enum.proofs.verdicts.VerdictRows.{first_none}
 
 -- where nothing went, what is so of every description
-pub learns_none : (So : Spec → Type 0) (t : Target) (w : World) → ((spec : Spec) → So spec)
+pub learns_none : {So : Spec → Type 0} {t : Target} {w : World} → ((spec : Spec) → So spec)
     → DeviceFact So t w w
-learns_none So t w all single = each_none (Learned So t)
+learns_none {So} {t} {w} all single = each_none (Learned So t)
     (λ j s. record { frame = refl; so = λ at. all s.spec }) w
 
 -- what is learned before a call and in it
-pub learns_on : (A B C : Spec → Type 0) (t : Target) (n : ℕ) (old mid new : World)
-    {r s : Option (List ℕ)} → ((spec : Spec) → A spec → B spec → C spec) → DeviceFact A t old mid
-    → StepRun n mid r new s → DeviceFact B t mid new → DeviceFact C t old new
-learns_on A B C t n old mid new f a went b single =
+pub learns_on : {A B C : Spec → Type 0} {t : Target} {n : ℕ} {old mid new : World}
+    {r s : Option (List ℕ)} → DeviceFact A t old mid → StepRun n mid r new s
+    → DeviceFact B t mid new → ((spec : Spec) → A spec → B spec → C spec) → DeviceFact C t old new
+learns_on {A} {B} {C} {t} {n} {old} {mid} {new} a went b f single =
     each_joined (Learned A t) (Learned B t) (Learned C t)
     (λ j s u v x y. record {
       frame = stays_joined j s u v x.frame y.frame;
@@ -54,56 +54,53 @@ devices_then n old mid new a went b = record {
       (a.stays (went_unshared n mid new went single)) (b.stays single);
 }
 
-pub learns_kept : (So : Spec → Type 0) (t : Target) (n : ℕ) (old mid new : World)
+pub learns_kept : {So : Spec → Type 0} {t : Target} {n : ℕ} {old mid new : World}
     {r s : Option (List ℕ)} → DeviceFact So t old mid → StepRun n mid r new s → KeepsDevices mid new
     → DeviceFact So t old new
-learns_kept So t n old mid new a went keeps single =
+learns_kept {So} {t} {n} {old} {mid} {new} a went keeps single =
     each_joined (Learned So t) StaysAs (Learned So t)
     (λ j s u v x y. record { frame = stays_joined j s u v x.frame y; so = x.so }) old mid new
     (a (went_unshared n mid new went single)) (keeps.stays single)
 
-module _ {A X : Type 0} (given : Spec → Option X) (Has : State → A → Type 0) (t : Target)
-    (outcome : Result A PipeFault) (old new : World) where
+module _ {A X : Type 0} {given : Spec → Option X} {Has : State → A → Type 0} {t : Target}
+    {outcome : Result A PipeFault} {old : World} (new : World) where
   -- by an answer
-  pub answer_learned : (So : Spec → Type 0) (answer : A) → outcome ≡ Ok answer
-      → ((s : State) → Has s answer → So s.spec)
+  pub answer_learned : {So : Spec → Type 0} {answer : A} → outcome ≡ Ok answer
       → (new.shared ≡ false → EachWas (ReadAsked given Has t outcome) old new)
-      → DeviceFact So t old new
-  answer_learned So answer is f what single =
+      → ((s : State) → Has s answer → So s.spec) → DeviceFact So t old new
+  answer_learned {So} {answer} is what f single =
       each_wider (ReadAsked given Has t outcome) (Learned So t)
       (λ j s v x. record { frame = x.frame; so = λ at. f s (x.done at answer is) })
       old new (what single)
 
   -- by a refusal
-  pub refusal_learned : (So : Spec → Type 0) → outcome ≡ Err Stalled
-      → ((spec : Spec) → given spec ≡ None → So spec)
+  pub refusal_learned : {So : Spec → Type 0} → outcome ≡ Err Stalled
       → (new.shared ≡ false → EachWas (ReadAsked given Has t outcome) old new)
-      → DeviceFact So t old new
-  refusal_learned So is f what single =
+      → ((spec : Spec) → given spec ≡ None → So spec) → DeviceFact So t old new
+  refusal_learned {So} is what f single =
       each_wider (ReadAsked given Has t outcome) (Learned So t)
       (λ j s v x. record { frame = x.frame; so = λ at. f s.spec (x.stalled at is) })
       old new (what single)
 
 -- by a text, at the device's maximum packet
-pub text_learned : (given : Spec → Option (List ℕ)) (So : Spec → Type 0) (t : Target) (wanted : ℕ)
-    (outcome : Result (Vec ℕ) PipeFault) (bytes : Vec ℕ) (old new : World) → outcome ≡ Ok bytes
+pub text_learned : (given : Spec → Option (List ℕ)) {So : Spec → Type 0} {t : Target} {wanted : ℕ}
+    {outcome : Result (Vec ℕ) PipeFault} {bytes : Vec ℕ} {old : World} (new : World)
+    → outcome ≡ Ok bytes
+    → (new.shared ≡ false → EachWas (TextAsked given t wanted outcome) old new)
     → ((spec : Spec) (text : List ℕ) → given spec ≡ Some text → bytes.items ≡ take wanted text
-    → So spec) → (new.shared ≡ false → EachWas (TextAsked given t wanted outcome) old new)
-    → DeviceFact (AtMaximum t So) t old new
-text_learned given So t wanted outcome bytes old new is f =
-    answer_learned given (λ s b. HasText (given s.spec) t wanted s b.items) t outcome old new
-    (AtMaximum t So) bytes is (λ s has max. f s.spec has.text has.is (has.first (inl max)))
+    → So spec) → DeviceFact (AtMaximum t So) t old new
+text_learned given new is what f =
+    answer_learned new is what (λ s has max. f s.spec has.text has.is (has.first (inl max)))
 
 -- Configurations
 
-pub total_learned : (t : Target) (stalled : Cause) (index total : ℕ)
-    (outcome : Result (Vec ℕ) PipeFault) (bytes : Vec ℕ) (old new : World)
+pub total_learned : {t : Target} (stalled : Cause) {index total : ℕ}
+    {outcome : Result (Vec ℕ) PipeFault} {bytes : Vec ℕ} {old : World} (new : World)
     → Ok bytes ≡ answered_or stalled outcome → config_head_of bytes.items ≡ Ok total
     → (new.shared ≡ false → EachWas (ConfigAsked t index 9 outcome) old new)
     → DeviceFact (AtMaximum t (HasTotal index total)) t old new
-total_learned t stalled index total outcome bytes old new answered head =
-    text_learned (config_given index) (HasTotal index total) t 9 outcome bytes old new
-    (answered_ok stalled outcome bytes answered)
+total_learned stalled {index} new answered head what =
+    text_learned (config_given index) new (answered_ok stalled answered) what
     (λ spec text given first. record {
       text = text;
       given = given;
@@ -145,23 +142,28 @@ pub record HasBytes (index total : ℕ) (bytes : List ℕ) (spec : Spec) : Type 
   pub given : config_given index spec ≡ Some text
   pub first : bytes ≡ take total text
 
-pub configuration_learned : (room : Option ℕ) (t : Target) (stalled : Cause) (index total n : ℕ)
-    (outcome : Result (Vec ℕ) PipeFault) (bytes : Vec ℕ) (text : List ℕ) (old mid new : World)
+pub bytes_learned : {t : Target} (stalled : Cause) {index total : ℕ}
+    {outcome : Result (Vec ℕ) PipeFault} {bytes : Vec ℕ} {old : World} (new : World)
+    → Ok bytes ≡ answered_or stalled outcome
+    → (new.shared ≡ false → EachWas (ConfigAsked t index total outcome) old new)
+    → DeviceFact (AtMaximum t (HasBytes index total bytes.items)) t old new
+bytes_learned stalled {index} new answered what =
+    text_learned (config_given index) new (answered_ok stalled answered) what
+    (λ spec whole given first. record { text = whole; given = given; first = first })
+
+pub configuration_learned : {room : Option ℕ} {t : Target} (stalled : Cause) {index total n : ℕ}
+    {outcome : Result (Vec ℕ) PipeFault} {bytes : Vec ℕ} {text : List ℕ} {old mid new : World}
     {r s : Option (List ℕ)} → is_over room total ≡ false
     → Ok bytes ≡ answered_or stalled outcome → Some text ≡ config_text_of bytes.items
     → DeviceFact (AtMaximum t (HasTotal index total)) t old mid → StepRun n mid r new s
     → (new.shared ≡ false → EachWas (ConfigAsked t index total outcome) mid new)
     → DeviceFact (AtMaximum t (HasConfiguration room index text)) t old new
-configuration_learned room t stalled index total n outcome bytes text old mid new fits answered good
-    head went what =
+configuration_learned {room} stalled {index} {total} {bytes} {text} {new} fits
+    answered good head went what =
     let Has : Spec → Type 0 = HasBytes index total bytes.items in
-    learns_on (AtMaximum t (HasTotal index total)) (AtMaximum t Has)
-    (AtMaximum t (HasConfiguration room index text)) t n old mid new
-    (λ spec h r max. configuration_of_total room index total bytes.items text (r max).text spec fits
-    (h max) (r max).given (r max).first good) head went
-    (text_learned (config_given index) Has t total outcome bytes mid new
-    (answered_ok stalled outcome bytes answered)
-    (λ spec whole given first. record { text = whole; given = given; first = first }) what)
+    learns_on head went (bytes_learned stalled new answered what) (λ spec h r max.
+    configuration_of_total room index total bytes.items text (r max).text spec fits (h max)
+    (r max).given (r max).first good)
 
 -- The texts of the configurations so far
 
@@ -217,16 +219,13 @@ configurations_more budget room count texts text spec left differs before now =
           ∙ mapped_more text_read spec.configs count now.text given.1);
     }
 
-pub configurations_learned : (budget room : Option ℕ) (t : Target) (count n : ℕ)
-    (texts : List (List ℕ)) (text : List ℕ) (old mid new : World) {r s : Option (List ℕ)}
+pub configurations_learned : {budget room : Option ℕ} {t : Target} {count n : ℕ}
+    {texts : List (List ℕ)} {text : List ℕ} {old mid new : World} {r s : Option (List ℕ)}
     → room ≡ left_of budget (texts_length texts)
     → any_has_value (configuration_value text) texts ≡ false
     → DeviceFact (AtMaximum t (HasConfigurations budget count texts)) t old mid
     → StepRun n mid r new s → DeviceFact (AtMaximum t (HasConfiguration room count text)) t mid new
     → DeviceFact (AtMaximum t (HasConfigurations budget (count + 1) (texts ++ text ∷ []))) t old new
-configurations_learned budget room t count n texts text old mid new left differs before went now =
-    learns_on (AtMaximum t (HasConfigurations budget count texts))
-    (AtMaximum t (HasConfiguration room count text))
-    (AtMaximum t (HasConfigurations budget (count + 1) (texts ++ text ∷ []))) t n old mid new
-    (λ spec b h max. configurations_more budget room count texts text spec left differs (b max)
-    (h max)) before went now
+configurations_learned {budget} {room} {count} {texts} {text} left differs before went now =
+    learns_on before went now (λ spec b h max.
+    configurations_more budget room count texts text spec left differs (b max) (h max))

@@ -57,22 +57,22 @@ learned_after A B t value j s u v a b = record {
 }
 
 -- it was read, and then it was configured
-pub set_learned : (A : Spec → Type 0) (t : Target) (value l : ℕ)
-    (outcome : Result (Unit {0}) PipeFault) (before given set : World) {b c : Option (List ℕ)}
+pub set_learned : {A : Spec → Type 0} {t : Target} {value l : ℕ}
+    {outcome : Result (Unit {0}) PipeFault} {before given set : World} {b c : Option (List ℕ)}
     → DeviceFact A t before given → StepRun l given b set c → outcome ≡ Ok tt
     → (set.shared ≡ false → EachWas (ConfigurationAsked t value outcome set) given set)
     → LearnsSet (Allowed A) t value before set
-set_learned A t value l outcome before given set read went done asked single =
+set_learned {A} {t} {value} {l} {before} {given} {set} read went done asked single =
     each_joined (Learned A t) (ConfigurationAsked t value (Ok tt) set)
     (LearnedSet (Allowed A) t value) (set_after A t value set) before given set
     (read (went_unshared l given set went single))
     (subst (λ r. EachWas (ConfigurationAsked t value r set) given set) done (asked single))
 
 -- and then more was learned
-pub set_then : (A B : Spec → Type 0) (t : Target) (value m : ℕ) (before set told : World)
+pub set_then : {A B : Spec → Type 0} {t : Target} {value m : ℕ} {before set told : World}
     {c d : Option (List ℕ)} → LearnsSet A t value before set → StepRun m set c told d
     → DeviceFact B t set told → LearnsSet (λ x. A x × B x) t value before told
-set_then A B t value m before set told a went b single =
+set_then {A} {B} {t} {value} {m} {before} {set} {told} a went b single =
     each_joined (LearnedSet A t value) (Learned B t) (LearnedSet (λ x. A x × B x) t value)
     (learned_after A B t value) before set told (a (went_unshared m set told went single))
     (b single)
@@ -94,8 +94,7 @@ pub listed_learns : (options : HostOptions) (t : Target) (bytes : List ℕ) (dev
     → DeviceFact (AtMaximum t (λ spec. device.strings ≡ strings_by spec indexes)) t told new
     → LearnsSet (AtMaximum t (HasReadings options bytes device)) t
     (configuration_value (configuration_of device)) before new
-listed_learns options t bytes device count value l m n text indexes outcome {before} {given} {set}
-    {told}
+listed_learns options t bytes device count value l m n text indexes outcome {before}
     {new} same_count configs went_set same_value done asked went_told same_text ports went
     same_indexes strings single =
     let Texts : Spec → Type 0 =
@@ -122,8 +121,6 @@ listed_learns options t bytes device count value l m n text indexes outcome {bef
             so.1 ∙ same_value,
             so.2,
           );
-    }) before new
-    (set_then (λ x. Allowed Texts x × Ports x) Named t value n before told new
-    (set_then (Allowed Texts) Ports t value m before set told
-    (set_learned Texts t value l outcome before given set configs went_set done asked) went_told
-    ports) went strings single)
+    }) before new (set_then
+    (set_then
+    (set_learned configs went_set done asked) went_told ports) went strings single)

@@ -1,7 +1,7 @@
 -- What is learned of a device's strings.
 use Rattle.std.proofs.Common.{◌≡◌, inl, inr, ℕ, ◌==◌, ◌||◌, not, false, if◌then◌else◌, List, take}
-use Rattle.std.proofs.Common.{Option, None, Some, is_some, option_map, option_and_then, Ok, refl}
-use Rattle.std.proofs.Common.{ap, sym, ◌∙◌, arith}
+use Rattle.std.proofs.Common.{Option, None, Some, is_some, option_map, option_and_then, refl, ap}
+use Rattle.std.proofs.Common.{sym, ◌∙◌, arith}
 use Rattle.std.specs.Global.{Vec}
 use Rattle.usb_device.specs.{Spec}
 use Rattle.usb_world.specs.{World}
@@ -11,11 +11,10 @@ use Rattle.usb_bus.specs.{StepRun}
 use Rattle.usb_pipe.specs.{PipeFault}
 use Rattle.usb_pipe.specs.declared.fault.PipeFault.TheVariants as pipe
 use Rattle.usb_hub.specs.{string_given}
-use Rattle.usb_enum.specs.{StringIndexes, Strings, string_read, string_at, strings_by, OnlyAsks}
-use Rattle.usb_enum.specs.{DeviceFact, Answered, Ending, StopsRead, AtMaximum, HasString}
-use Rattle.usb_enum.specs.{bytes_given, language_of, string_in, no_strings, no_fault, stop_of}
-use Rattle.usb_enum.specs.{AsksLanguage, AsksString, ReadsString, named, string_units}
-use Rattle.usb_enum.specs.{first_language_of}
+use Rattle.usb_enum.specs.{StringIndexes, Strings, string_read, string_at, strings_by, DeviceFact}
+use Rattle.usb_enum.specs.{Answered, AtMaximum, HasString, bytes_given, language_of, string_in}
+use Rattle.usb_enum.specs.{no_strings, stop_of, AsksLanguage, AsksString, ReadsString, named}
+use Rattle.usb_enum.specs.{string_units, first_language_of}
 use Rattle.usb_enum.proofs.readings.LearnedFacts.{learns_wider}
 use Rattle.usb_enum.proofs.readings.Readings.{learns_none, learns_on}
 
@@ -36,43 +35,30 @@ nonzero index given = grind (arith, given)
 
 -- what is read of its bytes
 pub string_named : (t : Target) (index language : ℕ) (bytes : Option (Vec ℕ))
-    (string : Option (List ℕ)) {n : ℕ} {old new : World} {a b : Option (List ℕ)} → (index ≡ 0 → ⊥)
-    → string ≡ option_and_then string_units (bytes_given bytes) → Ending OnlyAsks n
-    (Answered t (AsksString t index language) (HasString index)) (StopsRead t no_fault) old a
-    (Ok bytes) new b → Ending OnlyAsks n
-    (Answered t (ReadsString t index language) (λ x spec. x ≡ string_in spec index))
-    (StopsRead t no_fault) old a (Ok string) new b
-string_named t index language bytes string {old = old} {new = new} is_named is read = record {
-  steps = read.steps;
-  ends = record {
-    told = named is_named bytes read.ends.told is;
-    so = learns_wider (AtMaximum t (HasString index bytes))
-        (AtMaximum t (λ spec. string ≡ string_in spec index)) t old new (λ spec has max. is ∙ ap
-        (option_and_then string_units) (has max) ∙ sym (ap
-        (λ b. if b then None else option_and_then string_units (string_read spec index))
-        (nonzero index is_named))) read.ends.so;
-  };
+    (string : Option (List ℕ)) {old new : World} → (index ≡ 0 → ⊥)
+    → string ≡ option_and_then string_units (bytes_given bytes)
+    → Answered t (AsksString t index language) (HasString index) old new bytes
+    → Answered t (ReadsString t index language) (λ x spec. x ≡ string_in spec index) old new string
+string_named t index language bytes string {new} is_named is read = record {
+  told = named is_named bytes read.told is;
+  so = learns_wider new read.so (λ spec has max. is ∙ ap
+      (option_and_then string_units) (has max) ∙ sym (ap
+      (λ b. if b then None else option_and_then string_units (string_read spec index))
+      (nonzero index is_named)));
 }
 
 pub unnamed_learned : (t : Target) (index : ℕ) (w : World) → index ≡ 0
     → DeviceFact (AtMaximum t (λ spec. None ≡ string_in spec index)) t w w
-unnamed_learned t index w unnamed = learns_none (AtMaximum t (λ spec. None ≡ string_in spec index))
-    t w (λ spec max. rw unnamed refl)
+unnamed_learned t index w unnamed = learns_none (λ spec max. rw unnamed refl)
 
-pub language_asked : (t : Target) (bytes : Option (Vec ℕ)) (language : Option ℕ) {n : ℕ}
-    {old new : World} {a b : Option (List ℕ)}
-    → language ≡ option_and_then first_language_of (bytes_given bytes) → Ending OnlyAsks n
-    (Answered t (AsksString t 0 0) (HasString 0)) (StopsRead t no_fault) old a (Ok bytes) new b
-    → Ending OnlyAsks n (Answered t (AsksLanguage t) (λ x spec. x ≡ language_of spec))
-    (StopsRead t no_fault) old a (Ok language) new b
-language_asked t bytes language {old = old} {new = new} is read = record {
-  steps = read.steps;
-  ends = record {
-    told = record { bytes = bytes; asked = read.ends.told; said = is };
-    so = learns_wider (AtMaximum t (HasString 0 bytes))
-        (AtMaximum t (λ spec. language ≡ language_of spec)) t old new
-        (λ spec has max. is ∙ ap (option_and_then first_language_of) (has max)) read.ends.so;
-  };
+pub language_asked : (t : Target) (bytes : Option (Vec ℕ)) (language : Option ℕ) {old new : World}
+    → language ≡ option_and_then first_language_of (bytes_given bytes)
+    → Answered t (AsksString t 0 0) (HasString 0) old new bytes
+    → Answered t (AsksLanguage t) (λ x spec. x ≡ language_of spec) old new language
+language_asked t bytes language {new} is read = record {
+  told = record { bytes = bytes; asked = read.told; said = is };
+  so = learns_wider new read.so
+      (λ spec has max. is ∙ ap (option_and_then first_language_of) (has max));
 }
 
 -- The strings that a descriptor names
@@ -107,19 +93,16 @@ pub unnamed_strings_learned : (t : Target) (indexes : StringIndexes) (w : World)
     → indexes.manufacturer ≡ 0 → indexes.product ≡ 0 → indexes.serial_number ≡ 0
     → DeviceFact (AtMaximum t (λ spec. no_strings ≡ strings_by spec indexes)) t w w
 unnamed_strings_learned t indexes w m p n =
-    learns_none (AtMaximum t (λ spec. no_strings ≡ strings_by spec indexes)) t w
-    (λ spec max. same_strings _ _ _ _ _ _ (sym (string_at-zero spec indexes.manufacturer m))
-    (sym (string_at-zero spec indexes.product p))
+    learns_none (λ spec max. same_strings _ _ _ _ _ _
+    (sym (string_at-zero spec indexes.manufacturer m)) (sym (string_at-zero spec indexes.product p))
     (sym (string_at-zero spec indexes.serial_number n)))
 
 -- where there is no language
 pub no_strings_learned : (t : Target) (indexes : StringIndexes) (old new : World)
     → DeviceFact (AtMaximum t (λ spec. None ≡ language_of spec)) t old new
     → DeviceFact (AtMaximum t (λ spec. no_strings ≡ strings_by spec indexes)) t old new
-no_strings_learned t indexes old new =
-    learns_wider (AtMaximum t (λ spec. None ≡ language_of spec))
-    (AtMaximum t (λ spec. no_strings ≡ strings_by spec indexes)) t old new
-    (λ spec none max. same_strings _ _ _ _ _ _
+no_strings_learned t indexes old new language =
+    learns_wider new language (λ spec none max. same_strings _ _ _ _ _ _
     (sym (string_at-no_language spec indexes.manufacturer (none max)))
     (sym (string_at-no_language spec indexes.product (none max)))
     (sym (string_at-no_language spec indexes.serial_number (none max))))
@@ -145,19 +128,9 @@ strings_learned t indexes language manufacturer product serial_number k m n old 
     let One : Spec → Type 0 = AtMaximum t (λ spec. manufacturer
     ≡ string_in spec indexes.manufacturer) in
     let Two : Spec → Type 0 = AtMaximum t (λ spec. product ≡ string_in spec indexes.product) in
-    let Three : Spec → Type 0 = AtMaximum t
-    (λ spec. serial_number ≡ string_in spec indexes.serial_number) in
-    let first = learns_on Said One (λ x. Said x × One x) t k old a b (λ x p q. (p, q)) said wa la in
-    let second = learns_on (λ x. Said x × One x) Two (λ x. Said x × One x × Two x) t m old b c
-    (λ x p q. (p.0, p.1, q)) first wb lb in
-    learns_on (λ x. Said x × One x × Two x) Three
-    (AtMaximum t (λ spec. record {
-      manufacturer = manufacturer;
-      product = product;
-      serial_number = serial_number;
-    } ≡ strings_by spec indexes)) t n old c new
-    (λ spec x y max. same_strings _ _ _ _ _ _
+    let first = learns_on {C = λ x. Said x × One x} said wa la (λ x p q. (p, q)) in
+    let second = learns_on {C = λ x. Said x × One x × Two x} first wb lb (λ x p q. (p.0, p.1, q)) in
+    learns_on second wc lc (λ spec x y max. same_strings _ _ _ _ _ _
     (x.1 max ∙ sym (at_language spec indexes.manufacturer language (x.0 max)))
     (x.2 max ∙ sym (at_language spec indexes.product language (x.0 max)))
     (y max ∙ sym (at_language spec indexes.serial_number language (x.0 max))))
-    second wc lc

@@ -62,15 +62,15 @@ text_there given t request wanted outcome bytes old new host is asked what singl
           a.at;
     }
 
-pub config_there : (t : Target) (stalled : Cause) (index wanted : ℕ)
-    (outcome : Result (Vec ℕ) PipeFault) (bytes : Vec ℕ) (old new : World)
+pub config_there : {t : Target} (stalled : Cause) (index wanted : ℕ)
+    {outcome : Result (Vec ℕ) PipeFault} {bytes : Vec ℕ} {old new : World}
     → Ok bytes ≡ answered_or stalled outcome
     → Queried t (get_configuration_descriptor index wanted) old outcome new
     → (new.shared ≡ false → EachWas (ConfigAsked t index wanted outcome) old new) → IsAnswered t new
 unfolding get_configuration_descriptor
-config_there t stalled index wanted outcome bytes old new answered asked what =
+config_there {t} stalled index wanted {outcome} {bytes} {old} {new} answered asked what =
     text_there (config_given index) t (get_configuration_descriptor index wanted) wanted outcome
-    bytes old new (omega arith) (answered_ok stalled outcome bytes answered) asked what
+    bytes old new (omega arith) (answered_ok stalled answered) asked what
 
 -- what was learned is so of whoever answered
 some_learned : (So : Spec → Type 0) (t : Target) (old new : World) → DeviceFact So t old new
@@ -97,10 +97,10 @@ not_ok (Ok x) P why same = absurd same
 not_ok (Err e) P why same = tt
 
 -- its head was not read
-pub head_unread : (t : Target) (index : ℕ) (old new : World) {a b : Option (List ℕ)}
-    (r : Result (List ℕ) Stop) (why : Stop) → IsErrAnd r (λ e. e ≡ why)
+pub head_unread : {t : Target} {index : ℕ} {old new : World} {a b : Option (List ℕ)}
+    {r : Result (List ℕ) Stop} (why : Stop) → IsErrAnd r (λ e. e ≡ why)
     → StepRun (read_bound 9) old a new b → ReadsText t index old r new
-head_unread t index old new r why same went =
+head_unread {r} why same went =
     record {
       total = 0;
       count = omega (arith, went.spends.most);
@@ -109,7 +109,7 @@ head_unread t index old new r why same went =
     }
 
 -- it was asked for after its head was read
-module _ (t : Target) (index total : ℕ) (old mid new : World) {a b c d : Option (List ℕ)}
+module _ {t : Target} {index total : ℕ} {old mid new : World} {a b c d : Option (List ℕ)}
     (wide : 8 ≤ t.max) (first : StepRun (read_bound 9) old a mid b)
     (second : StepRun (control_bound t.max total) mid c new d)
     (learned : DeviceFact (AtMaximum t (HasTotal index total)) t old mid) (there : IsAnswered t mid)
@@ -126,9 +126,9 @@ module _ (t : Target) (index total : ℕ) (old mid new : World) {a b c d : Optio
         let back = went_unshared (control_bound t.max total) mid new second single in
         some_learned (AtMaximum t (HasTotal index total)) t old mid learned back (there back)
 
-    pub text_unread : (r : Result (List ℕ) Stop) (why : Stop) → IsErrAnd r (λ e. e ≡ why)
+    pub text_unread : {r : Result (List ℕ) Stop} (why : Stop) → IsErrAnd r (λ e. e ≡ why)
         → ReadsText t index old r new
-    text_unread r why same = record {
+    text_unread {r} why same = record {
       total = total;
       count = counted;
       said = inr head_said;
@@ -142,8 +142,7 @@ module _ (t : Target) (index total : ℕ) (old mid new : World) {a b c d : Optio
       count = counted;
       said = inr head_said;
       read = (
-        learns_kept (AtMaximum t (HasTotal index total)) t (control_bound t.max total) old mid
-            new learned second keeps,
+        learns_kept learned second keeps,
         answered,
       );
     }
@@ -183,24 +182,21 @@ pub record TextsRead (t : Target) (n : ℕ) (old new : World) : Type 0 where
   pub said : ((n ≡ 0) × (bytes ≡ 0)) ⊎ (new.shared ≡ false
       → SomeAt (AtMaximum t (HasTotals n bytes)) t old)
 
-pub texts_none : (t : Target) (w : World) → TextsRead t 0 w w
-texts_none t w = record {
+pub texts_none : {t : Target} {w : World} → TextsRead t 0 w w
+texts_none = record {
   bytes = 0;
   count = omega arith;
-  learned = learns_none (AtMaximum t (HasTotals 0 0)) t w
-      (λ spec max. record { there = omega arith; sum = refl });
+  learned = learns_none (λ spec max. record { there = omega arith; sum = refl });
   said = inl (refl, refl);
 }
 
-pub texts_read_more : (t : Target) (n k : ℕ) (old mid new : World) {a b : Option (List ℕ)}
-    (text : List ℕ) → TextsRead t n old mid → StepRun k mid a new b
+pub texts_read_more : {t : Target} {n k : ℕ} {old mid new : World} {a b : Option (List ℕ)}
+    {text : List ℕ} → TextsRead t n old mid → StepRun k mid a new b
     → ReadsText t n mid (Ok text) new → TextsRead t (n + 1) old new
-texts_read_more t n k old mid new text before went now =
+texts_read_more {t} {n} {old} {new} before went now =
     let bytes = before.bytes + now.total in
-    let learned = learns_on (AtMaximum t (HasTotals n before.bytes))
-    (AtMaximum t (HasTotal n now.total)) (AtMaximum t (HasTotals (n + 1) bytes)) t k old mid new
-    (λ spec x y max. totals_more n before.bytes now.total spec (x max) (y max)) before.learned went
-    now.read.0 in
+    let learned = learns_on {C = AtMaximum t (HasTotals (n + 1) bytes)} before.learned went
+    now.read.0 (λ spec x y max. totals_more n before.bytes now.total spec (x max) (y max)) in
     record {
       bytes = bytes;
       count = omega (arith, before.count, now.count);
@@ -222,19 +218,19 @@ texts_within t n old new most before single each = elim before.said [
       ))
 ]
 
-pub texts_ended : (t : Target) (n : ℕ) (old new : World) → TextsRead t n old new
+pub texts_ended : {t : Target} {n : ℕ} {old new : World} → TextsRead t n old new
     → FewFor texts_bound t old new
-texts_ended t n old new read = record {
+texts_ended {t} {n} {old} {new} read = record {
   few = λ most single each.
       let within = texts_within t n old new most read single each in
       omega (arith, read.count, within.0, within.1);
 }
 
 -- whether the next one was read or not
-pub texts_failed : (t : Target) (n k : ℕ) (old mid new : World) {a b : Option (List ℕ)}
-    (r : Result (List ℕ) Stop) → TextsRead t n old mid → StepRun k mid a new b
+pub texts_failed : {t : Target} {n k : ℕ} {old mid new : World} {a b : Option (List ℕ)}
+    {r : Result (List ℕ) Stop} → TextsRead t n old mid → StepRun k mid a new b
     → ReadsText t n mid r new → FewFor texts_bound t old new
-texts_failed t n k old mid new r before went now =
+texts_failed {t} {n} {k} {old} {mid} {new} before went now =
     record {
       few = λ most single each.
           let back = went_unshared k mid new went single in
@@ -316,7 +312,7 @@ module _ (port : HubPort) (address m : ℕ) (device : Addressed) (old mid new : 
       let ruled : IsSpec s.spec = ruled_there mid.roots (path_to x) s
       (went_regular m old mid went regular taken.still).sane stands in
       record {
-        max = head_packet s.spec device.target.low device.target.max is.low is.head;
+        max = head_packet is.low is.head;
         few = ruled.configs;
         within = plugged_within most mid (plan_within_after most m old mid went taken.still
             (plan (went_sound m old mid went taken.still))) (path_to x) s stands;

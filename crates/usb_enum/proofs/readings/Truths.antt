@@ -132,7 +132,7 @@ accepted_own_device options tier supply addressed device j s v whole is learned 
     let target = addressed.target in
     let learned_of = learned.so (eq-eqb (address_of s) target.addr found.address) in
     let read : HasReadings options addressed.bytes device s.spec =
-    learned_of.0 (head_packet s.spec target.low target.max found.low found.head) in (
+    learned_of.0 (head_packet found.low found.head) in (
       subst (λ x. (verdict x options tier supply ≡ Ok device.chosen) × IsAs x device)
           (sym learned.spec)
           (own_finding options tier supply addressed device s ruled found is whole

@@ -11,7 +11,7 @@ use Rattle.usb_world.specs.{EachWas, World}
 use Rattle.usb_transaction.specs.{Target, NoThreeDamaged}
 use Rattle.usb_bus.specs.{StepRun}
 use Rattle.usb_pipe.specs.{PipeFault}
-use Rattle.usb_hub.specs.{unless_refused, config_given, HasText, ConfigAsked, ReadFailure}
+use Rattle.usb_hub.specs.{unless_refused, config_given, ConfigAsked, ReadFailure}
 use Rattle.usb_enum.specs.{Cause, Stalled, BadConfiguration, Stop, text_read, is_good_text}
 use Rattle.usb_enum.specs.{texts_below, text_fault, config_fault, first_fault, DeviceFact}
 use Rattle.usb_enum.specs.{FailureReason, AtMaximum, HasTotal, HasConfiguration, HasConfigurations}
@@ -19,10 +19,12 @@ use Rattle.usb_enum.specs.{Refuses, TooLarge, answered_or, config_text_of, any_h
 use Rattle.usb_enum.specs.{left_of, texts_length}
 use Rattle.usb_enum.specs.declared.cause.Request.TheVariants as request
 use Rattle.usb_enum.specs.declared.stop.Stop.TheVariants.{Refused, Fault}
-use Rattle.usb_enum.proofs.readings.Readings.{HasBytes, given_allows, learns_on, text_learned}
+use Rattle.usb_enum.proofs.readings.Readings.{HasBytes, bytes_learned, given_allows, learns_on}
+use Rattle.usb_enum.proofs.readings.Readings.{text_learned}
 use Rattle.usb_enum.proofs.readings.TextBytes.{left_said, over_none}
 use Rattle.usb_tree.proofs.Interface.{decided}
 use Rattle.usb_enum.proofs.refusals.Refusals.{answered_ok, learned_explains, request_refused}
+use Rattle.usb_enum.proofs.refusals.Refusals.{wrong_refuses}
 use Rattle.usb_enum.proofs.verdicts.VerdictRows.{first_fault-next}
 
 -- One configuration
@@ -84,54 +86,43 @@ module _ (room : Option ℕ) (spec : Spec) (index : ℕ) (text : List ℕ)
         config_bad (ap (λ b. b && not (any_has_value (configuration_value (text_read text))
         (texts_below spec index))) good ∙ ap not again)
 
-abbrev pub IsBad : Option ℕ → Target → ℕ → Spec → Type 0
-IsBad room t index =
-    AtMaximum t (λ spec. config_fault room spec index ≡ Some (BadConfiguration index))
-
 -- a request for one failed
-pub config_refused : (room : Option ℕ) (t : Target) (index wanted : ℕ)
-    (outcome : Result (Vec ℕ) PipeFault)
-    (stop : Stop) (old new : World) → Err stop ≡ answered_or (Stalled request.Config) outcome
+pub config_refused : (room : Option ℕ) {t : Target} (index : ℕ) {wanted : ℕ}
+    {outcome : Result (Vec ℕ) PipeFault}
+    {stop : Stop} {old : World} (new : World)
+    → Err stop ≡ answered_or (Stalled request.Config) outcome
     → 8 ≤ t.max → (new.shared ≡ false → EachWas (ConfigAsked t index wanted outcome) old new)
     → (NoThreeDamaged old → 8 ≤ t.max → new.shared ≡ false
     → EachWas (ReadFailure t wanted outcome) old new)
     → FailureReason (Refuses t (λ spec. config_fault room spec index) stop) t old new
-config_refused room t index wanted outcome stop old new is least what why =
-    request_refused (config_given index) (λ s bytes. HasText (config_given index s.spec) t wanted s
-    bytes.items) t wanted outcome old new what least why
-    (λ spec. config_fault room spec index) (Stalled request.Config) stop is
-    (λ spec none. config_ungiven room spec index none)
+config_refused room index {stop} new is least what why =
+    request_refused new what least why (λ spec. config_fault room spec index)
+    (Stalled request.Config) stop is (λ spec none. config_ungiven room spec index none)
 
 -- its head is malformed
-pub total_refused : (room : Option ℕ) (t : Target) (stalled : Cause) (index : ℕ)
-    (outcome : Result (Vec ℕ) PipeFault) (bytes : Vec ℕ) (fault : DescriptorFault) (old new : World)
+pub total_refused : (room : Option ℕ) {t : Target} (stalled : Cause) {index : ℕ}
+    {outcome : Result (Vec ℕ) PipeFault} {bytes : Vec ℕ} {fault : DescriptorFault} {old : World}
+    (new : World)
     → Ok bytes ≡ answered_or stalled outcome → config_head_of bytes.items ≡ Err fault
     → (new.shared ≡ false → EachWas (ConfigAsked t index 9 outcome) old new)
     → FailureReason (Refuses t (λ spec. config_fault room spec index)
     (Refused (BadConfiguration index))) t old new
 unfolding said_length
-total_refused room t stalled index outcome bytes fault old new answered head what =
-    learned_explains (IsBad room t index) (Refuses t (λ spec. config_fault room spec index)
-    (Refused (BadConfiguration index))) t old new (λ spec bad r. bad r.max)
-    (text_learned (config_given index) (λ spec. config_fault room spec index
-    ≡ Some (BadConfiguration index)) t 9 outcome bytes old new
-    (answered_ok stalled outcome bytes answered)
-    (λ spec text given first.
+total_refused room stalled {index} new answered head what =
+    wrong_refuses (λ spec. config_fault room spec index) new (text_learned (config_given index) new
+    (answered_ok stalled answered) what (λ spec text given first.
     let bad = ap config_head_of (sym first) ∙ head in
     config_malformed room spec index text given
     (ap (λ r. is_over room (total_in r)) bad ∙ over_none room)
-    (ap (λ b. b && is_ok (config_of (text_read text))) (ap is_ok bad)))
-    what)
+    (ap (λ b. b && is_ok (config_of (text_read text))) (ap is_ok bad))))
 
 -- it says more bytes than are left
-pub total_large : (room : Option ℕ) (t : Target) (index total : ℕ) (old new : World)
+pub total_large : (room : Option ℕ) {t : Target} {index total : ℕ} {old : World} (new : World)
     → is_over room total ≡ true → DeviceFact (AtMaximum t (HasTotal index total)) t old new
     → FailureReason (Refuses t (λ spec. config_fault room spec index) (Refused TooLarge)) t old new
 unfolding said_length
-total_large room t index total old new over =
-    learned_explains (AtMaximum t (HasTotal index total))
-    (Refuses t (λ spec. config_fault room spec index) (Refused TooLarge)) t old new
-    (λ spec has r.
+total_large room {index} new over learned =
+    learned_explains new learned (λ spec has r.
     let head = has r.max in
     config_large room spec index head.text head.given
     (ap (λ x. is_over room (total_in x)) head.head ∙ over))
@@ -158,25 +149,19 @@ text_malformed room index total bytes spec fits head start none =
     (ap (λ b. b && is_ok (config_of (text_read head.text))) (ap is_ok head.head)
     ∙ ap (λ b. is_ok (config_of b)) (sym read) ∙ bad_bytes bytes none)
 
-pub text_refused : (room : Option ℕ) (t : Target) (stalled : Cause) (index total n : ℕ)
-    (outcome : Result (Vec ℕ) PipeFault) (bytes : Vec ℕ) (old mid new : World)
+pub text_refused : (room : Option ℕ) {t : Target} (stalled : Cause) {index total n : ℕ}
+    {outcome : Result (Vec ℕ) PipeFault} {bytes : Vec ℕ} {old mid new : World}
     {r s : Option (List ℕ)} → is_over room total ≡ false
     → Ok bytes ≡ answered_or stalled outcome → config_text_of bytes.items ≡ None
     → DeviceFact (AtMaximum t (HasTotal index total)) t old mid → StepRun n mid r new s
     → (new.shared ≡ false → EachWas (ConfigAsked t index total outcome) mid new)
     → FailureReason (Refuses t (λ spec. config_fault room spec index)
     (Refused (BadConfiguration index))) t old new
-text_refused room t stalled index total n outcome bytes old mid new fits answered none head went
-    what =
-    learned_explains (IsBad room t index) (Refuses t (λ spec. config_fault room spec index)
-    (Refused (BadConfiguration index))) t old new (λ spec bad r. bad r.max)
-    (learns_on (AtMaximum t (HasTotal index total)) (AtMaximum t (HasBytes index total bytes.items))
-    (IsBad room t index) t n old mid new
-    (λ spec h s max. text_malformed room index total bytes.items spec fits (h max) (s max) none)
-    head went
-    (text_learned (config_given index) (HasBytes index total bytes.items) t total outcome bytes mid
-    new (answered_ok stalled outcome bytes answered)
-    (λ spec whole given first. record { text = whole; given = given; first = first }) what))
+text_refused room stalled {index} {total} {bytes} {new} fits answered none head
+    went what =
+    wrong_refuses (λ spec. config_fault room spec index) new
+    (learns_on head went (bytes_learned stalled new answered what)
+    (λ spec h s max. text_malformed room index total bytes.items spec fits (h max) (s max) none))
 
 -- The first bad one
 
@@ -210,11 +195,5 @@ module _ (t : Target) (budget room : Option ℕ) (i count : ℕ) (texts : List (
       → FailureReason (Refuses t (λ spec. first_fault budget spec count)
       (Refused (BadConfiguration i))) t old new
   repeated_refused n text old mid new again before went now =
-      let First : Spec → Type 0 = AtMaximum t (λ spec. first_fault budget spec count
-      ≡ Some (BadConfiguration i)) in
-      learned_explains First (Refuses t (λ spec. first_fault budget spec count)
-      (Refused (BadConfiguration i))) t old new (λ spec f r. f r.max)
-      (learns_on (AtMaximum t (HasConfigurations budget i texts))
-      (AtMaximum t (HasConfiguration room i text))
-      First t n old mid new (λ spec b h max. repeated_first text again spec (b max) (h max)) before
-      went now)
+      wrong_refuses (λ spec. first_fault budget spec count) new (learns_on before went now
+      (λ spec b h max. repeated_first text again spec (b max) (h max)))

@@ -20,7 +20,7 @@ use Rattle.usb_address.proofs.Interface.{same_setup}
 use Rattle.usb_pipe.specs.{FaultAfter, Reads, IsTransferAnswer, PipeFault}
 use Rattle.usb_pipe.proofs.Interface.{who_read_had}
 use Rattle.usb_pipe.specs.declared.fault.PipeFault.TheVariants as pipe
-use Rattle.usb_hub.specs.{unless_refused, device_given, HasText, DeviceAsked, ReadFailure}
+use Rattle.usb_hub.specs.{unless_refused, device_given, DeviceAsked, ReadFailure}
 use Rattle.usb_hub.specs.{IsClaimed, KeepsAnswered, Queried, EndsAfter}
 use Rattle.usb_enum.specs.{Cause, Stalled, BadDevice, Stop, is_device, device_bytes, FailureReason}
 use Rattle.usb_enum.specs.{Both, StopsDescriptor, AnswersSo, HasDescriptor, AtMaximum}
@@ -32,7 +32,7 @@ use Rattle.usb_enum.specs.declared.stop.Stop.TheVariants.{Refused}
 use Rattle.usb_enum.proofs.readings.Heads.{answered}
 use Rattle.usb_enum.proofs.courses.Stretches.{device_goes}
 use Rattle.usb_enum.proofs.refusals.Refusals.{answered_ok, FailsForSpec, answered_err}
-use Rattle.usb_enum.proofs.refusals.Refusals.{learned_explains, failure_explains}
+use Rattle.usb_enum.proofs.refusals.Refusals.{learned_explains, failure_explains, wrong_refuses}
 
 device_stalls : {X : Type 0} (refused : Bool) (given : X) → unless_refused refused (Some given)
     ≡ None → refused ≡ true
@@ -59,19 +59,17 @@ head_malformed : (low : Bool) (spec : Spec) → spec.silent ≡ false → spec.b
 unfolding head_fault
 head_malformed low spec loud free device bad = rw (loud, free, device, bad) refl
 
-pub head_refused : (t : Target) (bytes : Vec ℕ) (fault : DescriptorFault) (stalled : Cause)
-    (outcome : Result (Vec ℕ) PipeFault) (old new : World) → Ok bytes ≡ answered_or stalled outcome
+pub head_refused : {t : Target} {bytes : Vec ℕ} {fault : DescriptorFault} (stalled : Cause)
+    {outcome : Result (Vec ℕ) PipeFault} {old new : World} → Ok bytes ≡ answered_or stalled outcome
     → device_head_of t.low bytes.items ≡ Err fault
     → EndsAfter 3 old outcome new → KeepsAnswered t.addr old outcome new
     → (new.shared ≡ false → EachWas (DeviceAsked t 8 outcome) old new)
     → FailureReason (IsRefusedFor (head_fault t.low) (Refused BadDevice)) t old new
-head_refused t bytes fault stalled outcome old new e bad ends addresses what =
-    let So : Spec → Type 0 = IsRefusedFor (head_fault t.low) (Refused BadDevice) in
-    learned_explains So So t old new (λ spec x. x)
-    (answered So t 8 bytes
+head_refused {t} {bytes} stalled {outcome} {old} {new} e bad ends addresses what =
+    learned_explains new (answered (IsRefusedFor (head_fault t.low) (Refused BadDevice)) t 8 bytes
     (λ s loud free device first. head_malformed t.low s.spec loud free device
     (ap is_ok (ap (device_head_of t.low) (sym (first (inr (omega arith)))) ∙ bad)))
-    stalled outcome old new e ends addresses what).learns
+    stalled outcome old new e ends addresses what).learns (λ spec x. x)
 
 -- The whole descriptor
 
@@ -86,18 +84,16 @@ unfolding device_fault
 device_malformed low spec device bad = rw (device, bad) refl
 
 -- a responsive device gives an answer
-pub descriptor_none : (t : Target) (outcome : Result (Vec ℕ) PipeFault) (old new : World)
+pub descriptor_none : {t : Target} {outcome : Result (Vec ℕ) PipeFault} {old new : World}
     → outcome ≡ Err pipe.NoAnswer → 8 ≤ t.max
     → (new.shared ≡ false → EachWas (DeviceAsked t 18 outcome) old new)
     → (NoThreeDamaged old → 8 ≤ t.max → new.shared ≡ false
     → EachWas (ReadFailure t 18 outcome) old new)
     → Queried t (get_device_descriptor 18) old outcome new → FindsDescriptor t old new None
-descriptor_none t outcome old new is least what why asked = record {
+descriptor_none {t} {outcome} {old} {new} is least what why asked = record {
   goes = device_goes t 18 outcome old new asked;
   why =
-      failure_explains device_given (λ s bytes. HasText (device_given s.spec) t 18 s bytes.items) t
-      18 outcome old new what least why
-      (λ spec. IsResponsive t spec → ⊥) pipe.NoAnswer is
+      failure_explains new what least why (λ spec. IsResponsive t spec → ⊥) pipe.NoAnswer is
       (λ spec fails r. false_true (sym r.loud ∙ fails (inl r.max)));
 }
 
@@ -130,7 +126,7 @@ module _ (t : Target) (outcome : Result (Vec ℕ) PipeFault) (old new : World)
       → (outcome ≡ Err pipe.NoAnswer → ⊥) → (cause : Cause) → stop ≡ Refused cause
       → IsClaimed t.addr old
   refused_who stop told some cause is = let failed =
-      answered_err (Stalled request.Device) outcome stop told in
+      answered_err (Stalled request.Device) told in
       by_fault failed.0 failed.1 (failed.2 ∙ is)
     where
       ends : (fault : PipeFault) → outcome ≡ Err fault → FaultAfter 1 old fault new
@@ -147,19 +143,17 @@ module _ (t : Target) (outcome : Result (Vec ℕ) PipeFault) (old new : World)
 
   pub answered_who : (stalled : Cause) (bytes : Vec ℕ) → Ok bytes ≡ answered_or stalled outcome
       → IsClaimed t.addr old
-  answered_who stalled bytes told = (rw (answered_ok stalled outcome bytes told) at addresses).who
+  answered_who stalled bytes told = (rw (answered_ok stalled told) at addresses).who
 
-pub descriptor_refused : (t : Target) (bytes : Vec ℕ) (stalled : Cause)
-    (outcome : Result (Vec ℕ) PipeFault) (old new : World) → Ok bytes ≡ answered_or stalled outcome
+pub descriptor_refused : {t : Target} {bytes : Vec ℕ} (stalled : Cause)
+    {outcome : Result (Vec ℕ) PipeFault} {old new : World} → Ok bytes ≡ answered_or stalled outcome
     → is_device t.low (take 18 bytes.items) ≡ false
     → EndsAfter 3 old outcome new → KeepsAnswered t.addr old outcome new
     → (new.shared ≡ false → EachWas (DeviceAsked t 18 outcome) old new)
     → FailureReason (Refuses t (device_fault t.low) (Refused BadDevice)) t old new
-descriptor_refused t bytes stalled outcome old new e bad ends addresses what =
-    let So : Spec → Type 0 = AtMaximum t (λ spec. device_fault t.low spec ≡ Some BadDevice) in
-    learned_explains So (Refuses t (device_fault t.low) (Refused BadDevice)) t old new
-    (λ spec x r. x r.max)
-    (answered So t 18 bytes
+descriptor_refused {t} {bytes} stalled {outcome} {old} {new} e bad ends addresses what =
+    wrong_refuses (device_fault t.low) new
+    (answered (AtMaximum t (λ spec. device_fault t.low spec ≡ Some BadDevice)) t 18 bytes
     (λ s loud free device first max. device_malformed t.low s.spec device
     (ap (is_device t.low) (sym (ap (take 18) (first (inl max))
     ∙ take-take 18 18 s.spec.descriptor (omega arith))) ∙ bad))

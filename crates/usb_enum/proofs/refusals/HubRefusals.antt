@@ -11,11 +11,10 @@ use Rattle.usb_tree.proofs.Interface.{and_false}
 use Rattle.usb_transaction.specs.{Target}
 use Rattle.usb_pipe.specs.{PipeFault}
 use Rattle.usb_hub.specs.{unless_refused, hub_given, HubAsked}
-use Rattle.usb_enum.specs.{Cause, BadHub, gives_hub, FailureReason, AtMaximum, Refuses, hub_fault}
-use Rattle.usb_enum.specs.{answered_or}
+use Rattle.usb_enum.specs.{Cause, BadHub, gives_hub, FailureReason, Refuses, hub_fault, answered_or}
 use Rattle.usb_enum.specs.declared.stop.Stop.TheVariants.{Refused}
 use Rattle.usb_enum.proofs.readings.Readings.{given_allows, text_learned}
-use Rattle.usb_enum.proofs.refusals.Refusals.{answered_ok, learned_explains}
+use Rattle.usb_enum.proofs.refusals.Refusals.{answered_ok, wrong_refuses}
 
 not_all : (a b c : Bool) → a ≡ false → (a && b && c) ≡ false
 not_all a b c h = rw h refl
@@ -61,19 +60,15 @@ pub bad_hub : (wide : Bool) (spec : Spec) → gives_hub wide spec spec.hub ≡ f
     → hub_fault wide spec ≡ Some BadHub
 bad_hub wide spec bad = ap (λ b. if b then None else Some BadHub) bad
 
-pub count_refused : (wide : Bool) (t : Target) (stalled : Cause)
-    (outcome : Result (Vec ℕ) PipeFault)
-    (bytes : Vec ℕ) (fault : DescriptorFault) (old new : World)
+pub count_refused : (wide : Bool) {t : Target} (stalled : Cause)
+    {outcome : Result (Vec ℕ) PipeFault}
+    {bytes : Vec ℕ} {fault : DescriptorFault} {old : World} (new : World)
     → Ok bytes ≡ answered_or stalled outcome → hub_spelled wide bytes.items ≡ Err fault
     → (new.shared ≡ false → EachWas (HubAsked t outcome) old new)
     → FailureReason (Refuses t (hub_fault wide) (Refused BadHub)) t old new
-count_refused wide t stalled outcome bytes fault old new answered bad what =
-    learned_explains (AtMaximum t (λ spec. hub_fault wide spec ≡ Some BadHub))
-    (Refuses t (hub_fault wide) (Refused BadHub)) t old new (λ spec x r. x r.max)
-    (text_learned hub_given (λ spec. hub_fault wide spec ≡ Some BadHub) t 9 outcome bytes old new
-    (answered_ok stalled outcome bytes answered)
-    (λ spec text given first.
+count_refused wide stalled new answered bad what =
+    wrong_refuses (hub_fault wide) new (text_learned hub_given new
+    (answered_ok stalled answered) what (λ spec text given first.
     bad_hub wide spec (hub_malformed wide spec spec.hub text
     (given_allows spec.stalls.hub (option_map (λ (hub : Hub). hub.descriptor) spec.hub) text
-    given).1 (ap is_ok (ap (hub_spelled wide) (sym first) ∙ bad))))
-    what)
+    given).1 (ap is_ok (ap (hub_spelled wide) (sym first) ∙ bad)))))

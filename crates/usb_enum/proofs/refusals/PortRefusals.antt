@@ -15,11 +15,10 @@ use Rattle.usb_pipe.specs.{PipeFault}
 use Rattle.usb_pipe.specs.declared.fault.PipeFault.TheVariants as pipe
 use Rattle.usb_hub.specs.{External, StaysAs, KeepsDevices, Commanded, HasPort, NoHubFailed}
 use Rattle.usb_hub.proofs.Interface.{hub_sets, stays-registers, stays-spec}
-use Rattle.usb_enum.specs.{Cause, BadHub, Stop, gives_hub, Learned, DeviceFact, Hears, HearsSet}
+use Rattle.usb_enum.specs.{Cause, BadHub, Stop, gives_hub, Learned, DeviceFact, HearsSet}
 use Rattle.usb_enum.specs.{Explained, holds_changes, FailureReason, ExplainsSet, AtMaximum}
-use Rattle.usb_enum.specs.{HasPorts, IsResponsive}
-use Rattle.usb_enum.specs.{IsRefusedFor, Refuses, RefusesNoPort, no_fault, hub_fault, start_fault}
-use Rattle.usb_enum.specs.{stop_of, answered_or}
+use Rattle.usb_enum.specs.{HasPorts, IsResponsive, IsRefusedFor, Refuses, RefusesNoPort, no_fault}
+use Rattle.usb_enum.specs.{hub_fault, start_fault, stop_of, answered_or}
 use Rattle.usb_enum.specs.declared.stop.Stop.TheVariants.{Refused, Fault}
 use Rattle.usb_enum.proofs.courses.Fairness.{serves_still}
 use Rattle.usb_enum.proofs.readings.HubReadings.{had_ports}
@@ -40,7 +39,7 @@ pub power_explains : (t : Target) (port : ℕ) (outcome : Result (Unit {0}) Pipe
     → ExplainsSet (RefusesNoPort t port stop) t old new
 power_explains t port outcome stop old new ordered is keeps three single j v on there =
     let was : Was StaysAs old j v = keeps.stays single j v on there in
-    let failed = answered_err BadHub outcome stop is in
+    let failed = answered_err BadHub is in
     record {
       before = was.before;
       on = was.on;
@@ -84,11 +83,9 @@ pub powering_explains : (t : Target) (before ports m n : ℕ) (stop : Stop) (old
     {q r s u : Option (List ℕ)} → before + 1 ≤ ports → KeepsDevices old mid → StepRun m old q mid r
     → StepRun n mid s new u → ExplainsSet (RefusesNoPort t (before + 1) stop) t mid new
     → ExplainsSet (RefusesNoPort t ports stop) t old new
-powering_explains t before ports m n stop old mid new fewer keeps =
-    explains_set_on (λ spec. ⊤) (RefusesNoPort t (before + 1) stop) (RefusesNoPort t ports stop) t m
-    n old mid new
-    (λ spec ruled a none r has. none r (has_earlier spec (before + 1) ports (omega arith) fewer
-    has)) (learns_stays t old mid keeps)
+powering_explains t before ports m n stop old mid new fewer keeps first next explains =
+    explains_set_on (learns_stays t old mid keeps) first next explains (λ spec ruled a none r has.
+    none r (has_earlier spec (before + 1) ports (omega arith) fewer has))
 
 -- A hub that is started
 
@@ -140,8 +137,7 @@ module _ (wide : Bool) (text : List ℕ) where
   pub asked_explains : (t : Target) (stop : Stop) (old new : World)
       → FailureReason (Refuses t (hub_fault wide) stop) t old new
       → ExplainsSet (Refuses t (start_fault wide text) stop) t old new
-  asked_explains t stop old new = explained_wider Hears HearsSet (Refuses t (hub_fault wide) stop)
-      (Refuses t (start_fault wide text) stop) t old new (λ j s h. h.hears) (start_refused t stop)
+  asked_explains t stop old new = explained_wider new (λ j s h. h.hears) (start_refused t stop)
 
   pub supply_explains : (t : Target) (ports m n : ℕ) (stop : Stop) (old mid new : World)
       {q r s u : Option (List ℕ)} → StepRun m old q mid r
@@ -149,9 +145,8 @@ module _ (wide : Bool) (text : List ℕ) where
       → FailureReason (Refuses t (hub_fault wide) stop) t mid new
       → ExplainsSet (Refuses t (start_fault wide text) stop) t old new
   supply_explains t ports m n stop old mid new went counted next explains =
-      explains_set_on (AtMaximum t (HasPorts wide ports)) (Refuses t (start_fault wide text) stop)
-      (Refuses t (start_fault wide text) stop) t m n old mid new (λ spec ruled p b. b) counted went
-      next (asked_explains t stop mid new explains)
+      explains_set_on counted went next (asked_explains t stop mid new explains)
+      (λ spec ruled p b. b)
 
   no_refusal : (spec : Spec) (stop : Stop) → IsRefusedFor no_fault stop spec
       → IsRefusedFor (start_fault wide text) stop spec
@@ -178,10 +173,7 @@ module _ (wide : Bool) (text : List ℕ) where
       → KeepsDevices a b → StepRun n b u new v → ExplainsSet (RefusesNoPort t ports stop) t b new
       → ExplainsSet (Refuses t (start_fault wide text) stop) t old new
   powered_explains t ports l m n stop old a b new fits wa counted wb keeps wn explains =
-      explains_set_on (AtMaximum t (HasPorts wide ports)) (RefusesNoPort t ports stop)
-      (Refuses t (start_fault wide text) stop) t l (m + n) old a new
+      explains_set_on counted wa (went_then m n wb wn)
+      (explains_set_on (learns_stays t a b keeps) wb wn explains (λ spec ruled a none. none))
       (λ spec ruled p none r. no_refusal spec stop
-      (none r (has_last t ports spec fits (p r.max) ruled r))) counted wa
-      (went_then m n wb wn)
-      (explains_set_on (λ spec. ⊤) (RefusesNoPort t ports stop) (RefusesNoPort t ports stop) t m n a
-      b new (λ spec ruled a none. none) (learns_stays t a b keeps) wb wn explains)
+      (none r (has_last t ports spec fits (p r.max) ruled r)))

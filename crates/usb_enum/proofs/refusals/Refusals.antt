@@ -16,7 +16,7 @@ use Rattle.usb_hub.specs.{ReadAsked, ReadFailure}
 use Rattle.usb_hub.proofs.Interface.{stays-registers, stays-spec}
 use Rattle.usb_enum.specs.{Cause, EnumFault, Stop, Learned, DeviceFact, Hears, HearsSet, Explained}
 use Rattle.usb_enum.specs.{FailureReason, ExplainsSet, IsResponsive, IsRefusedFor, Refuses, stop_of}
-use Rattle.usb_enum.specs.{answered_or}
+use Rattle.usb_enum.specs.{AtMaximum, answered_or}
 use Rattle.usb_enum.specs.declared.stop.Stop.TheVariants.{Refused, Fault}
 use Rattle.usb_enum.proofs.courses.Damages.{went_three}
 use Rattle.usb_enum.proofs.devices.SharedAddresses.{went_unshared}
@@ -51,9 +51,9 @@ set_still t place s u spec registers h = record {
 }
 
 -- what was learned explains as well
-pub learned_explains : (A B : Spec → Type 0) (t : Target) (old new : World)
-    → ((spec : Spec) → A spec → B spec) → DeviceFact A t old new → FailureReason B t old new
-learned_explains A B t old new f x three single =
+pub learned_explains : {A B : Spec → Type 0} {t : Target} {old : World} (new : World)
+    → DeviceFact A t old new → ((spec : Spec) → A spec → B spec) → FailureReason B t old new
+learned_explains {A} {B} {t} {old} new x f three single =
     each_wider (Learned A t) (Explained Hears B t)
     (λ j s v l. record {
       spec = stays-spec s v l.frame;
@@ -61,27 +61,35 @@ learned_explains A B t old new f x three single =
       so = λ h ruled. f s.spec (l.so h.at);
     }) old new (x single)
 
+-- at the device's maximum packet, what is wrong refuses it
+pub wrong_refuses : {t : Target} (wrong : Spec → Option Cause) {cause : Cause} {old : World}
+    (new : World) → DeviceFact (AtMaximum t (λ spec. wrong spec ≡ Some cause)) t old new
+    → FailureReason (Refuses t wrong (Refused cause)) t old new
+wrong_refuses {t} wrong {cause} new learned =
+    learned_explains {B = Refuses t wrong (Refused cause)} new learned (λ spec bad r. bad r.max)
+
 -- a fault is no refusal
-pub fault_explains : (A : Spec → Type 0) (t : Target) (wrong : Spec → Option Cause)
-    (fault : EnumFault) (old new : World) → DeviceFact A t old new
+pub fault_explains : {A : Spec → Type 0} {t : Target} (wrong : Spec → Option Cause)
+    (fault : EnumFault) {old : World} (new : World) → DeviceFact A t old new
     → FailureReason (Refuses t wrong (Fault fault)) t old new
-fault_explains A t wrong fault old new = learned_explains A (Refuses t wrong (Fault fault)) t old
-    new (λ spec a r. tt)
+fault_explains {t} wrong fault new learned =
+    learned_explains {B = Refuses t wrong (Fault fault)} new learned (λ spec a r. tt)
 
 -- where nothing went, what is so of every description
-pub explained_none : (Heard : Target → Location → State → Type 0) (So : Spec → Type 0) (t : Target)
-    (w : World) → ((spec : Spec) → So spec) → NoThreeDamaged w → w.shared ≡ false
+pub explained_none : {Heard : Target → Location → State → Type 0} {So : Spec → Type 0} {t : Target}
+    {w : World} → ((spec : Spec) → So spec) → NoThreeDamaged w → w.shared ≡ false
     → EachWas (Explained Heard So t) w w
-explained_none Heard So t w all three single = each_none (Explained Heard So t)
+explained_none {Heard} {So} {t} {w} all three single = each_none (Explained Heard So t)
     (λ j s. record { spec = refl; address = refl; so = λ h ruled. all s.spec }) w
 
 -- of one that hears in the one way as of one that hears in the other
-pub explained_wider : (Heard Hearing : Target → Location → State → Type 0) (A B : Spec → Type 0)
-    (t : Target) (old new : World) → ((j : Location) (s : State) → Hearing t j s → Heard t j s)
+pub explained_wider : {Heard Hearing : Target → Location → State → Type 0} {A B : Spec → Type 0}
+    {t : Target} {old : World} (new : World) → ((j : Location) (s : State) → Hearing t j s
+    → Heard t j s)
     → ((spec : Spec) → A spec → B spec)
     → (NoThreeDamaged old → new.shared ≡ false → EachWas (Explained Heard A t) old new)
     → NoThreeDamaged old → new.shared ≡ false → EachWas (Explained Hearing B t) old new
-explained_wider Heard Hearing A B t old new at f x three single =
+explained_wider {Heard} {Hearing} {A} {B} {t} {old} new at f x three single =
     each_wider (Explained Heard A t) (Explained Hearing B t)
     (λ j s v e. record {
       spec = e.spec;
@@ -94,12 +102,13 @@ module _ (Heard : Target → Location → State → Type 0) (at : (t : Target) (
     → Heard t j s → is_at s t ≡ true)
     (on : (t : Target) (j : Location) (s u : State) → u.spec ≡ s.spec → u.registers ≡ s.registers
     → Heard t j s → Heard t j u) where
-  explained_on : (A B C : Spec → Type 0) (t : Target) (m n : ℕ) (old mid new : World)
-      {q r s u : Option (List ℕ)} → ((spec : Spec) → IsSpec spec → A spec → B spec → C spec)
-      → DeviceFact A t old mid → StepRun m old q mid r → StepRun n mid s new u
+  explained_on : {A B C : Spec → Type 0} {t : Target} {m n : ℕ} {old mid new : World}
+      {q r s u : Option (List ℕ)} → DeviceFact A t old mid → StepRun m old q mid r
+      → StepRun n mid s new u
       → (NoThreeDamaged mid → new.shared ≡ false → EachWas (Explained Heard B t) mid new)
+      → ((spec : Spec) → IsSpec spec → A spec → B spec → C spec)
       → NoThreeDamaged old → new.shared ≡ false → EachWas (Explained Heard C t) old new
-  explained_on A B C t m n old mid new f a first next b three single =
+  explained_on {A} {B} {C} {t} {m} {n} {old} {mid} {new} a first next b f three single =
       each_joined (Learned A t) (Explained Heard B t) (Explained Heard C t)
       (λ j s u v x y. record {
         spec = y.spec ∙ stays-spec s u x.frame;
@@ -113,25 +122,24 @@ module _ (Heard : Target → Location → State → Type 0) (at : (t : Target) (
       old mid new (a (went_unshared n mid new next single))
       (b (went_three m old mid first three) single)
 
-pub explains_on : (A B C : Spec → Type 0) (t : Target) (m n : ℕ) (old mid new : World)
-    {q r s u : Option (List ℕ)} → ((spec : Spec) → A spec → B spec → C spec)
-    → DeviceFact A t old mid → StepRun m old q mid r → StepRun n mid s new u
-    → FailureReason B t mid new → FailureReason C t old new
-explains_on A B C t m n old mid new f = explained_on Hears (λ t p s h. h.at) hears_still A B C t m n
-    old mid new (λ spec ruled. f spec)
+pub explains_on : {A B C : Spec → Type 0} {t : Target} {m n : ℕ} {old mid new : World}
+    {q r s u : Option (List ℕ)} → DeviceFact A t old mid → StepRun m old q mid r
+    → StepRun n mid s new u → FailureReason B t mid new
+    → ((spec : Spec) → A spec → B spec → C spec) → FailureReason C t old new
+explains_on a first next b f =
+    explained_on Hears (λ t p s h. h.at) hears_still a first next b (λ spec ruled. f spec)
 
-pub explains_set_on : (A B C : Spec → Type 0) (t : Target) (m n : ℕ) (old mid new : World)
-    {q r s u : Option (List ℕ)} → ((spec : Spec) → IsSpec spec → A spec → B spec → C spec)
-    → DeviceFact A t old mid → StepRun m old q mid r → StepRun n mid s new u
-    → ExplainsSet B t mid new → ExplainsSet C t old new
-explains_set_on A B C t m n old mid new f = explained_on HearsSet (λ t p s h. h.hears.at) set_still
-    A B C t m n old mid new f
+pub explains_set_on : {A B C : Spec → Type 0} {t : Target} {m n : ℕ} {old mid new : World}
+    {q r s u : Option (List ℕ)} → DeviceFact A t old mid → StepRun m old q mid r
+    → StepRun n mid s new u → ExplainsSet B t mid new
+    → ((spec : Spec) → IsSpec spec → A spec → B spec → C spec) → ExplainsSet C t old new
+explains_set_on a first next b f =
+    explained_on HearsSet (λ t p s h. h.hears.at) set_still a first next b f
 
 -- an error that is handed on
-pub handed_match : {A E : Type 0} (r : Result A E) (P : A → Type 0) (Q : E → Type 0) (why : E)
-    → IsErrAnd r (λ e. e ≡ why) → Q why → MatchResult r P Q
-handed_match (Ok x) P Q why same q = absurd same
-handed_match (Err e) P Q why same q = subst Q (sym same) q
+pub failed : {A E : Type 0} {why : E} (r : Result A E) → IsErrAnd r (λ e. e ≡ why) → r ≡ Err why
+failed (Ok x) same = absurd same
+failed (Err e) same = ap (λ e. Err e) same
 
 pub matched_ok : {A E : Type 0} (r : Result A E) (P : A → Type 0) (Q : E → Type 0)
     → MatchResult r P Q → IfOk r P
@@ -167,19 +175,19 @@ responsive_stop given t wrong stalled spec r f pipe.NoAnswer why = false_true (s
 responsive_stop given t wrong stalled spec r f pipe.Broken why = absurd why
 responsive_stop given t wrong stalled spec r f _ why = tt
 
-pub answered_err : {A : Type 0} (stalled : Cause) (outcome : Result A PipeFault) (stop : Stop)
+pub answered_err : {A : Type 0} (stalled : Cause) {outcome : Result A PipeFault} {stop : Stop}
     → Err stop ≡ answered_or stalled outcome → (fault : PipeFault) × (outcome ≡ Err fault)
     × (unwrap_or (stop_of fault) (Refused stalled) ≡ stop)
-answered_err stalled (Ok given) stop is = absurd cc
-answered_err stalled (Err fault) stop is = (fault, refl, cc)
+answered_err stalled {outcome = Ok given} is = absurd cc
+answered_err stalled {outcome = Err fault} is = (fault, refl, cc)
 
-pub answered_ok : {A : Type 0} (stalled : Cause) (outcome : Result A PipeFault) (answer : A)
+pub answered_ok : {A : Type 0} (stalled : Cause) {outcome : Result A PipeFault} {answer : A}
     → Ok answer ≡ answered_or stalled outcome → outcome ≡ Ok answer
-answered_ok stalled (Ok given) answer is = cc
-answered_ok stalled (Err fault) answer is = absurd cc
+answered_ok stalled {outcome = Ok given} is = cc
+answered_ok stalled {outcome = Err fault} is = absurd cc
 
-module _ {A X : Type 0} (given : Spec → Option X) (Has : State → A → Type 0) (t : Target)
-    (wanted : ℕ) where
+module _ {A X : Type 0} {given : Spec → Option X} {Has : State → A → Type 0} {t : Target}
+    {wanted : ℕ} where
   read_fails : (fault : PipeFault) (j : Location) (s v : State)
       → ReadAsked given Has t (Err fault) j s v → ReadFailure {A = A} t wanted (Err fault) j s v
       → Hears t j s → IsSpec s.spec → IsMaximum t wanted s → FailsForSpec given fault s.spec
@@ -200,7 +208,7 @@ module _ {A X : Type 0} (given : Spec → Option X) (Has : State → A → Type 
   read_fails pipe.Broken j s v x y h ruled max = x.could h.at
   read_fails _ j s v x y h ruled max = tt
 
-  module _ (outcome : Result A PipeFault) (old new : World) (what : new.shared ≡ false
+  module _ {outcome : Result A PipeFault} {old : World} (new : World) (what : new.shared ≡ false
       → EachWas (ReadAsked given Has t outcome) old new) (least : 8 ≤ t.max)
       (why : NoThreeDamaged old → 8 ≤ t.max → new.shared ≡ false
       → EachWas (ReadFailure t wanted outcome) old new) where
@@ -225,7 +233,7 @@ module _ {A X : Type 0} (given : Spec → Option X) (Has : State → A → Type 
         → FailsForSpec given fault spec) → So (unwrap_or (stop_of fault) (Refused stalled))
         spec) → FailureReason (So stop) t old new
     stop_explains So stalled stop is f =
-        let failed = answered_err stalled outcome stop is in
+        let failed = answered_err stalled is in
         failure_explains (So stop) failed.0 failed.1
         (λ spec why. subst (λ x. So x spec) failed.2 (f spec failed.0 why))
 

@@ -1,9 +1,8 @@
 -- Why a device that has its address is refused.
 use Rattle.usb_device.specs.{Location, is_value, State, Spec, IsSpec}
 use Rattle.std.proofs.Common.{◌≡◌, ◌≢◌, inl, inr, ◌<◌, ℕ, ◌==◌, ◌&&◌, not, true, false, List, []}
-use Rattle.std.proofs.Common.{Bool}
-use Rattle.std.proofs.Common.{length, slice_index_or, if◌then◌else◌, Option, None, Some, Result, Ok}
-use Rattle.std.proofs.Common.{Err, refl, ap, sym, subst, ◌∙◌}
+use Rattle.std.proofs.Common.{Bool, length, slice_index_or, if◌then◌else◌, Option, None, Some}
+use Rattle.std.proofs.Common.{Result, Ok, Err, refl, ap, sym, subst, ◌∙◌}
 use Rattle.std.specs.Prelude.{unwrap_or}
 use Rattle.std.specs.Option.{option_or}
 use Rattle.usb_descriptor.specs.{configuration_value, configuration_count}
@@ -109,7 +108,7 @@ setting_refused : (t : Target) (value : ℕ) (outcome : Result (Unit {0}) PipeFa
     → (NoThreeDamaged old → new.shared ≡ false → EachWas (WriteFailure t outcome) old new)
     → FailureReason (RefusesValue t value stop) t old new
 setting_refused t value outcome stop old new some is what why three single =
-    let failed = answered_err (Stalled request.SetConfig) outcome stop is in
+    let failed = answered_err (Stalled request.SetConfig) is in
     each_joint (ConfigurationAsked t value (Err failed.0) new) (WriteFailure t (Err failed.0))
     (Explained Hears (RefusesValue t value stop) t)
     (λ j s v x y. record {
@@ -124,12 +123,13 @@ setting_refused t value outcome stop old new some is what why three single =
 -- After it
 
 -- the configuration that it was set to is not 0
-pub explains_hub_on : (A B C : Spec → Type 0) (t : Target) (value m n : ℕ) (old mid new : World)
+pub explains_hub_on : {A B C : Spec → Type 0} {t : Target} {value m n : ℕ} {old mid new : World}
     {q r s u : Option (List ℕ)} → t.addr ≢ 0
     → ((spec : Spec) → A spec → (value ≢ 0 → B spec) → C spec)
     → LearnsSet A t value old mid → StepRun m old q mid r → StepRun n mid s new u
     → ExplainsSet B t mid new → FailureReason C t old new
-explains_hub_on A B C t value m n old mid new some f a first next b three single =
+explains_hub_on {A} {B} {C} {t} {value} {m} {n} {old} {mid} {new} some f a first next b three single
+    =
     each_joined (LearnedSet A t value) (Explained HearsSet B t) (Explained Hears C t)
     (λ j s u v x y. record {
       spec = y.spec ∙ x.spec;
@@ -147,11 +147,11 @@ explains_hub_on A B C t value m n old mid new some f a first next b three single
     old mid new (a (went_unshared n mid new next single))
     (b (went_three m old mid first three) single)
 
-pub explains_after : (A B C : Spec → Type 0) (t : Target) (value m n : ℕ) (old mid new : World)
+pub explains_after : {A B C : Spec → Type 0} {t : Target} {value m n : ℕ} {old mid new : World}
     {q r s u : Option (List ℕ)} → ((spec : Spec) → A spec → B spec → C spec)
     → LearnsSet A t value old mid → StepRun m old q mid r → StepRun n mid s new u
     → FailureReason B t mid new → FailureReason C t old new
-explains_after A B C t value m n old mid new f a first next b three single =
+explains_after {A} {B} {C} {t} {value} {m} {n} {old} {mid} {new} f a first next b three single =
     each_joined (LearnedSet A t value) (Explained Hears B t) (Explained Hears C t)
     (λ j s u v x y. record {
       spec = y.spec ∙ x.spec;
@@ -178,7 +178,7 @@ module _ (t : Target) (options : HostOptions) (tier supply : ℕ) (bytes : List 
   -- it is too deep
   pub deep_refused : (stop : Stop) (w : World) → fits_tier tier bytes ≡ Err stop
       → FailureReason (Refuses t wrong stop) t w w
-  deep_refused stop w is = explained_none Hears (Refuses t wrong stop) t w
+  deep_refused stop w is = explained_none
       (λ spec r. refused_deep options tier supply bytes spec stop is)
 
   module _ (fits : fits_tier tier bytes ≡ Ok tt) where
@@ -191,8 +191,7 @@ module _ (t : Target) (options : HostOptions) (tier supply : ℕ) (bytes : List 
         → FailureReason (Refuses t (λ spec. first_fault most spec count) stop) t old new
         → FailureReason (Refuses t wrong stop) t old new
     read_refused count stop old new same =
-        explained_wider Hears Hears (Refuses t (λ spec. first_fault most spec count) stop)
-        (Refuses t wrong stop) t old new (λ j s h. h) (so stop)
+        explained_wider new (λ j s h. h) (so stop)
       where
         so : (stop : Stop) (spec : Spec) → Refuses t (λ spec. first_fault most spec count) stop spec
             → Refuses t wrong stop spec
@@ -207,9 +206,9 @@ module _ (t : Target) (options : HostOptions) (tier supply : ℕ) (bytes : List 
       -- none is within the supply
       pub power_refused : (old new : World) → choice_of supply texts ≡ None
           → DeviceFact Read t old new → FailureReason (Refuses t wrong (Refused NoPower)) t old new
-      power_refused old new none =
-          learned_explains Read (Refuses t wrong (Refused NoPower)) t old new
-          (λ spec has r. fault_chosen options tier supply bytes spec shallow texts (has r.max)
+      power_refused old new none read =
+          learned_explains new read (λ spec has r. fault_chosen options tier supply bytes spec
+          shallow texts (has r.max)
           ∙ ap (λ o. chosen_fault wide (is_hub_device bytes) texts o spec) none)
 
       module _ (chosen : ℕ) (within : choice_of supply texts ≡ Some chosen) where
@@ -240,10 +239,9 @@ module _ (t : Target) (options : HostOptions) (tier supply : ℕ) (bytes : List 
             → FailureReason (Refuses t wrong stop) t old new
         set_refused value m n outcome stop old mid new some inside is byte read first next failed
             what why =
-            explains_on Read (RefusesValue t value stop) (Refuses t wrong stop) t m n old mid new
-            (λ spec has refused. set_refused_for value stop spec inside is byte has refused)
-            read first next
+            explains_on read first next
             (setting_refused t value outcome stop mid new some failed what why)
+            (λ spec has refused. set_refused_for value stop spec inside is byte has refused)
 
         -- it is a hub that cannot be used
         hub_refused_for : (value : ℕ) (stop : Stop) (spec : Spec) → is_hub_device bytes ≡ true
@@ -272,9 +270,7 @@ module _ (t : Target) (options : HostOptions) (tier supply : ℕ) (bytes : List 
             → FailureReason (Refuses t wrong stop) t old new
         hub_refused value m n text stop old mid new some hub inside is byte set first next same
             explains =
-            explains_hub_on (Allowed Read) (Refuses t (start_fault wide
-            (slice_index_or texts chosen []))
-            stop) (Refuses t wrong stop) t value m n old mid new some
+            explains_hub_on some
             (λ spec has refused. hub_refused_for value stop spec hub inside is byte has refused) set
             first next
             (subst (λ x. ExplainsSet (Refuses t (start_fault wide x) stop) t mid new) same explains)
@@ -290,5 +286,4 @@ module _ (t : Target) (options : HostOptions) (tier supply : ℕ) (bytes : List 
       → StepRun n mid s new u → FailureReason (Refuses t no_fault stop) t mid new
       → FailureReason (Refuses t wrong stop) t old new
   strings_refused A value m n stop old mid new =
-      explains_after A (Refuses t no_fault stop) (Refuses t wrong stop) t value m n old mid new
-      (λ spec a refused. strings_unrefused stop spec refused)
+      explains_after (λ spec a refused. strings_unrefused stop spec refused)

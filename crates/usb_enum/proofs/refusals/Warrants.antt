@@ -137,7 +137,7 @@ module _ (port : HubPort) (address : ℕ) (options : HostOptions) (tier supply m
       let fault = so.0 (record {
         loud = g.head.loud;
         free = g.head.free;
-        max = head_packet spec device.target.low device.target.max g.speed g.head;
+        max = head_packet g.speed g.head;
       }) in
       let front = ap (λ x. is_device x (take 18 spec.descriptor)) g.speed
       ∙ ap (is_device device.target.low) (sym so.1.bytes) ∙ whole in

@@ -1,13 +1,12 @@
 -- What the end of an enumeration that is given up leaves.
-use Rattle.std.proofs.Common.{◌≡◌, ℕ, List, Option, None, Result, Ok, Err, refl, subst, sym, IfErr}
-use Rattle.std.proofs.Common.{IsErrAnd}
+use Rattle.std.proofs.Common.{◌≡◌, ℕ, List, Option, None, Result, Ok, Err, refl, subst, IfErr}
 use Rattle.usb_port.specs.{clear_call}
 use Rattle.usb_request.specs.{PORT_ENABLE}
 use Rattle.usb_world.specs.{World}
 use Rattle.usb_bus.specs.{StepRun}
 use Rattle.usb_pipe.specs.{PipeFault, FaultAfter}
 use Rattle.usb_hub.specs.{HubPort, KeepsCleared, CommandsPort}
-use Rattle.usb_enum.specs.{Cause, EnumFault, Finding, Stop, AtPort, Closes, Faulted, NoNewStretch}
+use Rattle.usb_enum.specs.{Cause, EnumFault, AtPort, Closes, Faulted, NoNewStretch}
 use Rattle.usb_enum.specs.{at_port, FaultAllowedAt}
 use Rattle.usb_enum.specs.declared.finding.Finding.TheVariants.{Refused as RefusedFinding}
 use Rattle.usb_enum.specs.declared.stop.Stop.TheVariants.{Refused, Fault}
@@ -47,7 +46,7 @@ module _ (port : HubPort) (address : ℕ) (cause : Cause) (old : World)
       → Closes port address (Refused cause) old (Err why) new
   closed_lost n why went told fault goes =
       let at : AtPort port address old new = record {
-        within = within_kept port address old new keeps.keeps;
+        within = within_kept keeps.keeps;
         only = disable_calls port address old outcome new ends calls keeps;
       } in record {
         ends = ends_fault port address old new why at.within;
@@ -58,11 +57,3 @@ module _ (port : HubPort) (address : ℕ) (cause : Cause) (old : World)
             (called_faulted port address n (clear_call PORT_ENABLE) why went at fault
             (record { outcome = outcome; told = told; calls = calls; goes = goes }));
       }
-
--- an error that is handed on
-pub closed_handed : (port : HubPort) (address : ℕ) (stop : Stop) (old : World)
-    (r : Result Finding EnumFault) (why : EnumFault) (new : World) → IsErrAnd r (λ e. e ≡ why)
-    → Closes port address stop old (Err why) new → Closes port address stop old r new
-closed_handed port address stop old (Ok x) why new same closes = absurd same
-closed_handed port address stop old (Err e) why new same closes =
-    subst (λ x. Closes port address stop old (Err x) new) (sym same) closes

@@ -1,11 +1,10 @@
 use Rattle.usb_enum.specs.{Cause, EnumFault, Accepted, Finding, Stop, IsSpare, Within, TakesAddress}
-use Rattle.usb_enum.specs.{EnumWorks, HostOptions}
-use Rattle.usb_enum.specs.{OnlyCalls, AtPort, EndsOwned, EndsEnumeration, KeepsEnumerated, IsRight}
-use Rattle.usb_enum.specs.{FaultsFor, HubPends, IsFairAt, StopsFairly, StopsFor, OnlyAt}
-use Rattle.usb_enum.specs.{unaddressed_bound, Closes, Disables, GivesUp, IsFair, IsLeft, IsOwn}
-use Rattle.usb_enum.specs.{FindingIsTrue, FewAttempts, FindingStands, JustifiesRefusal}
-use Rattle.usb_enum.specs.{HasEmptyPorts, IsOccupied, IsPlaced, AtPath, Finds, IsInOrder}
-use Rattle.usb_enum.specs.{ReachesDevice, FewFrom, EndsFor, Enumerates}
+use Rattle.usb_enum.specs.{EnumWorks, HostOptions, OnlyCalls, AtPort, EndsOwned, EndsEnumeration}
+use Rattle.usb_enum.specs.{KeepsEnumerated, IsRight, FaultsFor, HubPends, IsFairAt, StopsFairly}
+use Rattle.usb_enum.specs.{StopsFor, OnlyAt, unaddressed_bound, Closes, Disables, GivesUp, IsFair}
+use Rattle.usb_enum.specs.{IsLeft, IsOwn, FindingIsTrue, FewAttempts, FindingStands}
+use Rattle.usb_enum.specs.{JustifiesRefusal, HasEmptyPorts, IsOccupied, IsPlaced, AtPath, Finds}
+use Rattle.usb_enum.specs.{IsInOrder, ReachesDevice, FewFrom, EndsFor, Enumerates}
 -- How an enumeration ends: who holds which address then.
 use Rattle.std.proofs.Common.{◌≡◌, ◌⊎◌, ◌≤◌, ◌+◌, inl, inr, ℕ, true, List, Option, None, Some}
 use Rattle.std.proofs.Common.{Result, Ok, Err, refl, ap, sym, subst, ◌∙◌, arith}
@@ -16,7 +15,7 @@ use Rattle.usb_tree.proofs.Interface.{decided, false_true}
 use Rattle.usb_bus.specs.{StepRun}
 use Rattle.usb_resources.specs.Pool as pool
 use Rattle.usb_resources.specs.{Addresses, IsFull, IsTaken, HasAddresses}
-use Rattle.usb_address.specs.{AddressMap, Free, map_without, MapHolds, MapHoldsExcept, Enumerating}
+use Rattle.usb_address.specs.{AddressMap, Free, map_without, MapHolds, Enumerating}
 use Rattle.usb_address.specs.{WhileBusWorks}
 use Rattle.usb_address.proofs.Interface.{enumerating_begins, owned_as}
 use Rattle.usb_hub.specs.{EachNamedElsewhere, HubPort, IsAt, Isolates, StaysAs, order_bound}
@@ -48,9 +47,8 @@ ends_refused port address old new cause bares = record {
   ends = λ f p spare t.
       let h = having f p address old t in
       let g : AddressMap = after_taking f p h.has in
-      till_weaker (MapHolds (map_without g p)) (MapHolds f) new
-      (owned_as (map_without g p) f new (cleared_taken f p h.has spare.free))
-      (bares.bares g p (at_taking f port p h.has spare.at) h.owned);
+      till_weaker (bares.bares g p (at_taking f port p h.has spare.at) h.owned) (owned_as
+      (map_without g p) f new (cleared_taken f p h.has spare.free));
 }
 
 -- there is no finding
@@ -61,12 +59,11 @@ ends_fault port address old new why within =
   where
     by_fault : (f : AddressMap) (p : List ℕ) (why : EnumFault)
         → WhileBusWorks (Enumerating f p address) new → EndsOwned f p (Err why) new
-    by_fault f p fault.ParentLost t = till_weaker (Enumerating f p address) (MapHoldsExcept p f) new
-        (λ e. record {
-          claims = after_taking f p e.has;
-          owned = e.owned;
-          others = but_taken f p e.has;
-        }) t
+    by_fault f p fault.ParentLost t = till_weaker t (λ e. record {
+      claims = after_taking f p e.has;
+      owned = e.owned;
+      others = but_taken f p e.has;
+    })
     by_fault f p (fault.Bus why) t = t.single
     by_fault f p fault.Memory t = t.single
 
@@ -132,8 +129,7 @@ module _ (port : HubPort) (addresses : Addresses) (address : ℕ) (zero_is : IsT
 
   first : (f : AddressMap) (p : List ℕ) (w : World) → IsSpare f port p address
       → WhileBusWorks (MapHolds f) w → WhileBusWorks (Enumerating f p address) w
-  first f p w is t = till_weaker (MapHolds f) (Enumerating f p address) w
-      (enumerating_begins f p address w is.free is.none) t
+  first f p w is t = till_weaker t (enumerating_begins f p address w is.free is.none)
 
   only_calls : (old new : World) → OnlyCalls port address old new → (f : AddressMap) (p : List ℕ)
       → IsAt f port p → Free f p → ((x : List ℕ) (a : ℕ) → f x ≡ Some a → IsTaken addresses a)
@@ -251,8 +247,7 @@ module _ (port : HubPort) (addresses : Addresses) (address : ℕ) (zero_is : IsT
       → WhileBusWorks (Enumerating f p 0) old
   zero_begun f p old new fair =
       let is = spare f p fair.begins.at fair.begins.free fair.begins.taken in
-      till_weaker (MapHolds f) (Enumerating f p 0) old
-      (enumerating_begins f p 0 old is.free is.none) fair.begins.owned
+      till_weaker fair.begins.owned (enumerating_begins f p 0 old is.free is.none)
 
   pub device_warranted : (options : HostOptions) (tier supply : ℕ) (old new : World)
       (device : Accepted)

@@ -1,16 +1,15 @@
 -- What a stop is, whatever the bus does.
 use Rattle.std.proofs.Common.{◌≡◌, inl, inr, ℕ, ◌==◌, Bool, true, List, Some, Result, Ok, Err, refl}
-use Rattle.std.proofs.Common.{subst, sym, ◌∙◌, IfOk, IfSome, IsErrAnd, MatchResult}
+use Rattle.std.proofs.Common.{subst, sym, ◌∙◌, IfOk, IfSome, MatchResult}
 use Rattle.std.specs.Prelude.{unwrap_or}
 use Rattle.usb_resources.specs.{Addresses, IsFull}
 use Rattle.usb_pipe.specs.{PipeFault}
 use Rattle.usb_pipe.specs.declared.fault.PipeFault.TheVariants as pipe
 use Rattle.usb_tree.proofs.Interface.{both, decided, equal_same}
 use Rattle.usb_enum.specs.{Accepted, Cause, EnumFault, Finding, Stop, LAST_TIER, device_bytes}
-use Rattle.usb_enum.specs.{fits_tier, HostOptions}
-use Rattle.usb_enum.specs.{is_device, is_hub_device, HandsOn, IsFound, FitsStop, IsHubStop, IsPlain}
-use Rattle.usb_enum.specs.{IsEarly, IsEarlyStop, IsPlainStop, IsSaidAt, IsSaidWhole}
-use Rattle.usb_enum.specs.{IsStopWithout, answered_or, stop_of}
+use Rattle.usb_enum.specs.{fits_tier, HostOptions, is_device, is_hub_device, HandsOn, IsFound}
+use Rattle.usb_enum.specs.{FitsStop, IsHubStop, IsPlain, IsEarly, IsEarlyStop, IsPlainStop}
+use Rattle.usb_enum.specs.{IsSaidAt, IsSaidWhole, IsStopWithout, answered_or, stop_of}
 use Rattle.usb_enum.specs.declared.cause.Cause.TheVariants as cause
 use Rattle.usb_enum.specs.declared.finding.Finding.TheVariants as finding
 use Rattle.usb_enum.specs.declared.stop.Stop.TheVariants.{Refused, Fault}
@@ -22,7 +21,7 @@ use Rattle.usb_enum.proofs.stops.ToldFailures.{plain_fits}
 
 pub answered_plain : {A : Type 0} (stalled : Cause) (outcome : Result A PipeFault) (stop : Stop)
     → IsPlain stalled → Err stop ≡ answered_or stalled outcome → IsPlainStop stop
-answered_plain stalled outcome stop plain is = let f = answered_err stalled outcome stop is in
+answered_plain stalled outcome stop plain is = let f = answered_err stalled is in
     subst IsPlainStop f.2 (by f.0)
   where
     by : (why : PipeFault) → IsPlainStop (unwrap_or (stop_of why) (Refused stalled))
@@ -37,7 +36,7 @@ answered_plain stalled outcome stop plain is = let f = answered_err stalled outc
 
 pub answered_early : {A : Type 0} (stalled : Cause) (outcome : Result A PipeFault) (stop : Stop)
     → IsEarly stalled → Err stop ≡ answered_or stalled outcome → IsEarlyStop stop
-answered_early stalled outcome stop early is = let f = answered_err stalled outcome stop is in
+answered_early stalled outcome stop early is = let f = answered_err stalled is in
     subst IsEarlyStop f.2 (by f.0)
   where
     by : (why : PipeFault) → IsEarlyStop (unwrap_or (stop_of why) (Refused stalled))
@@ -64,7 +63,7 @@ early_stop_fits tier (Fault why) early = tt
 
 pub answered_hub : {A : Type 0} (outcome : Result A PipeFault) (stop : Stop)
     → Err stop ≡ answered_or cause.BadHub outcome → IsHubStop stop
-answered_hub outcome stop is = let f = answered_err cause.BadHub outcome stop is in
+answered_hub outcome stop is = let f = answered_err cause.BadHub is in
     subst IsHubStop f.2 (by f.0)
   where
     by : (why : PipeFault) → IsHubStop (unwrap_or (stop_of why) (Refused cause.BadHub))
@@ -126,12 +125,6 @@ pub whole_only : {A E : Type 0} (result : Result A E) (P Q R : A → Type 0)
     → IfOk result (λ x. P x × Q x × R x) → IfOk result Q
 whole_only (Ok x) P Q R ends = ends.1
 whole_only (Err why) P Q R ends = tt
-
--- an error that is handed on has no finding
-pub handed_none : {A E : Type 0} (result : Result A E) (P : A → Type 0) (why : E)
-    → IsErrAnd result (λ e. e ≡ why) → IfOk result P
-handed_none (Ok x) P why same = absurd same
-handed_none (Err e) P why same = tt
 
 -- Of an enumeration that is given up
 

@@ -32,7 +32,7 @@ use Rattle.usb_enum.proofs.stops.ToldFailures.{plain_fits, port_can_fail}
 
 failing : {t : Target} {setup : Setup} (Is : Setup → Type 0) (why : PipeFault) {old new : World}
     → Is setup → FailsAs t setup why old new → EndsFailing t Is why old new
-failing {t} {setup} Is why {old} {new} is failed = record {
+failing {setup} Is why {old} is failed = record {
   before = old;
   led = leads_none old;
   setup = setup;
@@ -42,7 +42,7 @@ failing {t} {setup} Is why {old} {new} is failed = record {
 
 pub reading : {t : Target} {setup : Setup} {bytes : List ℕ} {old new : World}
     → WasRead t setup old bytes new → EndsReading t setup bytes old new
-reading {t} {setup} {bytes} {old} {new} read = record {
+reading {old} read = record {
   before = old;
   led = leads_none old;
   read = read;
@@ -80,17 +80,16 @@ text_after led got = record { size = got.size; read = reading_after led got.read
 
 -- a request that was answered
 pub was_read : {t : Target} {setup : Setup} {outcome : Result (Vec ℕ) PipeFault} {old new : World}
-    (stalled : Cause) (bytes : Vec ℕ) → Ok bytes ≡ answered_or stalled outcome
+    (stalled : Cause) {bytes : Vec ℕ} → Ok bytes ≡ answered_or stalled outcome
     → Queried t setup old outcome new → EndsReading t setup bytes.items old new
-was_read {t} {setup} {outcome} {old} {new} stalled bytes is asked =
-    reading (subst (λ r. Reads t setup old r new) (answered_ok stalled outcome bytes is)
-    asked.stages)
+was_read {t} {setup} {old} {new} stalled is asked =
+    reading (subst (λ r. Reads t setup old r new) (answered_ok stalled is) asked.stages)
 
 -- What an answer is told as
 
 -- by each fault
 stop_by : {A : Type 0} (P : Stop → Type 0) (Failed_as : PipeFault → Type 0) (stalled : Cause)
-    (outcome : Result A PipeFault) (stop : Stop) (m n : ℕ) (old new : World)
+    {outcome : Result A PipeFault} {stop : Stop} (m n : ℕ) (old new : World)
     → Err stop ≡ answered_or stalled outcome
     → ((why : PipeFault) → outcome ≡ Err why → Failed_as why)
     → MatchResult outcome (λ _. AttemptsMade m old new) (λ why. FaultAfter n old why new)
@@ -98,9 +97,8 @@ stop_by : {A : Type 0} (P : Stop → Type 0) (Failed_as : PipeFault → Type 0) 
     → (Failed_as pipe.Busy → P (Refused cause.Busy))
     → (Failed_as pipe.NoAnswer → P (Refused cause.Silent))
     → ((why : EnumFault) → FaultAllowed why new → P (Fault why)) → P stop
-stop_by {A} P Failed_as stalled outcome stop m n old new is failed ends by_stall by_wait by_silence
-    by_fault =
-    let f = answered_err stalled outcome stop is in
+stop_by {A} P Failed_as stalled m n old new is failed ends by_stall by_wait by_silence by_fault =
+    let f = answered_err stalled is in
     subst P f.2 (by f.0 (failed f.0 f.1)
     (subst (λ (r : Result A PipeFault). MatchResult r (λ _. AttemptsMade m old new)
     (λ why. FaultAfter n old why new)) f.1 ends))
@@ -122,8 +120,8 @@ stop_told : {A : Type 0} (t : Target) (setup : Setup) (named : Request)
     → MatchResult outcome (λ _. AttemptsMade m old new) (λ why. FaultAfter n old why new)
     → CauseAllowed t stop old new
 stop_told t setup named outcome stop m n old new is names failed ends =
-    stop_by (λ s. CauseAllowed t s old new) (λ why. FailsAs t setup why old new)
-    (cause.Stalled named) outcome stop m n old new is failed ends
+    stop_by (λ s. CauseAllowed t s old new) (λ why. FailsAs t setup why old new) (cause.Stalled
+    named) m n old new is failed ends
     (failing (IsNamed named) pipe.Stalled names) (failing IsAny pipe.Busy tt)
     (failing IsAny pipe.NoAnswer tt) (λ why told. told)
 
@@ -137,8 +135,7 @@ pub bad_hub_told : {A : Type 0} (wide : Bool) (t : Target) (setup : Setup)
     → CauseAllowedOfHub wide t stop old new
 bad_hub_told wide t setup outcome stop m n old new is failed ends bad =
     stop_by (λ s. CauseAllowedOfHub wide t s old new) (λ why. FailsAs t setup why old new)
-    cause.BadHub
-    outcome stop m n old new is failed ends
+    cause.BadHub m n old new is failed ends
     (λ f. inl (refl, bad (failing (λ x. x ≡ setup) pipe.Stalled refl f)))
     (λ f. inr (failing IsAny pipe.Busy tt f)) (λ f. inr (failing IsAny pipe.NoAnswer tt f))
     (λ why told. told)
@@ -197,12 +194,11 @@ status_failed t why old new other f =
     inl (subst (λ r. Reads t get_status old r new) (said_err f.0 get_status.length why other f.1.1)
     f.1.0)
 
-pub status_told : (wide : Bool) (t : Target) (outcome : Result DeviceStatus PipeFault) (stop : Stop)
-    (old new : World) → Err stop ≡ answered_or cause.BadHub outcome
+pub status_told : (wide : Bool) {t : Target} {outcome : Result DeviceStatus PipeFault} {stop : Stop}
+    {old new : World} → Err stop ≡ answered_or cause.BadHub outcome
     → ReadAs device_status t get_status old outcome new → CauseAllowedOfHub wide t stop old new
-status_told wide t outcome stop old new is told =
-    stop_by (λ s. CauseAllowedOfHub wide t s old new) (StatusFails t old new) cause.BadHub outcome
-    stop 3
+status_told wide {t} {old} {new} is told =
+    stop_by (λ s. CauseAllowedOfHub wide t s old new) (StatusFails t old new) cause.BadHub 3
     1 old new is
     (λ why e. (told.answer, (told.asked.stages, sym told.told ∙ e))) told.ends
     (λ f. inl (refl, no_status old f.0 (leads_none old) f.1.0 f.1.1))
@@ -232,10 +228,10 @@ string_told t setup outcome fault_is stop old new is some stages ends =
     by _ failed after = tt
 
 -- that there was no answer
-pub unanswered_ends_failing : (t : Target) (setup : Setup) (outcome : Result (Vec ℕ) PipeFault)
-    (old new : World) → outcome ≡ Err pipe.NoAnswer → Reads t setup old outcome new
+pub unanswered_ends_failing : {t : Target} (setup : Setup) {outcome : Result (Vec ℕ) PipeFault}
+    {old new : World} → outcome ≡ Err pipe.NoAnswer → Reads t setup old outcome new
     → EndsFailing t IsAny pipe.NoAnswer old new
-unanswered_ends_failing t setup outcome old new is stages =
+unanswered_ends_failing {t} setup {outcome} {old} {new} is stages =
     failing IsAny pipe.NoAnswer tt (reads_failed t setup outcome old new stages pipe.NoAnswer is)
 
 -- Of a device, after other steps
@@ -254,19 +250,19 @@ text_bad_after led (bad_text text read bad) = bad_text text (text_after led read
 text_bad_after led (repeated begun mid texts text first asked same read again) =
     repeated begun mid texts text (leads_then led first) asked same read again
 
-pub because_after : (why : Cause) (t : Target) (old mid new : World) → Leads old mid
+pub because_after : (why : Cause) (t : Target) {old mid : World} (new : World) → Leads old mid
     → Because t mid new why → Because t old new why
-because_after cause.Silent t old mid new led b = failing_after led b
-because_after cause.Busy t old mid new led b = failing_after led b
-because_after (cause.Stalled named) t old mid new led b = failing_after led b
-because_after cause.BadDevice t old mid new led b = descriptor_bad_after led b
-because_after (cause.BadConfiguration index) t old mid new led b = text_bad_after led b
-because_after _ t old mid new led b = absurd b
+because_after cause.Silent t new led b = failing_after led b
+because_after cause.Busy t new led b = failing_after led b
+because_after (cause.Stalled named) t new led b = failing_after led b
+because_after cause.BadDevice t new led b = descriptor_bad_after led b
+because_after (cause.BadConfiguration index) t new led b = text_bad_after led b
+because_after _ t new led b = absurd b
 
-pub told_after : (stop : Stop) (t : Target) (old mid new : World) → Leads old mid
+pub told_after : (stop : Stop) (t : Target) {old mid : World} (new : World) → Leads old mid
     → CauseAllowed t stop mid new → CauseAllowed t stop old new
-told_after (Refused why) t old mid new led told = because_after why t old mid new led told
-told_after (Fault why) t old mid new led told = told
+told_after (Refused why) t new led told = because_after why t new led told
+told_after (Fault why) t new led told = told
 
 -- Of the texts of configurations
 
@@ -292,7 +288,7 @@ texts_told budget room t texts index (Refused why) old mid new left count asked 
       },
     )
 texts_told budget room t texts index (Refused why) old mid new left count asked led (inr told) =
-    inr (because_after why t old mid new led told)
+    inr (because_after why t new led told)
 texts_told budget room t texts index (Fault why) old mid new left count asked led told = told
 
 -- Of a hub, after other steps
@@ -306,11 +302,12 @@ fails_after led (no_status before answer first stages said) =
     no_status before answer (leads_then led first) stages said
 fails_after led (no_power port ends) = no_power port (failing_after led ends)
 
-pub hub_after : (wide : Bool) (stop : Stop) (t : Target) (old mid new : World) → Leads old mid
+pub hub_after : (wide : Bool) (stop : Stop) (t : Target) {old mid : World} (new : World)
+    → Leads old mid
     → CauseAllowedOfHub wide t stop mid new → CauseAllowedOfHub wide t stop old new
-hub_after wide (Refused why) t old mid new led (inl bad) = inl (bad.0, fails_after led bad.1)
-hub_after wide (Refused why) t old mid new led (inr b) = inr (because_after why t old mid new led b)
-hub_after wide (Fault why) t old mid new led told = told
+hub_after wide (Refused why) t new led (inl bad) = inl (bad.0, fails_after led bad.1)
+hub_after wide (Refused why) t new led (inr b) = inr (because_after why t new led b)
+hub_after wide (Fault why) t new led told = told
 
 pub at_start : (wide : Bool) (stop : Stop) (t : Target) (text : List ℕ) (old new : World)
     → CauseAllowedOfHub wide t stop old new → CauseAllowedAtStart wide t text stop old new
@@ -335,16 +332,16 @@ told_faults (Fault why) t old new told = told
 -- At a port
 
 pub port_fails : {port : HubPort} {old new : World} → PortFails port old new → CanFail port
-port_fails {port} {old} {new} f = port_can_fail port f.why f.before new f.failed
+port_fails {port} {new} f = port_can_fail port f.why f.before new f.failed
 
 pub fault_by : (port : HubPort) (why : EnumFault) (old new : World) → FaultBy port why old new
     → FaultAllowedAt port why new
 fault_by port fault.ParentLost old new by = port_fails by
 fault_by port _ old new by = by
 
-pub fault_after : (port : HubPort) (why : EnumFault) (old mid new : World) → Leads old mid
+pub fault_after : (port : HubPort) (why : EnumFault) {old mid : World} (new : World) → Leads old mid
     → FaultBy port why mid new → FaultBy port why old new
-fault_after port fault.ParentLost old mid new led by =
+fault_after port fault.ParentLost new led by =
     record {
       before = by.before;
       led = leads_then led by.led;
@@ -352,7 +349,7 @@ fault_after port fault.ParentLost old mid new led by =
       lost = by.lost;
       failed = by.failed;
     }
-fault_after port _ old mid new led by = by
+fault_after port _ new led by = by
 
 -- no port was asked
 pub fault_told_by : (port : HubPort) (why : EnumFault) (old new : World) → FaultAllowed why new
@@ -361,14 +358,14 @@ fault_told_by port fault.ParentLost old new told = absurd told
 fault_told_by port _ old new told = told
 
 -- what failed at the port
-abbrev AtPortFails : HubPort → PipeFault → World → World → Type 0
+abbrev pub AtPortFails : HubPort → PipeFault → World → World → Type 0
 AtPortFails port why old new = PortRead port old (Err why) new
     ⊎ ((feature : ℕ) × (PortSet port feature old (Err why) new
     ⊎ PortCleared port feature old (Err why) new))
 
 lost_by : {port : HubPort} {old new : World} (why : PipeFault) → fault_at_port why ≡
     fault.ParentLost → AtPortFails port why old new → PortFails port old new
-lost_by {old = old} why lost failed =
+lost_by {old} why lost failed =
     record { before = old; led = leads_none old; why = why; lost = lost; failed = failed }
 
 called_by : {A : Type 0} (port : HubPort) (outcome : Result A PipeFault) (old new : World)
@@ -389,15 +386,15 @@ pub call_ends : {A : Type 0} (port : HubPort) (result : Result A EnumFault)
     → IfErr outcome (λ why. FaultAfter 1 old why new)
     → ((why : PipeFault) → outcome ≡ Err why → AtPortFails port why old new)
     → MatchResult result (λ done. ⊤) (λ why. FaultBy port why old new)
-call_ends {A} port (Ok done) outcome old new is ends f = tt
+call_ends port (Ok done) outcome old new is ends f = tt
 call_ends {A} port (Err why) outcome old new is ends f =
     subst (λ (r : Result A EnumFault). IfErr r (λ why. FaultBy port why old new)) (sym is)
     (called_by port outcome old new ends f)
 
 early_after : {port : HubPort} {address : ℕ} {why : Cause} {old mid new : World} → Leads old mid
     → RefusedEarly port address mid new why → RefusedEarly port address old new why
-early_after {why = why} {old = old} {mid = mid} {new = new} led (answered t is b) =
-    answered t is (because_after why t old mid new led b)
+early_after {why} {new} led (answered t is b) =
+    answered t is (because_after why t new led b)
 early_after led (not_enabled n) = not_enabled
     (record {
       before = n.before;
@@ -407,10 +404,11 @@ early_after led (not_enabled n) = not_enabled
       off = n.off;
     })
 
-pub at_after : (stop : Stop) (port : HubPort) (address : ℕ) (old mid new : World) → Leads old mid
+pub at_after : (stop : Stop) (port : HubPort) (address : ℕ) {old mid : World} (new : World)
+    → Leads old mid
     → CauseAllowedAt port address stop mid new → CauseAllowedAt port address stop old new
-at_after (Refused why) port address old mid new led told = early_after led told
-at_after (Fault why) port address old mid new led told = fault_after port why old mid new led told
+at_after (Refused why) port address new led told = early_after led told
+at_after (Fault why) port address new led told = fault_after port why new led told
 
 -- of the device at the port
 pub stop_told_at : (stop : Stop) (port : HubPort) (address : ℕ) (t : Target) (old new : World)
@@ -429,7 +427,7 @@ silent_after led told = record {
 
 early_plain : {port : HubPort} {address : ℕ} {old new : World} (why : Cause)
     → RefusedEarly port address old new why → IsPlain why
-early_plain {old = old} {new = new} why (answered t is b) = because_plain why t old new b
+early_plain {old} {new} why (answered t is b) = because_plain why t old new b
 early_plain why (not_enabled n) = tt
 
 pub told_in : (tier : ℕ) (stop : Stop) (port : HubPort) (address : ℕ) (old new : World)

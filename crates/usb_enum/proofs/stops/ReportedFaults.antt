@@ -1,17 +1,17 @@
 -- A fault of the bus is the one that it reported last, whatever the bus does.
-use Rattle.std.proofs.Common.{◌≡◌, sym, subst, ℕ, List, Bool, Option, Some, Result}
-use Rattle.std.proofs.Common.{Ok, Err, IfErr, inl, inr}
+use Rattle.std.proofs.Common.{◌≡◌, sym, subst, ℕ, List, Bool, Option, Result}
+use Rattle.std.proofs.Common.{Ok, Err, IfErr, IfSome, inl, inr}
 use Rattle.usb_world.specs.{BusFault}
 use Rattle.usb_pipe.specs.{BusToldIt, PipeFault}
 use Rattle.usb_pipe.specs.declared.fault.PipeFault.TheVariants as pipe
 use Rattle.usb_tree.proofs.Interface.{decided}
 use Rattle.usb_enum.specs.{Cause, EnumFault, Stop, IsReported, IsReportedStop, answered_or, at_port}
-use Rattle.usb_enum.specs.{device_bytes, fits_tier, is_device, stop_of}
+use Rattle.usb_enum.specs.{device_bytes, fits_tier, is_device, stop_in}
 use Rattle.usb_enum.proofs.ports.Hubs.{deep_is}
 
 module _ {A : Type 0} (last : Option BusFault) where
   pub answers_reported : (stalled : Cause) (outcome : Result A PipeFault) → BusToldIt outcome last
-      → IfErr (answered_or stalled outcome) (λ stop. IsReportedStop stop last)
+      → IfSome (stop_in (answered_or stalled outcome)) (λ stop. IsReportedStop stop last)
   answers_reported stalled (Ok given) told = tt
   answers_reported stalled (Err pipe.Stalled) told = tt
   answers_reported stalled (Err pipe.Busy) told = tt
@@ -19,12 +19,6 @@ module _ {A : Type 0} (last : Option BusFault) where
   answers_reported stalled (Err pipe.Broken) told = tt
   answers_reported stalled (Err (pipe.Bus fault)) told = told
   answers_reported stalled (Err pipe.Memory) told = tt
-
-  pub answered_reported : (stalled : Cause) (outcome : Result A PipeFault) (stop : Stop)
-      → BusToldIt outcome last → Err stop ≡ answered_or stalled outcome → IsReportedStop stop last
-  answered_reported stalled outcome stop told is =
-      subst (λ (r : Result A Stop). IfErr r (λ stop. IsReportedStop stop last)) (sym is)
-      (answers_reported stalled outcome told)
 
   pub ports_reported : (outcome : Result A PipeFault) → BusToldIt outcome last
       → IfErr (at_port outcome) (λ fault. IsReported fault last)
@@ -41,21 +35,6 @@ module _ {A : Type 0} (last : Option BusFault) where
   port_reported outcome fault told is =
       subst (λ (r : Result A EnumFault). IfErr r (λ fault. IsReported fault last)) (sym is)
       (ports_reported outcome told)
-
-module _ (last : Option BusFault) where
-  by : {one stop : Stop} → Some one ≡ Some stop → IsReportedStop one last
-      → IsReportedStop stop last
-  by {one} {stop} is told =
-      let same : one ≡ stop = cc in subst (λ s. IsReportedStop s last) same told
-
-  pub stop_reported : (why : PipeFault) (stop : Stop) → BusToldIt {A = Unit {0}} (Err why) last
-      → stop_of why ≡ Some stop → IsReportedStop stop last
-  stop_reported pipe.Stalled stop told is = absurd cc
-  stop_reported pipe.Busy stop told is = by is tt
-  stop_reported pipe.NoAnswer stop told is = by is tt
-  stop_reported pipe.Broken stop told is = by is tt
-  stop_reported (pipe.Bus fault) stop told is = by is told
-  stop_reported pipe.Memory stop told is = by is tt
 
 pub device_reported : (last : Option BusFault) (low : Bool) (bytes : List ℕ)
     → IfErr (device_bytes low bytes) (λ stop. IsReportedStop stop last)

@@ -11,9 +11,8 @@ use Rattle.usb_request.specs.{PORT_RESET, C_PORT_RESET, set_address}
 use Rattle.usb_port.specs.{PortState, is_attached, speed_of, reset, PortStatus, SetReset, set_call}
 use Rattle.usb_port.specs.{clear_call, called_port}
 use Rattle.usb_descriptor.specs.{device_head_of}
-use Rattle.usb_device.specs.{State, Spec, IsSpec, Ports, vacant, taken, reach, state_at}
-use Rattle.usb_device.specs.{port_at, Location, path_to, reach_on, state_on, state_there}
-use Rattle.usb_device.specs.{port_there}
+use Rattle.usb_device.specs.{State, Spec, IsSpec, Ports, vacant, taken, reach, state_at, port_at}
+use Rattle.usb_device.specs.{Location, path_to, reach_on, state_on, state_there, port_there}
 use Rattle.usb_world.specs.{after_taking, Relation, Was, EachWas, one_more, Consistent, World}
 use Rattle.usb_tree.specs.{address_of, has_power, has_power_at, pending, deep_at}
 use Rattle.usb_world.proofs.Interface.{course_wider, pending_persists, rests_or_pends, sane_spec}
@@ -99,11 +98,10 @@ reset_lost port address m n status {old} {set} {told} first second at_set asks c
           let h = having f p address old fair.held in
           let done : PortCallDone p SetReset old set = called.calls.done (after_taking f p h.has) p
           SetReset (called_is f port p address old fair.spare h (set_call PORT_RESET) SetReset refl)
-          (done_at called.outcome tt called.told) in
+          (done_at called.told) in
           let k = having f p address set (at_set.within.stays f p fair.spare fair.held) in
           let seen : PortStatusAt p status set told = shown.tells.tells (after_taking f p k.has) p
-          (at_taking f port p k.has fair.spare.at) k.owned status
-          (done_at shown.outcome status shown.told) in
+          (at_taking f port p k.has fair.spare.at) k.owned status (done_at shown.told) in
           inl (elim fair.occupied [
             | inl x ↦ later (pending_persists p
                 (at_set.only.at f p fair.spare fair.held none_set).spares x)
@@ -218,7 +216,7 @@ pub head_stops : (port : HubPort) (address m n : ℕ) (low pre : Bool) (stop : S
     → StopsFairly early_fault port address stop old new
 head_stops port address m n low pre (Fault why) first second at at_zero asks was is told explains =
     record { why = λ f p fair. faults_for_told p why _ told }
-head_stops port address m n low pre (Refused cause) {old} {mid} {new} first second at at_zero asks
+head_stops port address m n low pre (Refused cause) {mid} {new} first second at at_zero asks
     was is told explains = record {
       why = λ f p fair held.
           let spare = held_spare f port p address fair.spare in
@@ -226,8 +224,7 @@ head_stops port address m n low pre (Refused cause) {old} {mid} {new} first seco
           let here = fair_then f port p address m n first second fair at in
           let zero = zero_held f p mid sound (at_zero.within.stays f p spare held) in
           let speed = (was.speed sound).found f p spare held (regular_order fair.order) in
-          let single = ((within_kept port address mid new asks.addresses).stays f p fair.spare
-          here.held).single in
+          let single = ((within_kept asks.addresses).stays f p fair.spare here.held).single in
           pends_reached (λ spec. early_fault spec ≡ Some cause) p new
           (reached_on p (asks.ports fair.working p)
           (was.reaches.reached f p spare held fair.order fair.occupied sound))
@@ -333,7 +330,7 @@ module _ (port : HubPort) (address m n : ℕ) (target : Target)
         → StopsFairly addressed_fault port address stop old new
     address_stops stop told = record {
       why = λ f p fair. let failed =
-          answered_err (Stalled request.Address) outcome stop told in
+          answered_err (Stalled request.Address) told in
           subst (λ x. StopsFor addressed_fault f p old x new) failed.2
           (by_fault f p fair failed.0 failed.1);
     }
@@ -385,8 +382,7 @@ module _ (port : HubPort) (address l m n : ℕ) (target : Target) {old mid given
     single_given = (at_given.within.stays f p fair.spare fair.held).single
 
     single_new : new.shared ≡ false
-    single_new = ((within_kept port address given new asks.addresses).stays f p fair.spare
-        fair_given.held).single
+    single_new = ((within_kept asks.addresses).stays f p fair.spare fair_given.held).single
 
     waiting : AtPath (AwaitsAddress target) p mid
     waiting = awaits.found.found f p spare_zero held (regular_order fair.order)
@@ -407,7 +403,7 @@ module _ (port : HubPort) (address l m n : ℕ) (target : Target) {old mid given
     responsive spec g = record {
       loud = g.head.loud;
       free = g.head.free;
-      max = head_packet spec target.low target.max g.speed g.head;
+      max = head_packet g.speed g.head;
     }
 
   pub descriptor_stops : (stop : Stop) → StopFaults stop new
@@ -479,7 +475,7 @@ module _ (port : HubPort) (address l m n : ℕ) (target : Target) {old mid given
               so = λ x. record { has = own.has; is = inl has; owned = own.owned };
               single = t.single;
             } in (
-              (within_kept port 0 given new asks.addresses).stays f p
+              (within_kept asks.addresses).stays f p
                   (held_spare f port p address fair.spare) at_zero,
               losses,
             )

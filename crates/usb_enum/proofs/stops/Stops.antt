@@ -80,7 +80,7 @@ module _ (t : Target) (bytes : List ℕ) (options : HostOptions) (tier supply : 
         fails = bad.1;
       }))
   hub_as (Refused why) old read set new hub texts all chosen choice first led (inr b) =
-      by_answer (because_after why t old set new (leads_then first led) b)
+      by_answer (because_after why t new (leads_then first led) b)
   hub_as (Fault why) old read set new hub texts all chosen choice first led told = told
 
   pub hub_stops : (stop : Stop) (old read set new : World) → fits_tier tier bytes ≡ Ok tt
@@ -156,7 +156,7 @@ module _ (port : HubPort) (addresses : Addresses) (options : HostOptions) (tier 
         led = led;
       }
   gives_reason (Refused why) old mid new (Err fault) first led reason gives =
-      fault_after port fault old mid new first gives
+      fault_after port fault new first gives
   gives_reason (Fault why) old mid new result first led reason gives =
       subst (λ r. EndsFor port addresses options tier supply old r new) (sym gives.0)
       (subst (λ w. FaultBy port why old w) (sym gives.1) reason)

@@ -1,5 +1,5 @@
 -- What a failed call tells, in the words of the calls above it.
-use Rattle.std.proofs.Common.{◌⊎◌, inl, inr, ℕ, Result, Ok, Err, sym, subst, ◌≡◌, IfErr, IsErrAnd}
+use Rattle.std.proofs.Common.{◌⊎◌, inl, inr, ℕ, Err}
 use Rattle.usb_world.specs.{World}
 use Rattle.usb_pipe.specs.{PipeFault}
 use Rattle.usb_hub.specs.{HubPort, Root, External, PortRead, PortSet, PortCleared}
@@ -31,10 +31,3 @@ pub port_can_fail : (port : HubPort) (why : PipeFault) (old new : World)
 port_can_fail (External hub port) why old new failed = tt
 port_can_fail (Root number) why old new (inl read) = let done = read.status in absurd cc
 port_can_fail (Root number) why old new (inr act) = root_fails number act.0 why old new act.1
-
--- an error that is handed on
-
-pub handed_on : {A E : Type 0} (r : Result A E) (P : E → Type 0) (why : E)
-    → IsErrAnd r (λ e. e ≡ why) → P why → IfErr r P
-handed_on (Ok x) P why same p = tt
-handed_on (Err e) P why same p = subst P (sym same) p

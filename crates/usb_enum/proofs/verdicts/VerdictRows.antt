@@ -1,8 +1,7 @@
 -- The verdict on a device, row by row: what it is where the rows before do not hold.
 use Rattle.std.proofs.Common.{◌≡◌, inl, inr, ◌<◌, ℕ, zero, suc, ◌+◌, ◌==◌, ◌&&◌, not, Bool, true}
 use Rattle.std.proofs.Common.{false, [], take, slice_index_or, Option, None, Some, Err, Ok, is_ok}
-use Rattle.std.proofs.Common.{refl, ap}
-use Rattle.std.proofs.Common.{sym, ◌∙◌, arith}
+use Rattle.std.proofs.Common.{refl, ap, sym, ◌∙◌, arith}
 use Rattle.std.specs.Option.{option_or}
 use Rattle.std.proofs.lemmas.Bool.{cases_order}
 use Rattle.usb_descriptor.specs.{device_head_of, configuration_count}

@@ -1,24 +1,56 @@
--- Devices keep their numbers.
-use Rattle.std.proofs.Common.{◌≡◌, ◌≢◌, ◌⊎◌, ◌∙◌, ap, arith, inl, inr, refl, subst, sym, ℕ, ◌<◌}
-use Rattle.std.proofs.Common.{◌≤◌}
-use Rattle.std.proofs.Common.{List, Ok, Bool, true, false, not, Option, Some, None, length}
-use Rattle.std.proofs.Common.{get_or-set_other, get_or-set_same}
+-- Numbers are given once: devices keep theirs, and no two that are listed have the same.
+use Rattle.std.proofs.Common.{◌≡◌, ◌∙◌, ap, arith, refl, ℕ, ◌+◌, ◌<◌, List, [], ◌∷◌, length, map}
+use Rattle.std.proofs.Common.{get_or, set, ◌≢◌, ◌⊎◌, inl, inr, subst, sym, ◌≤◌, Ok, Bool, true}
+use Rattle.std.proofs.Common.{false, not, Option, Some, None, get_or-set_other, get_or-set_same}
+use Rattle.std.proofs.Common.{slice_index}
+use Rattle.std.specs.List.{range_with_len}
+use Rattle.std.proofs.lemmas.List.Edits.{fill_by_more}
+use Rattle.std.proofs.lemmas.List.FromFn.{fill_by_all}
+use Rattle.usb_host.specs.{AreNumbers, DeviceNumbers, first_numbers, Forgets, HostState, KeepsKnown}
+use Rattle.usb_host.specs.{KeepsNumbers, Known, KnownDevice, OnlyBusSteps, OnlyLeaves, device_in}
+use Rattle.usb_host.specs.{known_device, known_in, claims, with_number, NumbersFit}
 use Rattle.std.specs.BTreeMap.{insert_entry, is_at}
 use Rattle.std.specs.Map.{lookup}
 use Rattle.usb_port.specs.{path_cmp}
-use Rattle.usb_resources.specs.{Addresses, IsTaken}
-use Rattle.usb_enum.specs.{Accepted, Cause, Finding, TakesFor}
-use Rattle.usb_enum.specs.{HostOptions}
+use Rattle.usb_resources.specs.{Addresses, IsTaken, HasAddresses}
+use Rattle.usb_enum.specs.{Accepted, Cause, Finding, TakesFor, HostOptions}
 use Rattle.usb_enum.specs.declared.finding.Finding.TheVariants.{Device, Refused}
 use Rattle.usb_table.specs.{Entries, accepted_device_at, accepted_device_of, address_in}
 use Rattle.usb_table.specs.{is_at_or_below, without}
 use Rattle.usb_table.proofs.Interface.{path_tied}
 use Rattle.usb_host.specs.Accounts.{Accounts}
-use Rattle.usb_host.specs.{DeviceNumbers, Forgets, HostGoes, HostState, KeepsKnown}
-use Rattle.usb_host.specs.{KeepsNumbers, Known, KnownDevice, OnlyBusSteps, OnlyLeaves, device_in}
-use Rattle.usb_host.specs.{known_device, known_in, claims, with_number}
 use Rattle.usb_host.proofs.entries.Agreements.{lookup-insert_entry_elsewhere, lookup-without}
-use Rattle.usb_host.proofs.entries.EntryClaims.{claims_taken, lookup-insert_entry_here}
+use Rattle.usb_host.proofs.entries.Balances.{claims_taken, lookup-insert_entry_here}
+use Rattle.usb_host.proofs.entries.Balances.{claims_distinct}
+use Rattle.usb_world.proofs.Interface.{same_is}
+
+map_same : (xs : List ℕ) → map (λ k. k) xs ≡ xs
+map_same [] = refl
+map_same (x ∷ xs) = ap (λ ys. x ∷ ys) (map_same xs)
+
+-- an array with its indexes
+pub indexes_are : (of : List ℕ) → length of ≡ 128 → ((k : ℕ) → k < 128 → get_or of k 0 ≡ k)
+    → record { of = of; next = 128 } ≡ first_numbers
+unfolding first_numbers
+indexes_are of long each =
+    ap (λ (xs : List ℕ). let n : DeviceNumbers = record { of = xs; next = 128 } in n)
+    (fill_by_all (λ k. k) of 128 0 long each ∙ map_same (range_with_len 0 128))
+
+pub are_indexes : (of : List ℕ) → length of ≡ 128 → ((k : ℕ) → k < 128 → get_or of k 0 ≡ k)
+    → AreNumbers (record { of = of; next = 128 })
+are_indexes of long each = record {
+  long = long;
+  given = λ a lt. omega (arith, each a lt);
+  differ = λ a b la lb same. omega (arith, each a la, each b lb);
+}
+
+-- one more index is written
+pub index_written : (of : List ℕ) (a i v : ℕ) → a < length of
+    → ((k : ℕ) → k < a → get_or of k 0 ≡ k) → i ≡ a → v ≡ a
+    → (k : ℕ) → k < a + 1 → get_or (set of i v) k 0 ≡ k
+index_written of a i v lt each x y = rw (x, y) (fill_by_more (λ k. k) of a 0 lt each)
+
+-- Kept
 
 pub keeps_none : (a : Known) → KeepsKnown a a
 keeps_none a = record {
@@ -67,9 +99,6 @@ keeps_rests a r = keeps_same (ap known_in r)
 
 pub keeps_leaves : {m : Bool} {a b : HostState} → OnlyLeaves m a b → KeepsNumbers a b
 keeps_leaves x = keeps_same (ap known_in x.only)
-
-pub goes_none : {n : ℕ} {h : HostState} → HostGoes n h h
-goes_none {h = h} = record { spends = omega arith; numbers = keeps_none (known_in h) }
 
 -- Entries are forgotten
 
@@ -189,3 +218,51 @@ module _ (path : List ℕ) (es : Entries) where
           let is = claims_taken accounts p _
           (taken p e _ refl at) in
           absurd (cc (subst (IsTaken pool) same is, takes.free.1))
+
+-- No two are the same
+
+-- a device has an address, and the number of that
+record IsAt (numbers : DeviceNumbers) (o : Option Finding) (d : KnownDevice) : Type 0 where
+  address : ℕ
+  has : address_in o ≡ Some address
+  number : d.number ≡ slice_index numbers.of address
+
+address_of : (numbers : DeviceNumbers) (o : Option Finding) (d : KnownDevice)
+    → known_device (accepted_device_of o) numbers ≡ Some d → IsAt numbers o d
+address_of numbers None d is = absurd (cc is)
+address_of numbers (Some (Refused cause)) d is = absurd (cc is)
+address_of numbers (Some (Device device)) d is =
+    let known : KnownDevice = record {
+      accepted = device;
+      number = slice_index numbers.of device.address;
+    } in
+    let same : known ≡ d = cc is in
+    record {
+      address = device.address;
+      has = refl;
+      number = ap (λ (x : KnownDevice). x.number) (sym same);
+    }
+
+module _ (k : Known) (pool : Addresses) (are : AreNumbers k.numbers)
+    (accounts : Accounts k.entries pool) (range : HasAddresses pool) where
+  at_path : (path : List ℕ) (d : KnownDevice) → device_in path k ≡ Some d
+      → IsAt k.numbers (lookup (is_at (path_cmp path)) k.entries) d
+  at_path path d at = address_of k.numbers (lookup (is_at (path_cmp path)) k.entries) d at
+
+  within : (path : List ℕ) (a : ℕ) → claims k.entries path ≡ Some a → a < 128
+  within path a has = (range a (claims_taken accounts path a has)).1
+
+  pub numbers_fit : NumbersFit k
+  numbers_fit = record {
+    given = λ path d at.
+        let x = at_path path d at in
+        rw x.number (are.given x.address (within path x.address x.has));
+    differ = λ path other d e at there same.
+        let x = at_path path d at in
+        let y = at_path other e there in
+        let one : x.address ≡ y.address = are.differ x.address y.address
+        (within path x.address x.has) (within other y.address y.has)
+        (sym x.number ∙ same ∙ y.number) in
+        sym (same_is path other (claims_distinct k.entries pool accounts path other x.address x.has
+        (y.has ∙ ap Some (sym one))));
+  }

@@ -1,23 +1,39 @@
--- Where the devices are that were reported.
+-- Where the devices are that were reported, which news comes next, and how few they are.
 use Rattle.std.proofs.Common.{◌≡◌, ◌≢◌, ◌∙◌, ap, arith, refl, subst, sym, cond, ℕ, zero, suc, ◌<◌}
-use Rattle.std.proofs.Common.{List, [], ◌∷◌, Bool, true, false, Some, None, is_some, nat_eq}
+use Rattle.std.proofs.Common.{List, [], ◌∷◌, Bool, true, false, Some, None, is_some, nat_eq, ◌||◌}
+use Rattle.std.proofs.Common.{Option, eqb, length, map, unwrap_or, inl, inr}
 use Rattle.std.specs.BTreeMap.{insert_entry, is_at}
-use Rattle.std.specs.List.{AllByRecursion, insert, remove, slice_get}
+use Rattle.std.specs.List.{AllByRecursion, insert, remove, slice_get, IsDistinct, list_any}
 use Rattle.std.specs.List.Sorted.{IsStrictlySortedBy}
-use Rattle.std.specs.Map.{keys_of, remove_entry}
+use Rattle.std.specs.Map.{keys_of, remove_entry, lookup}
 use Rattle.std.specs.Ordering.{is_eq, match_ordering, ordering_reverse}
 use Rattle.std.specs.Cmp.Lexicographic.{nat_list_cmp_total, pointwise, same_text, texts_ties}
 use Rattle.std.specs.declared.cmp.Ordering.{Ordering}
 use Rattle.std.specs.declared.cmp.Ordering.TheVariants.{Less, Equal, Greater}
 use Rattle.std.proofs.lemmas.List.Elements.{All-from_recursion, recursion_from_All}
-use Rattle.std.proofs.lemmas.Map.Entries.{lookup_at_gap, lookup_from_place}
+use Rattle.std.proofs.lemmas.Map.Entries.{lookup_at_gap, lookup_from_place, length-keys_of}
+use Rattle.std.proofs.lemmas.Map.Entries.{place_from_lookup}
 use Rattle.std.proofs.lemmas.Map.Keys.{IsDistinct-from_sorted, sorted_head, sorted_tail}
 use Rattle.std.proofs.lemmas.Map.Views.{All-keys-insert_entry, All-map-remove_entry}
 use Rattle.std.specs.Cmp.{eq_by_cmp_equiv}
 use Rattle.usb_port.specs.{path_cmp}
-use Rattle.usb_table.proofs.Interface.{path_itself}
-use Rattle.usb_host.specs.{IsPlaceOf, ReportedDevices, ReportedRise, reported_at}
-use Rattle.usb_host.proofs.entries.RisingEntries.{above_all}
+use Rattle.usb_table.proofs.Interface.{path_itself, path_tied}
+use Rattle.usb_host.specs.{IsPlaceOf, ReportedDevices, ReportedRise, reported_at, HasArrived}
+use Rattle.usb_host.specs.{NoneLeft, Agrees, DeviceNumbers, HostState, Known, claims, known_in}
+use Rattle.usb_host.specs.{HasLeft, IsFirstLeft, IsLeast, IsNextUnreported, number_in, KnownDevice}
+use Rattle.usb_host.specs.{known_device}
+use Rattle.usb_host.proofs.entries.Agreements.{above_all}
+use Rattle.std.proofs.lemmas.Bool.{eqb-true, ne_eqb, cases_order}
+use Rattle.std.proofs.lemmas.Map.Steps.{length-le_from_distinct_below}
+use Rattle.usb_resources.specs.{Addresses, HasAddresses}
+use Rattle.usb_world.proofs.Interface.{same_is}
+use Rattle.usb_enum.specs.{Finding}
+use Rattle.usb_enum.specs.declared.finding.Finding.TheVariants.{Device, Refused}
+use Rattle.usb_table.specs.{Entries, address_in, ComesAfter, IsLast, IsNext, Stands}
+use Rattle.usb_table.specs.{accepted_device_of, is_accepted}
+use Rattle.usb_host.specs.Accounts.{Accounts}
+use Rattle.usb_host.proofs.entries.Balances.{claims_distinct, claims_taken}
+use Rattle.std.specs.Option.{option_map}
 
 pub rise_none : ReportedRise []
 unfolding IsStrictlySortedBy
@@ -169,3 +185,256 @@ has_at p place q n rs rise is here true same =
     (subst (λ (x : List ℕ). slice_get rs place ≡ Some (x, n)) path here)))
 has_at p place q n rs rise is here false other =
     sym (ap is_some (unreported_at p place (q, n) rs rise is here (sym (other ∙ texts_ties q p))))
+
+-- The news that comes next
+
+-- The order of paths
+
+pub not_less : (p : List ℕ) → path_cmp p p ≡ Less → (b : Bool) → is_at (path_cmp p) p ≡ b
+    → b ≡ true → {P : Type 0} → P
+not_less p less b is on = absurd (cc (rw less at is, on))
+
+not_both : (p q : List ℕ) → path_cmp p q ≡ Less → path_cmp q p ≡ Less → {P : Type 0} → P
+not_both p q less back =
+    absurd (cc (nat_list_cmp_total.antisymm q p ∙ ap ordering_reverse less, back))
+
+less_by : (p q : List ℕ) → path_cmp q p ≢ Less → q ≢ p → (o : Ordering) → path_cmp q p ≡ o
+    → path_cmp p q ≡ Less
+less_by p q least other Less is = absurd (least is)
+less_by p q least other Equal is = absurd (other (path_tied q p (rw is refl)))
+less_by p q least other Greater is = nat_list_cmp_total.antisymm p q ∙ ap ordering_reverse is
+
+-- The first that left
+
+rising_at : (rs : ReportedDevices) (i j : ℕ) (a b : List ℕ × ℕ) → ReportedRise rs → i < j
+    → slice_get rs i ≡ Some a → slice_get rs j ≡ Some b → path_cmp a.0 b.0 ≡ Less
+rising_at [] i j a b rise lt at_i at_j = absurd cc
+rising_at (r ∷ rs) zero zero a b rise lt at_i at_j = absurd (omega arith)
+rising_at (r ∷ rs) zero (suc j) a b rise lt at_i at_j =
+    let same : r ≡ a = cc at_i in
+    subst (λ (x : List ℕ × ℕ). path_cmp x.0 b.0 ≡ Less) same
+    (path_at (λ k. path_cmp r.0 k ≡ Less) rs j b (sorted_head path_cmp r.0 (keys_of rs) rise) at_j)
+rising_at (r ∷ rs) (suc i) zero a b rise lt at_i at_j = absurd (omega arith)
+rising_at (r ∷ rs) (suc i) (suc j) a b rise lt at_i at_j =
+    rising_at rs i j a b (sorted_tail path_cmp r.0 (keys_of rs) rise) (omega arith) at_i at_j
+
+module _ (k : Known) (rise : ReportedRise k.reported) where
+  -- the place of a device that left
+  place_of_left : (q : List ℕ) → (left : HasLeft k q)
+      → (i : ℕ) × (slice_get k.reported i ≡ Some (q, left.number))
+  place_of_left q left =
+      let place = place_from_lookup (is_at (path_cmp q)) k.reported left.number left.reported in
+      let same : q ≡ place.1 = path_tied q place.1 place.3 in (
+        place.0,
+        subst (λ (x : List ℕ). slice_get k.reported place.0 ≡ Some (x, left.number))
+            (sym same) place.2,
+      )
+
+  pub none_left : NoneLeft k → (q : List ℕ) → HasLeft k q → ⊥
+  none_left none q left =
+      let place = place_of_left q left in left.gone (none place.0 (q, left.number) place.1)
+
+  least_by : (place : ℕ) (p : List ℕ) (n : ℕ) → slice_get k.reported place ≡ Some (p, n)
+      → ((i : ℕ) (other : List ℕ × ℕ) → i < place → slice_get k.reported i ≡ Some other
+      → number_in other.0 k ≡ Some other.1) → (q : List ℕ) → HasLeft k q → path_cmp q p ≢ Less
+  least_by place p n at before q left less =
+      let there = place_of_left q left in
+      elim (cases_order there.0 place) [
+        | inl same ↦
+            let here : slice_get k.reported place ≡ Some (q, left.number) =
+            subst (λ (i : ℕ). slice_get k.reported i ≡ Some (q, left.number)) same there.1 in
+            let both : (q, left.number) ≡ (p, n) = cc (sym here ∙ at) in
+            let path : q ≡ p = ap (λ (d : List ℕ × ℕ). d.0) both in
+            not_less p (rw path at less) (is_at (path_cmp p) p) refl (path_itself p)
+        | inr other ↦ elim other [
+          | inl lt ↦ left.gone (before there.0 (q, left.number) lt there.1)
+          | inr gt ↦ not_both p q (rising_at k.reported place there.0 (p, n) (q, left.number) rise
+              gt at there.1) less
+        ]
+      ]
+
+  pub left_first : (place : ℕ) → (first : IsFirstLeft k place) → (p : List ℕ) (n : ℕ)
+      → slice_get k.reported place ≡ Some (p, n) → IsLeast (HasLeft k) p
+  left_first place first p n at =
+      let same : first.device ≡ (p, n) = cc (sym first.at ∙ at) in
+      record {
+        is = record {
+          number = n;
+          reported = reported_here p place n k.reported rise at;
+          gone = subst (λ (d : List ℕ × ℕ). number_in d.0 k ≢ Some d.1) same first.gone;
+        };
+        least = least_by place p n at first.before;
+      }
+
+-- The next that arrived
+
+abbrev pub number_of : DeviceNumbers → Option Finding → Option ℕ
+number_of numbers o =
+    option_map (λ (d : KnownDevice). d.number) (known_device (accepted_device_of o) numbers)
+
+-- a path with a number has an accepted device
+numbered : (numbers : DeviceNumbers) (o : Option Finding) (n : ℕ) → number_of numbers o ≡ Some n
+    → (finding : Finding) × (o ≡ Some finding) × (is_accepted finding ≡ true)
+numbered numbers None n is = absurd (cc is)
+numbered numbers (Some (Device device)) n is = (Device device, refl, refl)
+numbered numbers (Some (Refused cause)) n is = absurd (cc is)
+
+module _ (k : Known) (last : Option (List ℕ))
+    (passed : (q : List ℕ) → HasArrived k q → ComesAfter last q) where
+  stands : (q : List ℕ) → HasArrived k q → Stands is_accepted last k.entries q
+  stands q arrived =
+      let x = numbered k.numbers (lookup (is_at (path_cmp q)) k.entries) arrived.number
+      arrived.there in
+      record { finding = x.0; found = x.1; fits = x.2; after = passed q arrived }
+
+  pub none_arrived : IsLast is_accepted last k.entries → (q : List ℕ) → HasArrived k q → ⊥
+  none_arrived none q arrived = none q (stands q arrived)
+
+  module _ (p : List ℕ) (next : IsNext is_accepted last k.entries p) where
+    unreported : (o : Option ℕ) → is_some o ≡ false → o ≡ None
+    unreported None off = refl
+    unreported (Some n) off = absurd (cc off)
+
+    pub next_arrived : (n : ℕ) → number_in p k ≡ Some n
+        → is_some (reported_at p k.reported) ≡ false → IsNextUnreported k (p, n)
+    next_arrived n there off = record {
+      arrived = record {
+        is = record {
+          number = n;
+          there = there;
+          unreported = unreported (reported_at p k.reported) off;
+        };
+        least = λ q arrived. next.least q (stands q arrived);
+      };
+      number = refl;
+    }
+
+    -- one that was reported is passed
+    pub passed_next : is_some (reported_at p k.reported) ≡ true → (q : List ℕ) → HasArrived k q
+        → ComesAfter (Some p) q
+    passed_next on q arrived =
+        less_by p q (next.least q (stands q arrived)) (λ same. absurd (cc (
+          on,
+          ap (λ (o : Option ℕ). is_some o) (rw same at arrived.unreported),
+        ))) (path_cmp q p) refl
+
+-- Each device that was reported is there, and they are those that are accepted
+
+pub same_known : (k : Known) → ReportedRise k.reported → NoneLeft k
+    → ((q : List ℕ) → HasArrived k q → ⊥) → (q : List ℕ)
+    → reported_at q k.reported ≡ number_in q k
+same_known k rise none all q = by (reported_at q k.reported) refl (number_in q k) refl
+  where
+    by : (r : Option ℕ) → reported_at q k.reported ≡ r → (n : Option ℕ) → number_in q k ≡ n → r ≡ n
+    by None at None there = refl
+    by None at (Some n) there =
+        absurd (all q (record { number = n; there = there; unreported = at }))
+    by (Some m) at n there =
+        let place = place_from_lookup (is_at (path_cmp q)) k.reported m at in
+        let same : q ≡ place.1 = path_tied q place.1 place.3 in
+        let here : number_in q k ≡ Some m =
+        rw same (none place.0 (place.1, m) place.2) in
+        sym here ∙ there
+
+-- Fewer than addresses
+
+length_mapped : (f : List ℕ → ℕ) (ps : List (List ℕ)) → length (map f ps) ≡ length ps
+length_mapped f [] = refl
+length_mapped f (p ∷ ps) = ap suc (length_mapped f ps)
+
+module _ (es : Entries) (pool : Addresses) (accounts : Accounts es pool)
+    (range : HasAddresses pool) where
+  address : List ℕ → ℕ
+  address p = unwrap_or (claims es p) 0
+
+  -- each of the paths has an accepted device
+  abbrev Listed : List (List ℕ) → Type 0
+  Listed ps = AllByRecursion (λ p. (a : ℕ) × (claims es p ≡ Some a)) ps
+
+  same_device : (p q : List ℕ) (a b : ℕ) → claims es p ≡ Some a → claims es q ≡ Some b
+      → address p ≡ address q → q ≡ p
+  unfolding address
+  same_device p q a b at_p at_q same =
+      let addresses : a ≡ b = rw (at_p, at_q) at same in
+      same_is p q (claims_distinct es pool accounts p q a at_p (rw addresses at_q))
+
+  apart : (p : List ℕ) (a : ℕ) → claims es p ≡ Some a → (qs : List (List ℕ)) → Listed qs
+      → AllByRecursion (λ q. q ≢ p) qs
+      → AllByRecursion (λ b. eqb (address p) b ≡ false) (map address qs)
+  apart p a at [] listed other = tt
+  apart p a at (q ∷ qs) listed other = (
+    ne_eqb (address p) (address q) (λ same.
+        other.0 (same_device p q a listed.0.0 at listed.0.1 same)),
+    apart p a at qs listed.1 other.1,
+  )
+
+  others : (p : List ℕ) (qs : List (List ℕ)) → AllByRecursion (λ q. path_cmp p q ≡ Less) qs
+      → AllByRecursion (λ q. q ≢ p) qs
+  others p [] less = tt
+  others p (q ∷ qs) less = (
+    λ same. not_less p (rw same at less.0) (is_at (path_cmp p) p) refl (path_itself p),
+    others p qs less.1,
+  )
+
+  distinct : (ps : List (List ℕ)) → Listed ps → IsStrictlySortedBy path_cmp ps
+      → IsDistinct eqb (map address ps)
+  unfolding IsDistinct
+  distinct [] listed rise = tt
+  distinct (p ∷ ps) listed rise = (
+    apart p listed.0.0 listed.0.1 ps listed.1 (others p ps (sorted_head path_cmp p ps rise)),
+    distinct ps listed.1 (sorted_tail path_cmp p ps rise),
+  )
+
+  below : (p : List ℕ) (a : ℕ) → claims es p ≡ Some a → address p < 128
+  unfolding address
+  below p a at = rw at (range a (claims_taken accounts p a at)).1
+
+  inside : (ps : List (List ℕ)) → Listed ps → (b : ℕ)
+      → list_any (eqb b) (map address ps) ≡ true → b < 128
+  inside [] listed b is = absurd cc
+  inside (p ∷ ps) listed b is =
+      by (λ more. inside ps listed.1 b more) (eqb b (address p)) refl is
+    where
+      by : (list_any (eqb b) (map address ps) ≡ true → b < 128) → (here : Bool)
+          → eqb b (address p) ≡ here → (here || list_any (eqb b) (map address ps)) ≡ true
+          → b < 128
+      by later true same is = rw (eqb-true b (address p) same) (below p listed.0.0 listed.0.1)
+      by later false other is = later is
+
+  few : (ps : List (List ℕ)) → Listed ps → IsStrictlySortedBy path_cmp ps → (p : List ℕ) (a : ℕ)
+      → claims es p ≡ Some a → AllByRecursion (λ q. q ≢ p) ps → length ps < 128
+  unfolding IsDistinct
+  few ps listed rise p a at other =
+      let most = length-le_from_distinct_below (address p ∷ map address ps) 128
+      (apart p a at ps listed other, distinct ps listed rise)
+      (inside (p ∷ ps) ((a, at), listed)) in
+      omega (arith, most, length_mapped address ps)
+
+claimed : (numbers : DeviceNumbers) (o : Option Finding) (n : ℕ) → number_of numbers o ≡ Some n
+    → (a : ℕ) × (address_in o ≡ Some a)
+claimed numbers None n is = absurd (cc is)
+claimed numbers (Some (Device device)) n is = (device.address, refl)
+claimed numbers (Some (Refused cause)) n is = absurd (cc is)
+
+-- what is so of the device at each place is so of each
+all_keys : (P : List ℕ → Type 0) (rs : ReportedDevices)
+    → ((i : ℕ) (d : List ℕ × ℕ) → slice_get rs i ≡ Some d → P d.0) → AllByRecursion P (keys_of rs)
+all_keys P [] each = tt
+all_keys P (r ∷ rs) each = (each zero r refl, all_keys P rs (λ i d at. each (suc i) d at))
+
+room_left : (k : Known) (pool : Addresses) → Accounts k.entries pool → HasAddresses pool
+    → ReportedRise k.reported → NoneLeft k → (p : List ℕ) → HasArrived k p
+    → length k.reported < 128
+room_left k pool accounts range rise none p arrived =
+    let x = claimed k.numbers (lookup (is_at (path_cmp p)) k.entries) arrived.number arrived.there
+    in
+    let short = few k.entries pool accounts range (keys_of k.reported)
+    (all_keys (λ q. (a : ℕ) × (claims k.entries q ≡ Some a)) k.reported (λ i d at.
+    claimed k.numbers (lookup (is_at (path_cmp d.0)) k.entries) d.1 (none i d at)))
+    rise p x.0 x.1 (all_keys (λ q. q ≢ p) k.reported (λ i d at same.
+    absurd (cc (reported_here p i d.1 k.reported rise (rw (← same) at), arrived.unreported)))) in
+    omega (arith, short, length-keys_of k.reported)
+
+pub host_room : (h : HostState) → Agrees h.options h.entries h.addresses → ReportedRise h.reported
+    → NoneLeft (known_in h) → (p : List ℕ) → HasArrived (known_in h) p → length h.reported < 128
+host_room h agrees = room_left (known_in h) h.addresses agrees.accounts agrees.range

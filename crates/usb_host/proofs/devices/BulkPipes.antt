@@ -16,19 +16,19 @@ use Rattle.usb_hub.specs.{ControlCourse, StaysAs, EachElsewhere, EachNamedElsewh
 use Rattle.usb_hub.specs.{TouchesNoPort}
 use Rattle.usb_enum.specs.{Cause, Accepted, Finding}
 use Rattle.usb_enum.specs.declared.finding.Finding.TheVariants.{Device, Refused}
-use Rattle.usb_enum.proofs.Interface.{went_course, went_sound}
-use Rattle.usb_table.specs.{Pipes, Hub, function_of, Entries, has_at}
-use Rattle.usb_table.specs.{without, accepted_device_of, accepted_device_at, address_in}
-use Rattle.usb_table.specs.{is_below_hub, SparesBulk, finding_at, new_pipes, Table, GoesThrough}
-use Rattle.usb_table.specs.{entered, pipes_at, PipesPolled}
+use Rattle.usb_enum.proofs.Interface.{went_course}
+use Rattle.usb_table.specs.{Pipes, Hub, function_of, Entries, has_at, accepted_device_of}
+use Rattle.usb_table.specs.{accepted_device_at, address_in, is_below_hub, SparesBulk, finding_at}
+use Rattle.usb_table.specs.{new_pipes, Table, GoesThrough, entered, pipes_at, PipesPolled}
 use Rattle.usb_table.proofs.Interface.{path_tied, pipes_at-entered, pipes_at-entered_elsewhere}
 use Rattle.usb_table.proofs.Interface.{spares-same, spares-stage, spares-then}
-use Rattle.usb_host.specs.{SameFunction, EndpointsStayed, EndpointsBegan, StayedAt, RenewedAt}
-use Rattle.usb_host.specs.{MovesNoBulk, NamedEndpointsStayed, StaysWhere, by_both, by_control}
-use Rattle.usb_host.specs.{by_rest}
-use Rattle.usb_host.specs.{KeepsBulk, HostState, claims, HostSteps, OnlyBusSteps, table_in}
+use Rattle.usb_host.specs.{Forgets, SameFunction, EndpointsStayed, EndpointsBegan, StayedAt}
+use Rattle.usb_host.specs.{RenewedAt, MovesNoBulk, NamedEndpointsStayed, StaysWhere, by_both}
+use Rattle.usb_host.specs.{by_control, by_rest, KeepsBulk, HostState, claims, HostSteps}
+use Rattle.usb_host.specs.{OnlyBusSteps, table_in}
+use Rattle.usb_host.proofs.StepSums.{went_before}
 use Rattle.usb_host.proofs.entries.Agreements.{lookup-insert_entry_elsewhere}
-use Rattle.usb_host.proofs.entries.EntryClaims.{lookup-insert_entry_here}
+use Rattle.usb_host.proofs.entries.Balances.{lookup-insert_entry_here}
 use Rattle.usb_host.proofs.parts.Events.{event_same}
 use Rattle.usb_host.proofs.knowledge.Places.{finding-kept, finding-none}
 use Rattle.usb_host.proofs.knowledge.SettledListings.{reached_there}
@@ -233,19 +233,16 @@ listed_away first path es gone at = pick (decided (is_way first path))
     pick (inl way) = absurd (cc (ap accepted_device_of (finding-none first path es gone way), at))
     pick (inr away) = away
 
-pub stay_forgotten : (first : List ℕ) (a b : HostState) → b.world ≡ a.world
-    → b.entries ≡ without first a.entries → has_at first b.entries ≡ false
-    → ((x : List ℕ) → is_way first x ≡ false → pipes_at x (table_in b) ≡ pipes_at x (table_in a))
-    → AllStay a b
-stay_forgotten first a b same rest gone pipes = record {
+pub stay_forgotten : {first : List ℕ} {a b : HostState} → Forgets first a b → AllStay a b
+stay_forgotten {first = first} {a = a} {b = b} f = record {
   each = λ path device at.
       let away : is_way first path ≡ false = listed_away first path b.entries {device = device}
-      gone at in
+      f.gone at in
       record {
-        listed = sym (ap accepted_device_of (ap (λ (es : Entries). finding_at path es) rest
+        listed = sym (ap accepted_device_of (ap (λ (es : Entries). finding_at path es) f.rest
             ∙ finding-kept first path a.entries away)) ∙ at;
-        pipes = same_function (pipes path away);
-        endpoints = stayed_none path a.world same;
+        pipes = same_function (f.pipes path away);
+        endpoints = stayed_none path a.world (ap (λ (h : HostState). h.world) f.others);
       };
 }
 
@@ -460,7 +457,7 @@ pub bulk_then : (m n : ℕ) (a b c : HostState) → HostSteps m a b → HostStep
     → c.world.fault ≡ None → KeepsBulk a b → KeepsBulk b c → KeepsBulk a c
 bulk_then m n a b c first second still =
     bulk_joins a b c (went_course m a.world b.world first
-    (went_sound n b.world c.world second still)) (went_course n b.world c.world second still)
+    (went_before second still)) (went_course n b.world c.world second still)
 
 -- only the host's own stop is new
 pub bulk_stopped : (a b : HostState) (stopped : Bool) → KeepsBulk a b

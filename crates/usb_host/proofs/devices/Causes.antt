@@ -1,8 +1,7 @@
 -- Why devices are refused, as a port is handled where damage is fair.
 use Rattle.std.proofs.Common.{◌≡◌, ◌⊎◌, inl, inr, ◌≤◌, refl, sym, ap, subst, ◌∙◌, ℕ, true, false}
-use Rattle.std.proofs.Common.{List, [], ◌∷◌, ◌++◌, length, Option, None, Some, Result, Ok}
-use Rattle.std.proofs.Common.{Err}
-use Rattle.std.proofs.Common.{IsSomeAnd, IfErr}
+use Rattle.std.proofs.Common.{List, [], ◌∷◌, ◌++◌, Option, None, Some, Result, Ok, Err, IsSomeAnd}
+use Rattle.std.proofs.Common.{IfErr}
 use Rattle.std.specs.Prelude.{⊤}
 use Rattle.std.proofs.lemmas.List.{same_from_push}
 use Rattle.std.specs.BTreeMap.{insert_entry}
@@ -23,35 +22,35 @@ use Rattle.usb_hub.specs.{PortCleared, TouchesNoPort}
 use Rattle.usb_transaction.specs.{Target}
 use Rattle.usb_resources.specs.{IsFull}
 use Rattle.usb_enum.specs.{Lost, EnumFault, ParentLost, Memory, Finding, IsRight, HasServer}
-use Rattle.usb_enum.specs.{ServesAt, Enumerates, IsFair, IsKnownAs, FaultAllowedAt}
-use Rattle.usb_enum.specs.{HostOptions}
+use Rattle.usb_enum.specs.{ServesAt, IsFair, IsKnownAs, FaultAllowedAt, HostOptions}
 use Rattle.usb_enum.specs.declared.finding.Finding.TheVariants.{Refused}
-use Rattle.usb_enum.proofs.Interface.{pends_there, went_sound}
-use Rattle.usb_table.specs.{KnownPort, Entries, has_at, without, Table, entered, pipes_at}
-use Rattle.usb_table.specs.{IsAskable, finding_at, tier_of}
-use Rattle.usb_host.specs.Accounts.{Accounts}
-use Rattle.usb_host.specs.{Agrees, RestElsewhere, IsLost, HoldsAt, Watches, Tidies, ClearsChange}
-use Rattle.usb_host.specs.{MovesNoBulk, by_control}
-use Rattle.usb_host.specs.{IsOpen, PortCaused, FindsSound, Disabled, Climbs, HostState, claims}
-use Rattle.usb_host.specs.{KeepsPort, DropsHub, StandsAt, HostSteps, OnlyBusSteps, table_in}
-use Rattle.usb_host.specs.{known_supply, RefusalsJustified, CausesBut, IsJustifiedAt, IsFairTo}
-use Rattle.usb_host.specs.{HostInvariant, IsSoundBut, IsDroppable, DropsSound}
+use Rattle.usb_enum.proofs.Interface.{pends_there}
+use Rattle.usb_table.specs.{KnownPort, Entries, has_at, Table, entered, IsAskable, finding_at}
+use Rattle.usb_table.specs.{tier_of}
+use Rattle.usb_host.specs.{Forgets, Agrees, RestElsewhere, IsLost, HoldsAt, Watches, Tidies}
+use Rattle.usb_host.specs.{ClearsChange, MovesNoBulk, by_control, IsOpen, PortCaused, FindsSound}
+use Rattle.usb_host.specs.{Disabled, Climbs, HostState, claims, KeepsPort, DropsHub, StandsAt}
+use Rattle.usb_host.specs.{HostSteps, OnlyBusSteps, table_in, known_supply, RefusalsJustified}
+use Rattle.usb_host.specs.{CausesBut, IsJustifiedAt, IsFairTo, HostInvariant, IsSoundBut}
+use Rattle.usb_host.specs.{IsDroppable, DropsSound}
 use Rattle.usb_backlog.specs.{KeepsAll}
+use Rattle.usb_host.proofs.StepSums.{went_before}
 use Rattle.usb_host.proofs.devices.BulkPipes.{AllStay, bulk_stays, stay_forgotten, stay_joined}
 use Rattle.usb_host.proofs.devices.BulkPipes.{stay_refused, stay_rests}
-use Rattle.usb_host.proofs.entries.EntryClaims.{lookup-insert_entry_here}
+use Rattle.usb_host.proofs.entries.Balances.{lookup-insert_entry_here}
 use Rattle.usb_host.proofs.knowledge.DroppedHubs.{fault_after-no_bus, claimed, is_call}
 use Rattle.usb_host.proofs.knowledge.DroppedHubs.{lost_sound_there}
-use Rattle.usb_host.proofs.devices.Enumerations.{askable_wide}
+use Rattle.usb_host.proofs.devices.Enumerations.{EnumerationAt}
 use Rattle.usb_host.proofs.devices.Plugs.{plugs_lost}
-use Rattle.usb_host.proofs.knowledge.FoundDevices.{begins, found_only, supply_found, entered_bulk}
-use Rattle.usb_host.proofs.knowledge.FoundDevices.{entered_sound, unfound_bulk, unfound_sound}
-use Rattle.usb_host.proofs.knowledge.FoundDevices.{unfound_where}
+use Rattle.usb_host.proofs.knowledge.FoundDevices.{begins, found_few, found_only, supply_found}
+use Rattle.usb_host.proofs.knowledge.FoundDevices.{entered_bulk, entered_sound, unfound_bulk}
+use Rattle.usb_host.proofs.knowledge.FoundDevices.{unfound_sound, unfound_where}
+use Rattle.usb_host.proofs.OwnedPorts.{LostListed, lost_entries, lost_options, lost_world}
 use Rattle.usb_host.proofs.OwnedPorts.{root_done}
 use Rattle.usb_host.proofs.knowledge.Places.{finding-none, causes_dropped, causes_found}
-use Rattle.usb_host.proofs.knowledge.RestedWorlds.{but_of_sound, sound_rests, sound_rests_but}
-use Rattle.usb_host.proofs.entries.Roots.{accounted}
+use Rattle.usb_host.proofs.knowledge.ServedPorts.{but_of_sound, sound_rests, sound_rests_but}
 use Rattle.usb_host.proofs.knowledge.ServedPorts.{rests_stands, stands_way}
+use Rattle.usb_host.proofs.entries.Roots.{accounted}
 use Rattle.usb_host.proofs.knowledge.Servers.{hub_server}
 use Rattle.usb_host.proofs.knowledge.SettledListings.{listed_port}
 use Rattle.usb_host.proofs.PortLocations.{stands_at-claim, lost_above}
@@ -131,7 +130,7 @@ module _ {path : List ℕ} {port : KnownPort} {h : HostState} (s : StandsAt path
 module _ {n : ℕ} (a : HostState) {b : HostState} (r : OnlyBusSteps a b) (went : HostSteps n a b)
     (agrees : Agrees a.options a.entries a.addresses) (still : b.world.fault ≡ None) where
   before : a.world.fault ≡ None
-  before = went_sound n a.world b.world went still
+  before = went_before went still
 
   pub causes_rests : TouchesNoPort a.world b.world → HostInvariant a
       → RefusalsJustified a.options a.world a.entries
@@ -174,13 +173,6 @@ module _ {n : ℕ} (a : HostState) {b : HostState} (r : OnlyBusSteps a b) (went 
 
 -- At a port
 
-pub fault_none_back : (b c : HostState) → c ≡ record b {
-  entries = c.entries;
-  pipes = c.pipes;
-  addresses = c.addresses;
-} → c.world.fault ≡ None → b.world.fault ≡ None
-fault_none_back b c others still = ap (λ (h : HostState). h.world.fault) (sym others) ∙ still
-
 module _ {n : ℕ} {path : List ℕ} {port : KnownPort} {a b : HostState} (s : StandsAt path port a)
     (r : OnlyBusSteps a b) (went : HostSteps n a b) where
   stands_then : StandsAt path port b
@@ -191,7 +183,7 @@ module _ {n : ℕ} {path : List ℕ} {port : KnownPort} {a b : HostState} (s : S
       → FaultAllowedAt port.port fault b.world → HostInvariant a → IsFairTo a.world b.world
       → RefusalsJustified a.options a.world a.entries → PortCaused path (Err fault) b
   watched_caused ParentLost w told i fair caused =
-      let known = i.known (went_sound n a.world b.world went fair.still) in
+      let known = i.known (went_before went fair.still) in
       let sound = sound_rests a r went w.addresses w.devices (w.rests tt) i in
       lost_caused stands_then (but_of_sound path sound) fair.still ParentLost told
       (λ e. w.lost path (stands_way a s known) fair.few fair.still sound.owned.single refl)
@@ -224,7 +216,7 @@ module _ {n : ℕ} {path : List ℕ} {port : KnownPort} {a b : HostState} (s : S
       → RefusalsJustified a.options a.world a.entries → PortCaused path (Err fault) b
   cleared_caused ParentLost x told i fair caused =
       let rests = x.others (claims a.entries) path (stands_at-claim s) i.owned tt in
-      let known = i.known (went_sound n a.world b.world went fair.still) in
+      let known = i.known (went_before went fair.still) in
       let but = sound_rests_but a r went x.bares x.devices (λ still. rests) (but_of_sound path i) in
       lost_caused stands_then but fair.still ParentLost told
       (λ e. x.lost (claims a.entries) path (stands_at-claim s) i.owned (stands_way a s known)
@@ -234,18 +226,17 @@ module _ {n : ℕ} {path : List ℕ} {port : KnownPort} {a b : HostState} (s : S
   cleared_caused _ x told i fair caused = tt
 
   -- it was cleared, and what was there is forgotten
-  pub forgot_caused : (c : HostState) {status : PortStatus}
-      → ClearsChange port.port a.world (Ok status) b.world
-      → c ≡ record b { entries = c.entries; pipes = c.pipes; addresses = c.addresses }
-      → c.entries ≡ without path b.entries → HostInvariant a → b.world.fault ≡ None
-      → RefusalsJustified a.options a.world a.entries
+  pub forgot_caused : {c : HostState} {status : PortStatus}
+      → ClearsChange port.port a.world (Ok status) b.world → Forgets path b c → HostInvariant a
+      → c.world.fault ≡ None → RefusalsJustified a.options a.world a.entries
       → RefusalsJustified c.options c.world c.entries
-  forgot_caused c x others rest i still caused =
+  forgot_caused x f i still caused =
       let rests = x.others (claims a.entries) path (stands_at-claim s) i.owned tt in
-      let there = causes_rests_but a r went s.agrees still rests (but_of_sound path i)
+      let before = ap (λ (h : HostState). h.world.fault) (sym f.others) ∙ still in
+      let there = causes_rests_but a r went s.agrees before rests (but_of_sound path i)
       (λ x away. caused x) in
-      rw (ap (λ (h : HostState). h.options) others, ap (λ (h : HostState). h.world) others) (rw rest
-      (causes_dropped b.options path b.world b.entries there))
+      rw (ap (λ (h : HostState). h.options) f.others, ap (λ (h : HostState). h.world) f.others)
+      (rw f.rest (causes_dropped b.options path b.world b.entries there))
 
 -- What is found there
 
@@ -255,143 +246,112 @@ right_free full spec options tier supply f (inl x) = inl x
 right_free full spec options tier supply f (inr x) =
     inr (record { none = tt; head = x.head; refused = x.refused })
 
-module _ (n : ℕ) {path : List ℕ} {port : KnownPort} (a b : HostState) (s : StandsAt path port a)
-    (width : b.options ≡ a.options) (gone : has_at path a.entries ≡ false)
-    (accounts : Accounts a.entries
-    a.addresses)
-    (went : HostSteps n a b) (o : IsOpen path a) (fair : IsFairTo a.world b.world) where
-  sound_before : a.world.fault ≡ None
-  sound_before = went_sound n a.world b.world went fair.still
+module _ {n : ℕ} {path : List ℕ} {port : KnownPort} {result : Result Finding EnumFault}
+    {a b : HostState} (e : EnumerationAt n path port result a b) (o : IsOpen path a)
+    (fair : IsFairTo a.world b.world) where
+  found_before : a.world.fault ≡ None
+  found_before = went_before e.went fair.still
 
-  is_fair : IsFair (claims a.entries) port.port path a.addresses a.world b.world
-  is_fair = record {
-    begins = begins n path port a.addresses a b s width gone accounts went o;
-    occupied = o.there sound_before;
-    server = hub_server a s o.but sound_before;
+  found_fair : IsFair (claims a.entries) port.port path a.addresses a.world b.world
+  found_fair = record {
+    begins = begins e o;
+    occupied = o.there found_before;
+    server = hub_server a e.stands o.but found_before;
     few = fair.few;
     kept = fair.kept;
     working = fair.still;
   }
 
-  found_causes : {result : Result Finding EnumFault}
-      → Enumerates port.port a.addresses b.options (tier_of path) port.supply a.world result b.world
-      → CausesBut a.options path a.world a.entries → CausesBut b.options path b.world a.entries
-  found_causes e caused =
-      let only = found_only n path port a.addresses a b s width gone accounts went o e
-      fair.still in
-      rw width (causes_but_stay path a.world b.world (accounted a s.agrees o.but.rooted)
-      (o.but.known sound_before) (λ x away. course_wider (λ s u y. y.spares) (only.others x away))
-      caused)
+  found_causes : CausesBut a.options path a.world a.entries
+      → CausesBut b.options path b.world a.entries
+  found_causes caused =
+      let only = found_only e o fair.still in
+      rw e.options (causes_but_stay path a.world b.world
+      (accounted a e.stands.agrees o.but.rooted) (o.but.known found_before)
+      (λ x away. course_wider (λ s u y. y.spares) (only.others x away)) caused)
 
-  pub entered_caused : (f : Finding) → Enumerates port.port a.addresses b.options (tier_of path)
-      port.supply
-      a.world (Ok f) b.world → b.entries ≡ insert_entry path_cmp a.entries path f
-      → CausesBut a.options path a.world a.entries → PortCaused path (Ok tt) b
-  entered_caused f e is caused =
-      rw is (causes_found path f a.entries s.is.0 gone b.options b.world
-      (causes_gone b.options path b.world a.entries gone (found_causes e caused)) here)
-    where
-      here : IsJustifiedAt b.options b.world (insert_entry path_cmp a.entries path f) path
-      here cause t at there = pick (e.warrants.cause (claims a.entries) path is_fair cause t
-          (ap Ok found) there)
-        where
-          found : f ≡ Refused cause
-          found = cc (sym (lookup-insert_entry_here path f a.entries) ∙ at)
+entered_caused : {n : ℕ} {path : List ℕ} {port : KnownPort} {f : Finding} {a b : HostState}
+    → EnumerationAt n path port (Ok f) a b → IsOpen path a → IsFairTo a.world b.world
+    → b.entries ≡ insert_entry path_cmp a.entries path f
+    → CausesBut a.options path a.world a.entries → PortCaused path (Ok tt) b
+entered_caused {path = path} {port = port} {f = f} {a = a} {b = b} e o fair is caused =
+    rw is (causes_found path f a.entries e.stands.is.0 e.away b.options b.world
+    (causes_gone b.options path b.world a.entries e.away (found_causes e o fair caused)) here)
+  where
+    here : IsJustifiedAt b.options b.world (insert_entry path_cmp a.entries path f) path
+    here cause t at there = pick (e.gives.warrants.cause (claims a.entries) path
+        (found_fair e o fair) cause t (ap Ok found) there)
+      where
+        found : f ≡ Refused cause
+        found = cc (sym (lookup-insert_entry_here path f a.entries) ∙ at)
 
-          pick : (pending b.world.roots path ≡ true)
-              ⊎ IsRight (IsFull a.addresses) t.spec b.options (tier_of path) port.supply (Refused
-              cause)
-              → (pending b.world.roots path ≡ true)
-              ⊎ IsRight ⊤ t.spec b.options (tier_of path)
-              (known_supply path (insert_entry path_cmp a.entries path f)) (Refused cause)
-          pick (inl x) = inl x
-          pick (inr x) = inr (rw (supply_found path f a.entries s.known)
-              (right_free (IsFull a.addresses) t.spec b.options (tier_of path) port.supply (Refused
-              cause) x))
+        pick : (pending b.world.roots path ≡ true)
+            ⊎ IsRight (IsFull a.addresses) t.spec b.options (tier_of path) port.supply
+            (Refused cause) → (pending b.world.roots path ≡ true)
+            ⊎ IsRight ⊤ t.spec b.options (tier_of path)
+            (known_supply path (insert_entry path_cmp a.entries path f)) (Refused cause)
+        pick (inl x) = inl x
+        pick (inr x) = inr (rw (supply_found path f a.entries e.stands.known)
+            (right_free (IsFull a.addresses) t.spec b.options (tier_of path) port.supply
+            (Refused cause) x))
 
-  pub unfound_caused : (fault : EnumFault)
-      → Enumerates port.port a.addresses b.options (tier_of path) port.supply a.world (Err fault)
-      b.world
-      → b.entries ≡ a.entries → FaultAllowedAt port.port fault b.world
-      → CausesBut a.options path a.world a.entries → PortCaused path (Err fault) b
-  unfound_caused ParentLost e same told caused = by_parent (parent_of path) refl
-    where
-      by_parent : (p : Option (List ℕ)) → parent_of path ≡ p
-          → IsSomeAnd p (λ hub. (pending b.world.roots hub ≡ true)
-          × CausesBut b.options hub b.world b.entries)
-      by_parent None above = absurd (cc (lost_above path a.entries b.world told None above
-          (rw above at s.known)))
-      by_parent (Some hub) above = (
-        rw above at (e.warrants.parent (claims a.entries) path is_fair refl),
-        subst (CausesBut b.options hub b.world) (sym same)
-            (causes_above b.options hub path b.world a.entries (way_parent path hub above)
-            (found_causes e caused)),
-      )
-  unfound_caused _ e same told caused = tt
+unfound_caused : {n : ℕ} {path : List ℕ} {port : KnownPort} {fault : EnumFault} {a b : HostState}
+    → EnumerationAt n path port (Err fault) a b → IsOpen path a → IsFairTo a.world b.world
+    → b.entries ≡ a.entries → FaultAllowedAt port.port fault b.world
+    → CausesBut a.options path a.world a.entries → PortCaused path (Err fault) b
+unfound_caused {path = path} {fault = ParentLost} {a = a} {b = b} e o fair same told caused =
+    by_parent (parent_of path) refl
+  where
+    by_parent : (p : Option (List ℕ)) → parent_of path ≡ p
+        → IsSomeAnd p (λ hub. (pending b.world.roots hub ≡ true)
+        × CausesBut b.options hub b.world b.entries)
+    by_parent None above = absurd (cc (lost_above path a.entries b.world told None above
+        (rw above at e.stands.known)))
+    by_parent (Some hub) above = (
+      rw above at (e.gives.warrants.parent (claims a.entries) path (found_fair e o fair) refl),
+      subst (CausesBut b.options hub b.world) (sym same)
+          (causes_above b.options hub path b.world a.entries (way_parent path hub above)
+          (found_causes e o fair caused)),
+    )
+unfound_caused {fault = _} e o fair same told caused = tt
 
 -- what was found at a port is entered, or its hub is lost
-module _ {n : ℕ} {path : List ℕ} {port : KnownPort} {a b : HostState} (s : StandsAt path port a)
-    (width : b.options ≡ a.options) (gone : has_at path a.entries ≡ false)
-    (accounts : Accounts a.entries
-    a.addresses)
-    (went : HostSteps n a b) where
-  pub entered_finds : (f : Finding) → Enumerates port.port a.addresses b.options (tier_of path)
-      port.supply
-      a.world (Ok f) b.world → (said : ArrayVec ℕ) → table_in b ≡ entered path f said (table_in a)
-      → KeepsPort path a (Ok tt) b → FindsSound path a (Ok tt) b
-  entered_finds f e said table keeps = record {
-    sound = λ o. entered_sound n path port a.addresses a b s width gone accounts went o f e said
-        table keeps;
-    bulk = λ o on still. entered_bulk n path port a.addresses a b s width gone accounts went o f e
-        said table
-        still;
+module _ {n : ℕ} {path : List ℕ} {port : KnownPort} {a b : HostState} where
+  pub entered_finds : {f : Finding} → EnumerationAt n path port (Ok f) a b → (said : ArrayVec ℕ)
+      → table_in b ≡ entered path f said (table_in a) → KeepsPort path a (Ok tt) b
+      → FindsSound path a (Ok tt) b
+  entered_finds e said table keeps = record {
+    sound = λ o. entered_sound e o said table keeps;
+    bulk = λ o on still. entered_bulk e o said table still;
     cut = λ o. tt;
-    backlog = λ o still. (found_only n path port a.addresses a b s width gone accounts went o e
-        still).backlog;
-    few = λ o most plan. e.few.few (claims a.entries) path (askable_wide port.port s.askable)
-        (begins n path port a.addresses a b s width gone accounts went o) most plan;
-    caused = λ o fair caused. entered_caused n a b s width gone accounts went o fair f e
-        (ap (λ (t : Table). t.entries) table) caused;
+    backlog = λ o still. (found_only e o still).backlog;
+    few = λ o. found_few e o;
+    caused = λ o fair. entered_caused e o fair (ap (λ (t : Table). t.entries) table);
   }
 
   -- there was no memory to enter it
-  pub unentered_finds : (f : Finding) → Enumerates port.port a.addresses b.options (tier_of path)
-      port.supply
-      a.world (Ok f) b.world → b.entries ≡ a.entries → b.pipes ≡ a.pipes
-      → FindsSound path a (Err Memory) b
-  unentered_finds f e same pipes_same = record {
+  pub unentered_finds : {f : Finding} → EnumerationAt n path port (Ok f) a b
+      → b.entries ≡ a.entries → b.pipes ≡ a.pipes → FindsSound path a (Err Memory) b
+  unentered_finds e same pipes_same = record {
     sound = λ o. tt;
     bulk = λ o on. absurd on;
-    cut = λ o. unfound_where n path port a.addresses a b s width gone accounts went o e same
-        pipes_same;
-    backlog = λ o still. (found_only n path port a.addresses a b s width gone accounts went o e
-        still).backlog;
-    few = λ o most plan. e.few.few (claims a.entries) path (askable_wide port.port s.askable)
-        (begins n path port a.addresses a b s width gone accounts went o) most plan;
+    cut = λ o. unfound_where e o same pipes_same;
+    backlog = λ o still. (found_only e o still).backlog;
+    few = λ o. found_few e o;
     caused = λ o fair caused. tt;
   }
 
-  pub unfound_finds : (fault : EnumFault)
-      → Enumerates port.port a.addresses b.options (tier_of path) port.supply a.world (Err fault)
-      b.world
+  pub unfound_finds : {fault : EnumFault} → EnumerationAt n path port (Err fault) a b
       → b.entries ≡ a.entries → b.pipes ≡ a.pipes → b.addresses ≡ a.addresses
       → FaultAllowedAt port.port fault b.world → KeepsPort path a (Err fault) b
       → FindsSound path a (Err fault) b
-  unfound_finds fault e same pipes_same pool_same told keeps = record {
-    sound = λ o. unfound_sound n path port a.addresses a b s width gone accounts went o fault e same
-        pipes_same pool_same told keeps;
-    bulk = λ o on still. unfound_bulk n path port a.addresses a b s width gone accounts went o e
-        same
-        pipes_same still;
-    cut = λ o. unfound_where n path port a.addresses a b s width gone accounts went o e same
-        pipes_same;
-    backlog = λ o still. (found_only n path port a.addresses a b s width gone accounts went o e
-        still).backlog;
-    few = λ o most plan. e.few.few (claims a.entries) path (askable_wide port.port s.askable)
-        (begins n path port a.addresses a b s width gone accounts went o) most plan;
-    caused = λ o fair caused. unfound_caused n a b s width gone accounts went o fair fault e same
-        told
-        caused;
+  unfound_finds e same pipes_same pool_same told keeps = record {
+    sound = λ o. unfound_sound e o same pipes_same pool_same told keeps;
+    bulk = λ o on still. unfound_bulk e o same pipes_same still;
+    cut = λ o. unfound_where e o same pipes_same;
+    backlog = λ o still. (found_only e o still).backlog;
+    few = λ o. found_few e o;
+    caused = λ o fair. unfound_caused e o fair same told;
   }
 
 -- A hub is dropped
@@ -458,25 +418,13 @@ module _ (n : ℕ) {path : List ℕ} {port : KnownPort} (a b : HostState) (s : S
             (causes_rests_but a r went s.agrees fair.still rests d.but caused),
       )
 
-module _ (lost : List ℕ) (b c d : HostState) (least : 1 ≤ length lost)
-    (others : c ≡ record b { entries = c.entries; pipes = c.pipes; addresses = c.addresses })
-    (rest : c.entries ≡ without lost b.entries)
-    (pipes : (y : List ℕ) → is_way lost y ≡ false
-    → pipes_at y (table_in c) ≡ pipes_at y (table_in b)) (gone : has_at lost c.entries
-    ≡ false) (same : d.world ≡ c.world) (options : d.options ≡ c.options) (said : ArrayVec ℕ)
-    (table : table_in d ≡ entered lost (Refused Lost) said (table_in c)) where
-  is : d.entries ≡ insert_entry path_cmp c.entries lost (Refused Lost)
-  is = ap (λ (t : Table). t.entries) table
-
-  world_same : d.world ≡ b.world
-  world_same = same ∙ ap (λ (h : HostState). h.world) others
-
+module _ {lost : List ℕ} {b d : HostState} (l : LostListed lost b d) where
   lost_causes : pending b.world.roots lost ≡ true → CausesBut b.options lost b.world b.entries
       → RefusalsJustified d.options d.world d.entries
   lost_causes pends caused =
-      rw (options ∙ ap (λ (h : HostState). h.options) others, world_same)
-      (rw is (causes_found lost (Refused Lost) c.entries least gone b.options b.world
-      (subst (RefusalsJustified b.options b.world) (sym rest)
+      rw (lost_options l, lost_world l) (rw (lost_entries l) (causes_found lost (Refused Lost)
+      l.left.entries l.path.0 l.forgot.gone b.options b.world
+      (subst (RefusalsJustified b.options b.world) (sym l.forgot.rest)
       (causes_dropped b.options lost b.world b.entries caused))
       (λ cause s at there. inl pends)))
 
@@ -484,25 +432,28 @@ module _ (lost : List ℕ) (b c d : HostState) (least : 1 ≤ length lost)
   lost_stay : (a : HostState) → OnlyBusSteps a b → KeepsDevices a.world b.world
       → d.world.shared ≡ false → AllStay a d
   lost_stay a r devices single =
-      stay_joined a c d
-      (stay_joined a b c (stay_rests a b r devices (ap (λ (w : World). w.shared) (sym world_same)
-      ∙ single)) (stay_forgotten lost b c (ap (λ (h : HostState). h.world) others) rest gone pipes))
-      (stay_refused lost Lost said c d table same)
+      stay_joined a l.left d
+      (stay_joined a b l.left (stay_rests a b r devices
+      (ap (λ (w : World). w.shared) (sym (lost_world l)) ∙ single)) (stay_forgotten l.forgot))
+      (stay_refused lost Lost l.said l.left d l.table (ap (λ (h : HostState). h.world) l.others))
 
   -- it is listed as lost
-  pub lost_drops : (hub : List ℕ) (a : HostState) → OnlyBusSteps a b → a.world.taken ≤ b.world.taken
-      → Climbs hub a (Ok lost) b → DropsHub hub a (Ok tt) d → DropsSound hub a (Ok tt) d
-  lost_drops hub a r onward climbs drops = record {
-    sound = λ p. lost_sound_there hub lost a b c d least (climbs.sound p) others rest pipes gone
-        same options said table p drops;
-    bulk = λ p still.
-        bulk_stays a d (lost_stay a r climbs.devices (drops.ends p.but.owned).single)
-        (subst (MovesNoBulk a.world) (sym world_same)
-        (by_control (climbs.control (ap (λ (w : World). w.fault) (sym world_same) ∙ still))));
-    plugs = plugs_lost a d (rw world_same onward) drops.lost;
-    backlog = λ p still. subst (KeepsAll a.world) (sym world_same)
-        (climbs.backlog p (ap (λ (w : World). w.fault) (sym world_same) ∙ still));
-    caused = λ p fair pends caused. let x =
-        climbs.caused p (rw (same ∙ ap (λ (h : HostState). h.world) others) at fair) pends caused in
-        lost_causes x.0 x.1;
-  }
+  pub lost_drops : {hub : List ℕ} {a : HostState} → OnlyBusSteps a b
+      → a.world.taken ≤ b.world.taken → Climbs hub a (Ok lost) b → DropsHub hub a (Ok tt) d
+      → DropsSound hub a (Ok tt) d
+  lost_drops {a = a} r onward climbs drops =
+      let back : d.world.fault ≡ None → b.world.fault ≡ None = λ still.
+      ap (λ (w : World). w.fault) (sym (lost_world l)) ∙ still in
+      record {
+        sound = λ p. lost_sound_there l (climbs.sound p) p drops;
+        bulk = λ p still.
+            bulk_stays a d (lost_stay a r climbs.devices (drops.ends p.but.owned).single)
+            (subst (MovesNoBulk a.world) (sym (lost_world l))
+            (by_control (climbs.control (back still))));
+        plugs = plugs_lost a d (rw (lost_world l) onward) drops.lost;
+        backlog = λ p still. subst (KeepsAll a.world) (sym (lost_world l))
+            (climbs.backlog p (back still));
+        caused = λ p fair pends caused.
+            let x = climbs.caused p (rw (lost_world l) at fair) pends caused in
+            lost_causes x.0 x.1;
+      }

@@ -12,16 +12,15 @@ use Rattle.usb_world.specs.{Consistent, World}
 use Rattle.usb_world.proofs.Interface.{at_or_below_way}
 use Rattle.usb_tree.proofs.Interface.{decided, false_true}
 use Rattle.usb_hub.specs.{StaysAs, EachElsewhere, KeepsDevices}
-use Rattle.usb_enum.specs.{Cause, Accepted, Finding, IsOwn}
-use Rattle.usb_enum.specs.{HostOptions, usual_options}
+use Rattle.usb_enum.specs.{Cause, Accepted, Finding, IsOwn, HostOptions, usual_options}
 use Rattle.usb_enum.specs.declared.finding.Finding.TheVariants.{Device, Refused}
 use Rattle.usb_enum.proofs.Interface.{ruled_there}
-use Rattle.usb_table.specs.{Pipes, no_pipes, Entries, has_at, is_at_or_below, without}
-use Rattle.usb_table.specs.{accepted_device_of, AllInSync, PipesInSync, InSyncAt, finding_at, Table}
-use Rattle.usb_table.specs.{TakesOut, entered, pipes_at}
+use Rattle.usb_table.specs.{Pipes, no_pipes, Entries, has_at, is_at_or_below, accepted_device_of}
+use Rattle.usb_table.specs.{AllInSync, PipesInSync, InSyncAt, finding_at, Table, TakesOut, entered}
+use Rattle.usb_table.specs.{pipes_at}
 use Rattle.usb_table.proofs.Interface.{level_beside, level_elsewhere, level_entered, level_stays}
 use Rattle.usb_table.proofs.Interface.{path_tied}
-use Rattle.usb_host.specs.{HostState, OnlyBusSteps, table_in}
+use Rattle.usb_host.specs.{Forgets, HostState, OnlyBusSteps, table_in}
 use Rattle.usb_host.proofs.entries.Agreements.{lookup-without}
 use Rattle.usb_host.proofs.knowledge.Places.{finding-none}
 
@@ -82,23 +81,21 @@ none_level none = record {
 }
 
 -- what stood at a path is forgotten
-pub level_forgotten : (first : List ℕ) (b c : HostState) → c.world ≡ b.world
-    → c.entries ≡ without first b.entries → has_at first c.entries ≡ false
-    → ((x : List ℕ) → is_way first x ≡ false → pipes_at x (table_in c) ≡ pipes_at x (table_in b))
+pub level_forgotten : {first : List ℕ} {b c : HostState} → Forgets first b c
     → ((x : List ℕ) → is_way first x ≡ false → InSyncAt x (table_in b) b.world)
     → AllInSync (table_in c) c.world
-level_forgotten first b c same rest gone pipes level x = pick (decided (is_way first x))
+level_forgotten {first = first} {b = b} {c = c} f level x = pick (decided (is_way first x))
   where
     pick : (is_way first x ≡ true) ⊎ (is_way first x ≡ false) → InSyncAt x (table_in c) c.world
-    pick (inl way) = none_level (finding-none first x c.entries gone way)
+    pick (inl way) = none_level (finding-none first x c.entries f.gone way)
     pick (inr away) =
         let found : finding_at x c.entries ≡ finding_at x b.entries =
-        ap (λ (es : Entries). finding_at x es) rest ∙ lookup-without x first b.entries
+        ap (λ (es : Entries). finding_at x es) f.rest ∙ lookup-without x first b.entries
         (ap not (at_or_below_way x first ∙ away)) in
-        subst (InSyncAt x (table_in c)) (sym same) (record {
+        subst (InSyncAt x (table_in c)) (ap (λ (h : HostState). h.world) (sym f.others)) (record {
           level = λ device s at on stands. subst (λ (p : Pipes). PipesInSync device p s)
-              (sym (pipes x away)) ((level x away).level device s (sym (ap accepted_device_of found)
-              ∙ at) on stands);
+              (sym (f.pipes x away)) ((level x away).level device s
+              (sym (ap accepted_device_of found) ∙ at) on stands);
         })
 
 -- What is entered

@@ -15,10 +15,10 @@ use Rattle.usb_enum.specs.{Cause}
 use Rattle.usb_enum.specs.declared.finding.Finding.TheVariants.{Refused}
 use Rattle.std.specs.BTreeMap.{insert_entry}
 use Rattle.usb_port.specs.{path_cmp}
-use Rattle.usb_table.specs.{Entries, has_at, without}
-use Rattle.usb_host.specs.{HostState, claims, IsOwned, IsIsolated, HostMapHolds, StaysOwned}
-use Rattle.usb_host.specs.{StaysSingle, KeepsOwned, HostFault, Round}
-use Rattle.usb_host.proofs.entries.EntryClaims.{claims-without, claims-refused}
+use Rattle.usb_table.specs.{Entries, has_at}
+use Rattle.usb_host.specs.{Forgets, HostState, claims, IsOwned, IsIsolated, HostMapHolds}
+use Rattle.usb_host.specs.{StaysOwned, StaysSingle, KeepsOwned, HostFault, Round}
+use Rattle.usb_host.proofs.entries.Balances.{claims-without, claims-refused}
 use Rattle.usb_host.proofs.entries.Roots.{rooted_kept}
 
 pub till_as : {f g : AddressMap} {w : World} → ((x : List ℕ) → f x ≡ g x)
@@ -127,14 +127,13 @@ bare_none p f w none t =
 
 -- The table follows
 
-pub forgotten : (path : List ℕ) (a b : HostState)
-    → b ≡ record a { entries = b.entries; pipes = b.pipes; addresses = b.addresses }
-    → b.entries ≡ without path a.entries → IsIsolated path a → IsOwned b
-forgotten path a b others rest bare =
+pub forgotten : {path : List ℕ} {a b : HostState} → Forgets path a b → IsIsolated path a
+    → IsOwned b
+forgotten {path = path} {a = a} {b = b} f bare =
     let here : WhileBusWorks (MapHolds (map_without (claims a.entries) path)) b.world =
-    rw (ap (λ (h : HostState). h.world) others) bare in
-    till_as (λ x. sym (ap (λ (es : Entries). claims es x) rest ∙ claims-without path a.entries x))
-    here
+    rw (ap (λ (h : HostState). h.world) f.others) bare in
+    till_as (λ x. sym (ap (λ (es : Entries). claims es x) f.rest
+    ∙ claims-without path a.entries x)) here
 
 pub refused : (path : List ℕ) (cause : Cause) (es : Entries) {new : Entries} {w : World}
     → has_at path es ≡ false → new ≡ insert_entry path_cmp es path (Refused cause)

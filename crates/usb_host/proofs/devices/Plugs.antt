@@ -25,17 +25,17 @@ use Rattle.usb_address.proofs.Interface.{attached_there}
 use Rattle.usb_hub.specs.{PortCallDone, PortStatusAt}
 use Rattle.usb_enum.specs.{Lost, NoAddress, Accepted, Finding, IsOrderly}
 use Rattle.usb_enum.specs.declared.finding.Finding.TheVariants.{Device, Refused}
-use Rattle.usb_enum.proofs.Interface.{orderly_on, went_course, went_sound}
+use Rattle.usb_enum.proofs.Interface.{orderly_on, went_course}
 use Rattle.usb_table.specs.{Entries, has_at, without, accepted_device_at, accepted_device_of}
 use Rattle.usb_table.specs.{address_in, entry_address, finding_at}
 use Rattle.usb_table.proofs.Interface.{path_tied}
-use Rattle.usb_host.specs.{Agrees, HostState, HasLost, HasPlugs, KeepsPlugs, PlugsAt, WasPlugged}
-use Rattle.usb_host.specs.{is_plug, plug_events, EntersOne, HostSteps, OnlyBusSteps, ClearsAndReads}
-use Rattle.usb_host.specs.{DoneWhere}
+use Rattle.usb_host.specs.{Forgets, Agrees, HostState, HasLost, HasPlugs, KeepsPlugs, PlugsAt}
+use Rattle.usb_host.specs.{WasPlugged, is_plug, plug_events, EntersOne, HostSteps, OnlyBusSteps}
+use Rattle.usb_host.specs.{ClearsAndReads, DoneWhere}
+use Rattle.usb_host.proofs.StepSums.{went_before}
 use Rattle.usb_host.proofs.entries.Agreements.{lookup-insert_entry_elsewhere}
-use Rattle.usb_host.proofs.entries.Balances.{accounts_listed, one_when}
+use Rattle.usb_host.proofs.entries.Balances.{accounts_listed, one_when, lookup-insert_entry_here}
 use Rattle.usb_host.proofs.devices.BulkPipes.{accepted_device_of-some}
-use Rattle.usb_host.proofs.entries.EntryClaims.{lookup-insert_entry_here}
 use Rattle.usb_host.proofs.knowledge.Places.{finding-dropped, finding-kept, finding-none}
 
 -- Of some element
@@ -261,7 +261,7 @@ pub plugs_then : (m n : ℕ) (a b c : HostState) → HostSteps m a b → HostSte
     → c.world.fault ≡ None → KeepsPlugs a b → KeepsPlugs b c → KeepsPlugs a c
 plugs_then m n a b c first second still x y plan is paths course plugs =
     y plan is paths (course_joined course
-    (went_course m _ _ first (went_sound n _ _ second still)))
+    (went_course m _ _ first (went_before second still)))
     (x plan is paths course plugs)
 
 -- what is listed was so before, or is lost
@@ -316,13 +316,13 @@ was_listed first path es f at = pick (decided (is_way first path))
     pick (inr away) = sym (finding-kept first path es away) ∙ at
 
 -- what was found at a port and below it is forgotten
-pub plugs_forgot : {n : ℕ} (path : List ℕ) (a : HostState) {b : HostState} (c : HostState)
-    → HostSteps n a c → OnlyBusSteps a b → c.entries ≡ without path b.entries → KeepsPlugs a c
-plugs_forgot path a c went r rest plan is paths course =
-    let left : c.entries ≡ without path a.entries = rest ∙ ap
+pub plugs_forgot : {n : ℕ} {path : List ℕ} {a b c : HostState} → HostSteps n a c
+    → OnlyBusSteps a b → Forgets path b c → KeepsPlugs a c
+plugs_forgot {path = path} {a = a} {c = c} went r f plan is paths course =
+    let left : c.entries ≡ without path a.entries = f.rest ∙ ap
     (λ (h : HostState). without path h.entries) r in
     plugs_fewer a c went.spends.onward
-    (λ p f at. inl (was_listed path p a.entries f (ap (finding_at p) (sym left) ∙ at)))
+    (λ p g at. inl (was_listed path p a.entries g (ap (finding_at p) (sym left) ∙ at)))
 
 abbrev with_lost : List ℕ → Entries → Entries
 with_lost path es = insert_entry path_cmp (without path es) path (Refused Lost)
@@ -424,20 +424,17 @@ seen_plugged path status old new x order on plan is paths course =
     (there_was_plugged _ is paths (course_joined course first) path there)
 
 -- what a status showed is found and entered
-pub plugs_found : {m : ℕ} (n : ℕ) (path : List ℕ) (status : PortStatus) (a b c d : HostState)
-    → HostSteps m a c → HostSteps n c d → OnlyBusSteps a b
-    → c ≡ record b { entries = c.entries; pipes = c.pipes; addresses = c.addresses }
-    → c.entries ≡ without path b.entries → has_at path c.entries ≡ false
-    → Agrees c.options c.entries c.addresses → ClearsAndReads path status a.world b.world
-    → IsOrderly a.world
-    → status.connected ≡ true → EntersOne path c d → KeepsPlugs a d
-plugs_found n path status a b c d first second r others rest gone agrees x order on enters plan is
-    paths course plugs =
+pub plugs_found : {m n : ℕ} {path : List ℕ} {status : PortStatus} {a b c d : HostState}
+    → HostSteps m a c → HostSteps n c d → OnlyBusSteps a b → Forgets path b c
+    → ClearsAndReads path status a.world b.world → IsOrderly a.world → status.connected ≡ true
+    → EntersOne path c d → KeepsPlugs a d
+plugs_found {path = path} {c = c} {d = d} first second r f x order on enters plan is paths course
+    plugs =
     let was : WasPlugged plan.events c.world.taken path =
-    rw (ap (λ (h : HostState). h.world) others) (seen_plugged _ _ _ _ x order on
+    rw (ap (λ (h : HostState). h.world) f.others) (seen_plugged _ _ _ _ x order on
     _ is paths course) in
-    plugs_entered _ _ c d agrees gone enters second.spends.onward was
-    (plugs_forgot path a c first r rest plan is paths course plugs)
+    plugs_entered _ _ c d f.agrees f.gone enters second.spends.onward was
+    (plugs_forgot first r f plan is paths course plugs)
 
 -- A host that knows of no device
 

@@ -23,9 +23,10 @@ use Rattle.usb_hub.specs.{NoHubFailed}
 use Rattle.usb_hub.proofs.Interface.{keeps_devices_none}
 use Rattle.usb_backlog.proofs.Interface.{all_none, all_then}
 use Rattle.usb_enum.specs.{EnumFault, ParentLost, CanFail, fault_at_port, at_port, IsInOrder}
-use Rattle.usb_enum.proofs.Interface.{devices_then, went_in_order, went_sound, went_three}
+use Rattle.usb_enum.proofs.Interface.{devices_then, went_in_order, went_three}
 use Rattle.usb_host.specs.{LetsGoOn, RestElsewhere, HasWay, IsLost, Watches, Tidies, ClearsChange}
 use Rattle.usb_host.specs.{Decides, BaresPort, ClearsReset, ClearsConnection}
+use Rattle.usb_host.proofs.StepSums.{went_before}
 use Rattle.usb_host.proofs.payments.Backlogs.{call_all, connection_done, reset_done}
 use Rattle.usb_host.proofs.rests.Clearings.{cleared_way, told_decides, decided_stays}
 use Rattle.usb_host.proofs.OwnedPorts.{bares_after}
@@ -284,7 +285,7 @@ module _ {port : HubPort} {m n : ℕ} {old mid new : World} {t s r q : Option (L
           → CommandsPort port (clear_call PORT_ENABLE) mid result new
           → IfOk (disabled_so status result) (λ status. Decides status.connected new p)
       decided (Ok tt) f p at owned way order still calls =
-          let sane = (went_in_order m old mid before order (went_sound n mid new went still)).sane
+          let sane = (went_in_order m old mid before order (went_before went still)).sane
           in
           let told = told_decides p status old mid (tells.tells f p at owned status refl) sane
           way in

@@ -1,8 +1,7 @@
 -- Requests to a port move nothing through an endpoint of a function.
 use Rattle.std.proofs.Common.{◌≡◌, ap, inl, inr, refl, subst, Bool, ℕ, Some, Result, Ok}
 use Rattle.usb_request.specs.{PORT_ENABLE}
-use Rattle.usb_port.specs.{ClearConnectionChange, ClearEnable}
-use Rattle.usb_port.specs.{PortCall, PortStatus, clear_call}
+use Rattle.usb_port.specs.{ClearConnectionChange, ClearEnable, PortCall, PortStatus, clear_call}
 use Rattle.usb_tree.proofs.Interface.{decided}
 use Rattle.usb_address.specs.{AddressMap, MapHolds, WhileBusWorks}
 use Rattle.usb_hub.specs.{HubPort}

@@ -1,19 +1,18 @@
 -- Each entry is what an enumeration at its port gives.
-use Rattle.std.proofs.Common.{◌≡◌, ◌∙◌, refl, sym, ap, subst, true, false, Bool, List, ℕ, []}
-use Rattle.std.proofs.Common.{not, Some}
+use Rattle.std.proofs.Common.{◌≡◌, ◌∙◌, refl, sym, ap, subst, true, false, Bool, List, ℕ, [], not}
+use Rattle.std.proofs.Common.{Some}
 use Rattle.std.proofs.lemmas.Option.{same_Some}
 use Rattle.std.specs.Map.{lookup}
 use Rattle.std.specs.BTreeMap.{is_at, insert_entry}
 use Rattle.usb_port.specs.{path_cmp}
-use Rattle.usb_enum.specs.{Finding}
-use Rattle.usb_enum.specs.{HostOptions}
+use Rattle.usb_enum.specs.{Finding, HostOptions}
 use Rattle.usb_table.specs.{Entries, KnownPort, has_at, is_at_or_below, known_port, without}
 use Rattle.usb_table.proofs.Interface.{path_tied}
 use Rattle.usb_host.specs.{AreFound, IsFoundAt}
 use Rattle.usb_host.proofs.entries.Agreements.{found_away, hub_away, is_at-outside, known_away}
 use Rattle.usb_host.proofs.entries.Agreements.{known_entered, lookup-insert_entry_elsewhere}
 use Rattle.usb_host.proofs.entries.Agreements.{lookup-without, shorter_apart}
-use Rattle.usb_host.proofs.entries.EntryClaims.{lookup-insert_entry_here}
+use Rattle.usb_host.proofs.entries.Balances.{lookup-insert_entry_here}
 
 pub found_none : {options : HostOptions} → AreFound options []
 found_none = record { each = λ path finding port is at. absurd cc }

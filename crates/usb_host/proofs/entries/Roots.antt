@@ -10,8 +10,7 @@ use Rattle.usb_world.specs.{World, roots_of}
 use Rattle.usb_world.proofs.Interface.{way_rest}
 use Rattle.usb_tree.proofs.Interface.{false_true}
 use Rattle.usb_hub.specs.{Root, IsPort}
-use Rattle.usb_enum.specs.{NoAddress, Finding}
-use Rattle.usb_enum.specs.{HostOptions}
+use Rattle.usb_enum.specs.{NoAddress, Finding, HostOptions}
 use Rattle.usb_enum.specs.declared.finding.Finding.TheVariants.{Refused}
 use Rattle.usb_table.specs.{KnownPort, Entries, without, is_at_or_below, known_port, root_port}
 use Rattle.usb_table.specs.{port_below, is_below_hub, finding_at}

@@ -1,8 +1,7 @@
 -- The bits by which a hub tells its changes (11.12.4), as words of two bytes.
 use Rattle.std.proofs.Common.{◌≡◌, ◌≢◌, ◌≤◌, ◌<◌, ◌⊎◌, ◌∙◌, ◌/◌, ◌%◌, ◌^◌, ◌||◌, inl, inr, refl}
-use Rattle.std.proofs.Common.{sym, ap}
-use Rattle.std.proofs.Common.{subst, arith, if◌then◌else◌, ℕ, zero, suc, ◌+◌, ◌-◌, ◌*◌, Bool, true}
-use Rattle.std.proofs.Common.{false, List, Option, None, Some, slice_get, nat_lt}
+use Rattle.std.proofs.Common.{sym, ap, subst, arith, if◌then◌else◌, ℕ, zero, suc, ◌+◌, ◌-◌, ◌*◌}
+use Rattle.std.proofs.Common.{Bool, true, false, List, Option, None, Some, slice_get, nat_lt}
 use Rattle.std.proofs.lemmas.Bool.{cases_lt, eq-eqb, eqb-true, lt-ltb}
 use Rattle.usb_port.specs.{PortState, has_bit, has_change}
 use Rattle.usb_device.specs.{change_bits, changed_bit, high_changes, low_changes}

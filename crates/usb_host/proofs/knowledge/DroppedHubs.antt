@@ -1,12 +1,9 @@
 -- What a host knows as a hub that is lost is dropped.
-use Rattle.std.proofs.Common.{◌≡◌, ◌≤◌, refl, sym, ap, subst, ◌∙◌, arith, ℕ, Bool, true, false}
-use Rattle.std.proofs.Common.{List, length, Option, None, Some, Result, Ok, Err, IsSome, IsSomeAnd}
-use Rattle.std.proofs.Common.{IfOk, IsErr}
-use Rattle.std.specs.BTreeMap.{insert_entry}
-use Rattle.arrayvec.specs.ArrayVec.{ArrayVec}
-use Rattle.usb_port.specs.{path_cmp, parent_of, ClearEnable, clear_call}
+use Rattle.std.proofs.Common.{◌≡◌, refl, sym, ap, subst, ◌∙◌, arith, ℕ, Bool, true, false, List}
+use Rattle.std.proofs.Common.{Option, None, Some, Result, Ok, Err, IsSome, IsSomeAnd, IfOk, IsErr}
+use Rattle.usb_port.specs.{parent_of, ClearEnable, clear_call}
 use Rattle.usb_request.specs.{PORT_ENABLE}
-use Rattle.usb_tree.specs.{is_way, pending}
+use Rattle.usb_tree.specs.{pending}
 use Rattle.usb_enum.specs.{IsOrderly, Lost, Finding}
 use Rattle.usb_world.specs.{World}
 use Rattle.usb_bus.specs.{StepRun}
@@ -16,23 +13,24 @@ use Rattle.usb_pipe.specs.declared.fault.PipeFault.TheVariants as pipe
 use Rattle.usb_backlog.specs.{KeepsAll}
 use Rattle.usb_hub.specs.{KeepsDevices, CommandsPort, IsCall, PortCleared}
 use Rattle.usb_enum.specs.declared.finding.Finding.TheVariants.{Refused}
-use Rattle.usb_enum.proofs.Interface.{disabled_known, went_sound}
-use Rattle.usb_table.specs.{KnownPort, has_at, without, accepted_device_of, known_port, finding_at}
-use Rattle.usb_table.specs.{AllInSync, Table, entered, pipes_at}
+use Rattle.usb_enum.proofs.Interface.{disabled_known}
+use Rattle.usb_table.specs.{KnownPort, accepted_device_of, known_port, finding_at, AllInSync}
 use Rattle.usb_host.specs.{IsDroppedAt, Disabled, DisablesOnWay, HostState, claims, DropsHub}
 use Rattle.usb_host.specs.{root_of, StandsAt, StandsNowhere, HostSteps, OnlyBusSteps, HostInvariant}
 use Rattle.usb_host.specs.{IsSoundBut, IsDroppable, IsFairTo, CausesBut, PortsListed, KnownBut}
 use Rattle.usb_host.specs.{DevicesAccurate, HostFault, table_in}
+use Rattle.usb_host.proofs.StepSums.{went_before}
 use Rattle.usb_host.proofs.payments.Backlogs.{call_all}
-use Rattle.usb_host.proofs.entries.EntryClaims.{lookup-insert_entry_here}
+use Rattle.usb_host.proofs.entries.Balances.{lookup-insert_entry_here}
 use Rattle.usb_host.proofs.devices.Fairness.{fair_before, fair_after}
+use Rattle.usb_host.proofs.OwnedPorts.{LostListed, lost_entries, lost_options, lost_world}
 use Rattle.usb_host.proofs.OwnedPorts.{root_done}
 use Rattle.usb_host.proofs.devices.Owners.{Opened, opened_if_owned, at_others}
 use Rattle.usb_host.proofs.devices.LevelPipes.{level_forgotten, level_refused}
 use Rattle.usb_host.proofs.knowledge.Places.{known_dropped, known_found, truthful_dropped}
 use Rattle.usb_host.proofs.knowledge.Places.{truthful_found}
-use Rattle.usb_host.proofs.knowledge.RestedWorlds.{droppable_above, sound_rests_but}
-use Rattle.usb_host.proofs.knowledge.ServedPorts.{rests_known, rests_agrees}
+use Rattle.usb_host.proofs.knowledge.ServedPorts.{droppable_above, sound_rests_but, rests_known}
+use Rattle.usb_host.proofs.knowledge.ServedPorts.{rests_agrees}
 use Rattle.usb_host.proofs.PortLocations.{stands_at-claim, root_alone}
 
 -- as long as the bus is at work, it did not give up
@@ -76,7 +74,7 @@ module _ {n : ℕ} {path : List ℕ} {port : KnownPort} {a b : HostState} (s : S
     but = told_but calls (λ still. tt);
     there = λ still. disabled_known path Lost a.world b.world
         (calls.done claimed.claims path ClearEnable is_call refl)
-        (d.there (went_sound n a.world b.world went still));
+        (d.there (went_before went still));
   }
 
   -- it could not be told
@@ -115,54 +113,40 @@ nowhere_dropped {path = path} {h = h} s d = by_parent (parent_of path) refl
 
 -- The hub is forgotten, and listed as lost
 
-module _ (hub lost : List ℕ) (a b c d : HostState) (least : 1 ≤ length lost)
-    (x : IsDroppedAt lost b) (others : c ≡ record b {
-      entries = c.entries;
-      pipes = c.pipes;
-      addresses = c.addresses;
-    }) (rest : c.entries ≡ without lost b.entries) (pipes : (y : List ℕ) → is_way lost y ≡ false
-    → pipes_at y (table_in c) ≡ pipes_at y (table_in b)) (gone : has_at lost c.entries ≡ false)
-    (same : d.world ≡ c.world) (options : d.options ≡ c.options) (said : ArrayVec ℕ)
-    (table : table_in d ≡ entered lost (Refused Lost) said (table_in c)) where
-  is : d.entries ≡ insert_entry path_cmp c.entries lost (Refused Lost)
-  is = ap (λ (t : Table). t.entries) table
-
-  world_is : d.world ≡ b.world
-  world_is = same ∙ ap (λ (h : HostState). h.world) others
-
-  width : d.options ≡ b.options
-  width = options ∙ ap (λ (h : HostState). h.options) others
-
+module _ {lost : List ℕ} {b d : HostState} (l : LostListed lost b d) (x : IsDroppedAt lost b) where
   still_there : d.world.fault ≡ None → b.world.fault ≡ None
-  still_there still = ap (λ (w : World). w.fault) (sym world_is) ∙ still
+  still_there still = ap (λ (w : World). w.fault) (sym (lost_world l)) ∙ still
 
   lost_known : d.world.fault ≡ None → PortsListed d.world d.entries
   lost_known still =
-      let dropped : KnownBut lost b.world c.entries =
-      rw rest (known_dropped lost b.world b.entries (x.but.known (still_there still))) in
-      rw world_is (rw is (known_found lost (Refused Lost) c.entries least gone b.world dropped
-      (x.there (still_there still)) (λ m has. absurd has)))
+      let dropped : KnownBut lost b.world l.left.entries =
+      rw l.forgot.rest (known_dropped lost b.world b.entries (x.but.known (still_there still))) in
+      rw (lost_world l) (rw (lost_entries l) (known_found lost (Refused Lost) l.left.entries
+      l.path.0
+      l.forgot.gone b.world dropped (x.there (still_there still)) (λ m has. absurd has)))
 
   lost_truthful : d.world.fault ≡ None → DevicesAccurate d.options d.world d.entries
   lost_truthful still =
-      let dropped : DevicesAccurate b.options b.world c.entries =
-      rw rest (truthful_dropped lost b.world b.entries (x.but.truthful (still_there still))) in
-      rw (width, world_is) (rw is (truthful_found lost (Refused Lost) c.entries least gone b.world
-      dropped
-      (λ device s at on stands. absurd
-      (cc (ap accepted_device_of (lookup-insert_entry_here lost (Refused Lost) c.entries), at)))))
+      let dropped : DevicesAccurate b.options b.world l.left.entries =
+      rw l.forgot.rest (truthful_dropped lost b.world b.entries
+      (x.but.truthful (still_there still))) in
+      rw (lost_options l, lost_world l) (rw (lost_entries l) (truthful_found lost (Refused Lost)
+      l.left.entries l.path.0 l.forgot.gone b.world dropped
+      (λ device s at on stands. absurd (cc
+      (ap accepted_device_of (lookup-insert_entry_here lost (Refused Lost) l.left.entries), at)))))
 
   lost_level : d.world.fault ≡ None → AllInSync (table_in d) d.world
   lost_level still =
-      level_refused lost Lost said (table_in c) d.world table
-      (rw same (level_forgotten lost b c (ap (λ (h : HostState). h.world) others) rest gone pipes
+      level_refused lost Lost l.said (table_in l.left) d.world l.table
+      (rw (ap (λ (h : HostState). h.world) l.others) (level_forgotten l.forgot
       (x.but.level (still_there still))))
 
-  pub lost_sound_there : IsDroppable hub a → DropsHub hub a (Ok tt) d → HostInvariant d
-  lost_sound_there p drops = record {
+  pub lost_sound_there : {hub : List ℕ} {a : HostState} → IsDroppable hub a
+      → DropsHub hub a (Ok tt) d → HostInvariant d
+  lost_sound_there {hub = hub} p drops = record {
     owned = drops.ends p.but.owned;
     rooted = drops.rooted p.but.rooted (p.but.rooted hub p.listed);
-    order = λ still. subst IsOrderly (sym world_is) (x.but.order (still_there still));
+    order = λ still. subst IsOrderly (sym (lost_world l)) (x.but.order (still_there still));
     known = lost_known;
     truthful = lost_truthful;
     level = lost_level;

@@ -1,9 +1,9 @@
 -- A port was served, and where its hub is lost, that was dropped: what is known stays so.
 use Rattle.std.proofs.Common.{◌≡◌, ℕ, List, Result, Ok, Err}
 use Rattle.usb_enum.specs.{EnumFault, Bus, Memory}
-use Rattle.usb_enum.proofs.Interface.{went_sound}
 use Rattle.usb_host.specs.{LetsGoOn, ServesSound, DropsLost, HostState, EndsAs, HostSteps}
 use Rattle.usb_host.specs.{PartKeepsInvariant, HostFault}
+use Rattle.usb_host.proofs.StepSums.{went_before}
 use Rattle.usb_host.proofs.devices.BulkPipes.{bulk_then}
 use Rattle.usb_host.proofs.devices.Fairness.{fair_before, fair_after}
 use Rattle.usb_host.proofs.devices.Plugs.{plugs_then}
@@ -28,8 +28,8 @@ finished_sound m {n = n} served (Ok tt) a b c first second options ends x y = re
         y.caused (x.sound s) (fair_after first fair) (x.caused s (fair_before second fair) k);
   };
   bulk = λ s still. bulk_then m n a b c first second still
-      (x.bulk s (lets_go_on_done served ends) (went_sound n b.world c.world second still))
+      (x.bulk s (lets_go_on_done served ends) (went_before second still))
       (y.bulk (x.sound s) still);
   plugs = λ s still. plugs_then m n a b c first second still
-      (x.plugs s (went_sound n b.world c.world second still)) y.plugs;
+      (x.plugs s (went_before second still)) y.plugs;
 }

@@ -1,6 +1,5 @@
 -- What is known of ports and devices stays so where nothing is asked of them.
-use Rattle.std.proofs.Common.{◌≡◌, ◌⊎◌, inl, inr, List, [], ◌∷◌, ℕ, zero, suc, true, false}
-use Rattle.std.proofs.Common.{Option}
+use Rattle.std.proofs.Common.{◌≡◌, ◌⊎◌, inl, inr, List, [], ◌∷◌, ℕ, zero, suc, true, false, Option}
 use Rattle.std.proofs.Common.{None, Some, option_map, refl, ap, sym, subst, ◌∙◌, IfSome}
 use Rattle.std.specs.Prelude.{⊤}
 use Rattle.usb_resources.specs.{Addresses}
@@ -11,8 +10,7 @@ use Rattle.usb_tree.specs.{has_power, pending}
 use Rattle.usb_world.proofs.Interface.{course_wider, pending_persists, rests_or_pends}
 use Rattle.usb_world.proofs.Interface.{stands_or_pends}
 use Rattle.usb_tree.proofs.Interface.{false_true}
-use Rattle.usb_enum.specs.{Cause, Accepted, Finding, IsRight, IsThere, IsKnownAs}
-use Rattle.usb_enum.specs.{HostOptions}
+use Rattle.usb_enum.specs.{Cause, Accepted, Finding, IsRight, IsThere, IsKnownAs, HostOptions}
 use Rattle.usb_enum.specs.declared.finding.Finding.TheVariants.{Device, Refused}
 use Rattle.usb_table.specs.{Entries, finding_at, IsListedPort, tier_of, SameDevice}
 use Rattle.usb_enum.proofs.Interface.{some_of}

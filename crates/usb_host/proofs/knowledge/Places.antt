@@ -12,8 +12,7 @@ use Rattle.usb_tree.specs.{is_way, pending, same_number}
 use Rattle.usb_world.specs.{World, roots_of}
 use Rattle.usb_world.proofs.Interface.{at_or_below_way, way_itself, way_parent, way_rest, way_trans}
 use Rattle.usb_tree.proofs.Interface.{and_of, both, decided, false_true}
-use Rattle.usb_enum.specs.{Finding, IsRight, IsKnownAs}
-use Rattle.usb_enum.specs.{HostOptions}
+use Rattle.usb_enum.specs.{Finding, IsRight, IsKnownAs, HostOptions}
 use Rattle.usb_enum.specs.declared.finding.Finding.TheVariants.{Refused}
 use Rattle.usb_table.specs.{KnownPort, Entries, has_at, without, accepted_device_of, finding_at}
 use Rattle.usb_table.specs.{hub_facts_in, IsPortBelow, IsListedPort, tier_of}
@@ -22,7 +21,7 @@ use Rattle.usb_host.specs.{PortsListed, known_supply, IsAccurateAt, DevicesAccur
 use Rattle.usb_host.specs.{RefusalsJustified, KnownBut, TruthfulBut, CausesBut}
 use Rattle.usb_host.proofs.entries.Agreements.{lookup-without, lookup-insert_entry_elsewhere}
 use Rattle.usb_host.proofs.entries.Agreements.{known_away, known_entered}
-use Rattle.usb_host.proofs.entries.EntryClaims.{lookup-none_there, lookup-insert_entry_here}
+use Rattle.usb_host.proofs.entries.Balances.{lookup-none_there, lookup-insert_entry_here}
 
 -- what is below a port, and longer, has its hub at the port or below it
 way_hub : (p hub : List ℕ) (n : ℕ) → length p ≤ length hub → is_way p (hub ++ n ∷ []) ≡ true

@@ -1,7 +1,7 @@
 -- The hub of a port that is known serves the port, or a change of connection is pending at the hub.
 use Rattle.std.proofs.Common.{◌≡◌, ◌⊎◌, inl, inr, ◌≤◌, ◌&&◌, ◌||◌, not, arith, if◌then◌else◌, ℕ}
-use Rattle.std.proofs.Common.{suc, Bool, true, false, List, [], ◌∷◌, length, Option, None}
-use Rattle.std.proofs.Common.{Some, refl, ap, sym, subst, ◌∙◌, length-append}
+use Rattle.std.proofs.Common.{suc, Bool, true, false, List, [], ◌∷◌, length, Option, None, Some}
+use Rattle.std.proofs.Common.{refl, ap, sym, subst, ◌∙◌, length-append}
 use Rattle.std.proofs.lemmas.Bool.{eq-eqb, lt-ltb}
 use Rattle.usb_port.specs.{parent_of, port_on_hub}
 use Rattle.usb_port.proofs.Interface.{rejoined}
@@ -14,8 +14,7 @@ use Rattle.usb_world.proofs.Interface.{sane_spec, way_shorter}
 use Rattle.usb_tree.proofs.Interface.{and_of, false_true}
 use Rattle.usb_hub.specs.{External}
 use Rattle.usb_enum.specs.{Accepted, HubFacts, facts_of, is_hub_device, target_of, configuration_of}
-use Rattle.usb_enum.specs.{HasServer, ServesAt, IsKnownAs}
-use Rattle.usb_enum.specs.{HostOptions}
+use Rattle.usb_enum.specs.{HasServer, ServesAt, IsKnownAs, HostOptions}
 use Rattle.usb_enum.specs.declared.finding.Finding.TheVariants.{Device}
 use Rattle.usb_table.specs.{KnownPort, Entries, accepted_device_of, address_in, root_port}
 use Rattle.usb_table.specs.{port_below, is_below_hub, finding_at, tier_of}

@@ -14,8 +14,7 @@ use Rattle.usb_world.specs.{spec_of, hub_ports, World, roots_of}
 use Rattle.usb_world.proofs.Interface.{same_is}
 use Rattle.usb_tree.proofs.Interface.{both, false_true}
 use Rattle.usb_enum.specs.{Cause, Accepted, Finding, HubFacts, facts_of, IsRight, is_hub_device}
-use Rattle.usb_enum.specs.{IsThere, IsKnownAs}
-use Rattle.usb_enum.specs.{HostOptions}
+use Rattle.usb_enum.specs.{IsThere, IsKnownAs, HostOptions}
 use Rattle.usb_enum.specs.declared.finding.Finding.TheVariants.{Device, Refused}
 use Rattle.usb_table.specs.{KnownPort, Entries, accepted_device_of, port_below, port_found}
 use Rattle.usb_table.specs.{port_of_hub, is_below_hub, tree_in, finding_at, entry_address}
@@ -24,7 +23,7 @@ use Rattle.usb_table.specs.{supply_at, ListsEach, Matches}
 use Rattle.usb_table.proofs.Interface.{FoundPort, port_found-some}
 use Rattle.usb_host.specs.{PortsListed, known_supply, IsTruthOf, DevicesAccurate, RefusalsJustified}
 use Rattle.usb_host.specs.{Accounted, IsAtRest}
-use Rattle.usb_host.proofs.entries.EntryClaims.{claims_distinct, claims_taken}
+use Rattle.usb_host.proofs.entries.Balances.{claims_distinct, claims_taken}
 
 -- A reachable device stands
 

@@ -13,7 +13,7 @@ use Rattle.usb_transaction.specs.{NoThreeDamaged}
 use Rattle.usb_backlog.proofs.Interface.{all_none}
 use Rattle.usb_address.specs.{KeepsAddresses}
 use Rattle.usb_enum.specs.{Finding, IsKnownAs, IsOccupied, IsInOrder}
-use Rattle.usb_enum.proofs.Interface.{orderly_on, step_later, went_in_order, went_sound}
+use Rattle.usb_enum.proofs.Interface.{orderly_on, step_later, went_in_order}
 use Rattle.usb_table.specs.{Entries, finding_at, AllInSync, IsHeld, KeepsInSync, KeepsLevels}
 use Rattle.usb_table.specs.{OnlySets, OnlyTransfers, SameDevice, SameSettings, Table}
 use Rattle.usb_table.proofs.Interface.{all_kept, path_tied}
@@ -22,6 +22,7 @@ use Rattle.usb_host.specs.{table_in, HostSteps, HostRuns, PortsListed, DevicesAc
 use Rattle.usb_host.specs.{RefusalsJustified, HostInvariant, IsSoundBut, IsFairTo, KeepsInvariant}
 use Rattle.usb_host.specs.{PartStays, PartKeepsInvariant, IsDroppable, DropsSound, RoundsSound}
 use Rattle.usb_host.specs.{TransferKeeps}
+use Rattle.usb_host.proofs.StepSums.{went_before}
 use Rattle.usb_host.proofs.devices.BulkPipes.{bulk_none, bulk_stopped, bulk_then}
 use Rattle.usb_host.proofs.parts.Events.{known_event, truthful_event, causes_event, level_event}
 use Rattle.usb_host.proofs.devices.Fairness.{fair_before, fair_after}
@@ -30,7 +31,7 @@ use Rattle.usb_host.proofs.devices.Plugs.{plugs_none, plugs_stopped, plugs_then}
 use Rattle.usb_host.proofs.entries.Roots.{accounted}
 use Rattle.usb_host.proofs.knowledge.SettledListings.{listed_port}
 use Rattle.usb_host.proofs.knowledge.KnowledgeKept.{known_each, truthful_stays, causes_stay}
-use Rattle.usb_host.proofs.knowledge.RestedWorlds.{occupied_by}
+use Rattle.usb_host.proofs.knowledge.ServedPorts.{occupied_by}
 
 -- One part after another
 
@@ -60,9 +61,9 @@ part_then m {n = n} a b c first second x y = record {
         (x.sound.caused s (fair_before second fair) caused);
   };
   bulk = λ s still. bulk_then m n a b c first second still
-      (x.bulk s (went_sound n b.world c.world second still)) (y.bulk (x.sound.sound s) still);
+      (x.bulk s (went_before second still)) (y.bulk (x.sound.sound s) still);
   plugs = λ s still. plugs_then m n a b c first second still
-      (x.plugs s (went_sound n b.world c.world second still)) (y.plugs (x.sound.sound s) still);
+      (x.plugs s (went_before second still)) (y.plugs (x.sound.sound s) still);
 }
 
 -- A device that was found stands at its port, or a change is pending there
@@ -88,77 +89,80 @@ is_way-apart path other away = pick (is_at (path_cmp path) other) refl
 -- A call through the pipes at a path: it changes no entry and asks nothing of any port, and keeps
 -- each device but for the settings of its interfaces
 
-module _ (n : ℕ) (path : List ℕ) (ends : Type 0) (a b : HostState)
-    (agrees : Agrees a.options a.entries a.addresses) (same : b.entries ≡ a.entries)
-    (width : b.options ≡ a.options) (went : HostSteps n a b)
-    (k : KeepsLevels OnlySets path ends (table_in a) a.world (table_in b) b.world) where
-  before : b.world.fault ≡ None → a.world.fault ≡ None
-  before still = went_sound n a.world b.world went still
+pub record PipeCall (n : ℕ) (path : List ℕ) (ends : Type 0) (a b : HostState) : Type 0 where
+  pub agrees : Agrees a.options a.entries a.addresses
+  pub same : b.entries ≡ a.entries
+  pub width : b.options ≡ a.options
+  pub went : HostSteps n a b
+  pub levels : KeepsLevels OnlySets path ends (table_in a) a.world (table_in b) b.world
 
-  owned : StaysOwned a b
-  owned = stays_kept a b same went.spends.roots k.worlds.addresses
+module _ {n : ℕ} {path : List ℕ} {ends : Type 0} {a b : HostState} (call : PipeCall n path ends a b)
+  where
+    before : b.world.fault ≡ None → a.world.fault ≡ None
+    before still = went_before call.went still
 
-  held : HostInvariant a → b.world.fault ≡ None → IsHeld (table_in a) a.world
-  held s still = s.owned.so (before still)
+    pub stays_under : StaysOwned a b
+    stays_under = stays_kept a b call.same call.went.spends.roots call.levels.worlds.addresses
 
-  pub known_under : HostInvariant a → b.world.fault ≡ None → PortsListed b.world b.entries
-  known_under s still = rw same (known_each a.world b.world a.entries went.spends.roots
-      (λ path port. k.worlds.rests still path) (s.known (before still)))
+    held : HostInvariant a → b.world.fault ≡ None → IsHeld (table_in a) a.world
+    held s still = s.owned.so (before still)
 
-  pub truthful_under : HostInvariant a → b.world.fault ≡ None
-      → DevicesAccurate b.options b.world b.entries
-  truthful_under s still = rw (width, same) (truthful_stays a.world b.world a.entries
-      (k.worlds.devices (owned.stays s.owned).single) (s.truthful (before still)))
+    pub known_under : HostInvariant a → b.world.fault ≡ None → PortsListed b.world b.entries
+    known_under s still =
+        rw call.same (known_each a.world b.world a.entries call.went.spends.roots
+        (λ path port. call.levels.worlds.rests still path) (s.known (before still)))
 
-  -- each cause stays so, wherever it ends
-  pub caused_under : HostInvariant a → IsFairTo a.world b.world
-      → RefusalsJustified a.options a.world a.entries
-      → RefusalsJustified b.options b.world b.entries
-  caused_under s fair causes =
-      rw (width, same) (causes_stay a.world b.world (accounted a agrees s.rooted)
-      (s.known (before fair.still))
-      (λ path port. course_wider (λ s u x. x.spares) (k.worlds.rests fair.still path)) causes)
+    pub truthful_under : HostInvariant a → b.world.fault ≡ None
+        → DevicesAccurate b.options b.world b.entries
+    truthful_under s still =
+        rw (call.width, call.same) (truthful_stays a.world b.world a.entries
+        (call.levels.worlds.devices (stays_under.stays s.owned).single) (s.truthful (before still)))
 
-  -- where it ends well
-  pub sound_under : (b.world.fault ≡ None → ends) → KeepsInvariant a b
-  sound_under well = record {
-    options = width;
-    sound = λ s. record {
-      owned = owned.stays s.owned;
-      rooted = owned.rooted s.rooted;
-      order = went_in_order n a.world b.world went s.order;
-      known = known_under s;
-      truthful = truthful_under s;
-      level = λ still. all_kept path ends (table_in a) (table_in b) a.world b.world k (held s still)
-          (well still) (s.level (before still));
-    };
-    caused = caused_under;
-  }
+    -- each cause stays so, wherever it ends
+    pub caused_under : HostInvariant a → IsFairTo a.world b.world
+        → RefusalsJustified a.options a.world a.entries
+        → RefusalsJustified b.options b.world b.entries
+    caused_under s fair causes =
+        rw (call.width, call.same) (causes_stay a.world b.world (accounted a call.agrees s.rooted)
+        (s.known (before fair.still))
+        (λ path port. course_wider (λ s u x. x.spares) (call.levels.worlds.rests fair.still path))
+        causes)
 
-  pub transfer_under : a.stopped ≡ false → (b.world.fault ≡ None → ends) → TransferKeeps a b
-  transfer_under going well = record {
-    owning = owning_kept a b going same k.worlds.addresses;
-    sound = sound_under well;
-    backlog = k.worlds.backlog;
-  }
+    -- where it ends well
+    pub sound_under : (b.world.fault ≡ None → ends) → KeepsInvariant a b
+    sound_under well = record {
+      options = call.width;
+      sound = λ s. record {
+        owned = stays_under.stays s.owned;
+        rooted = stays_under.rooted s.rooted;
+        order = went_in_order n a.world b.world call.went s.order;
+        known = known_under s;
+        truthful = truthful_under s;
+        level = λ still. all_kept path ends (table_in a) (table_in b) a.world b.world call.levels
+            (held s still) (well still) (s.level (before still));
+      };
+      caused = caused_under;
+    }
 
-  -- where it does not, the device at the path may be dropped
-  pub but_under : HostInvariant a → IsSoundBut path b
-  but_under s = record {
-    owned = but_all (owned.stays s.owned);
-    rooted = owned.rooted s.rooted;
-    order = went_in_order n a.world b.world went s.order;
-    known = λ still other away. known_under s still other;
-    truthful = λ still other away. truthful_under s still other;
-    level = λ still other away. k.others (held s still) other (is_way-apart path other away)
-        (s.level (before still) other);
-  }
+    -- where it does not, the device at the path may be dropped
+    pub but_under : HostInvariant a → IsSoundBut path b
+    but_under s = record {
+      owned = but_all (stays_under.stays s.owned);
+      rooted = stays_under.rooted s.rooted;
+      order = went_in_order n a.world b.world call.went s.order;
+      known = λ still other away. known_under s still other;
+      truthful = λ still other away. truthful_under s still other;
+      level = λ still other away.
+          call.levels.others (held s still) other (is_way-apart path other away)
+          (s.level (before still) other);
+    }
 
-  pub occupied_under : HostInvariant a → IsSome (finding_at path b.entries) → b.world.fault ≡ None
-      → Agrees b.options b.entries b.addresses → IsOccupied b.world path
-  occupied_under s listed still agrees_on =
-      occupied_at path b (accounted b agrees_on (owned.rooted s.rooted)) (known_under s still)
-      (finding_at path b.entries) refl listed
+    pub occupied_under : HostInvariant a → IsSome (finding_at path b.entries) → b.world.fault ≡ None
+        → Agrees b.options b.entries b.addresses → IsOccupied b.world path
+    occupied_under s listed still agrees_on =
+        occupied_at path b (accounted b agrees_on (stays_under.rooted s.rooted)) (known_under s
+        still)
+        (finding_at path b.entries) refl listed
 
 -- a call that sets no interface does so, too
 same_device : (x : Location) (s v : State) → SameSettings x s v → SameDevice x s v
@@ -177,7 +181,7 @@ only_sets {old} {new} only = record {
   backlog = only.backlog;
 }
 
-in_sync-sets : {path : List ℕ} {ends : Type 0} {old new : Table} {before after : World}
+pub in_sync-sets : {path : List ℕ} {ends : Type 0} {old new : Table} {before after : World}
     → KeepsInSync path ends old before new after
     → KeepsLevels OnlySets path ends old before new after
 in_sync-sets k = record {
@@ -186,34 +190,28 @@ in_sync-sets k = record {
   itself = k.itself;
 }
 
-module _ (n : ℕ) (path : List ℕ) (ends : Type 0) (a b : HostState)
-    (agrees : Agrees a.options a.entries a.addresses) (same : b.entries ≡ a.entries)
-    (width : b.options ≡ a.options) (went : HostSteps n a b)
-    (k : KeepsInSync path ends (table_in a) a.world (table_in b) b.world) where
-  pub known_kept : HostInvariant a → b.world.fault ≡ None → PortsListed b.world b.entries
-  known_kept = known_under n path ends a b agrees same width went (in_sync-sets k)
+-- A transfer, as long as the bus is at work
 
-  pub truthful_kept : HostInvariant a → b.world.fault ≡ None
-      → DevicesAccurate b.options b.world b.entries
-  truthful_kept = truthful_under n path ends a b agrees same width went (in_sync-sets k)
+pub transfer_under : {n : ℕ} {path : List ℕ} {a b : HostState}
+    → PipeCall n path (b.world.fault ≡ None) a b → a.stopped ≡ false → TransferKeeps a b
+transfer_under {a = a} {b = b} call going = record {
+  owning = owning_kept a b going call.same call.levels.worlds.addresses;
+  sound = sound_under call (λ still. still);
+  backlog = call.levels.worlds.backlog;
+}
 
-  pub caused_kept : HostInvariant a → IsFairTo a.world b.world
-      → RefusalsJustified a.options a.world a.entries
-      → RefusalsJustified b.options b.world b.entries
-  caused_kept = caused_under n path ends a b agrees same width went (in_sync-sets k)
-
-  pub sound_kept : (b.world.fault ≡ None → ends) → KeepsInvariant a b
-  sound_kept = sound_under n path ends a b agrees same width went (in_sync-sets k)
-
-  pub transfer_kept : a.stopped ≡ false → (b.world.fault ≡ None → ends) → TransferKeeps a b
-  transfer_kept = transfer_under n path ends a b agrees same width went (in_sync-sets k)
-
-  pub but_kept : HostInvariant a → IsSoundBut path b
-  but_kept = but_under n path ends a b agrees same width went (in_sync-sets k)
-
-  pub occupied_kept : HostInvariant a → IsSome (finding_at path b.entries) → b.world.fault ≡ None
-      → Agrees b.options b.entries b.addresses → IsOccupied b.world path
-  occupied_kept = occupied_under n path ends a b agrees same width went (in_sync-sets k)
+pub transfer_kept : {n : ℕ} {path : List ℕ} {a b : HostState}
+    → Agrees a.options a.entries a.addresses → b.entries ≡ a.entries → b.options ≡ a.options
+    → HostSteps n a b
+    → KeepsInSync path (b.world.fault ≡ None) (table_in a) a.world (table_in b) b.world
+    → a.stopped ≡ false → TransferKeeps a b
+transfer_kept agrees same width went keeps = transfer_under (record {
+  agrees = agrees;
+  same = same;
+  width = width;
+  went = went;
+  levels = in_sync-sets keeps;
+})
 
 -- A hub is dropped
 
@@ -235,7 +233,7 @@ sound_dropped (Ok done) m {n = n} a b c p q drops causes bulk plugs d pends = re
         (λ path away. causes s before caused path);
   };
   bulk = λ s still. bulk_then m n a b c p.went q.went still
-      (bulk s (went_sound n b.world c.world q.went still)) (d.bulk (drops s) still);
+      (bulk s (went_before q.went still)) (d.bulk (drops s) still);
   plugs = λ s still. plugs_then m n a b c p.went q.went still plugs d.plugs;
 }
 sound_dropped (Err fault) m a b c p q drops causes bulk plugs d pends = tt

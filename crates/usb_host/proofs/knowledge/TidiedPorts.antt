@@ -4,9 +4,8 @@ use Rattle.std.proofs.Common.{◌≡◌, ◌⊎◌, inl, inr, ◌&&◌, ◌||◌
 use Rattle.std.proofs.Common.{◌∷◌, ◌++◌, Option, None, Some, option_map, refl, ap, sym, subst, ◌∙◌}
 use Rattle.std.proofs.Common.{append-nil, IfSome}
 use Rattle.usb_port.specs.{PortState, PortCall, ClearEnableChange, ClearResetChange, called_port}
-use Rattle.usb_device.specs.{State, Ports, vacant, taken, empty, full, port_of, called}
-use Rattle.usb_device.specs.{place, reach, reach_at, state_at, port_at, port_there, state_there}
-use Rattle.usb_device.specs.{Place}
+use Rattle.usb_device.specs.{State, Ports, vacant, taken, empty, full, port_of, called, place}
+use Rattle.usb_device.specs.{reach, reach_at, state_at, port_at, port_there, state_there, Place}
 use Rattle.usb_world.specs.{Attempt, step_keeps_pending, row_reached, spec_of, LeavesPortAlone}
 use Rattle.usb_world.specs.{SameDeviceOrPending, Step, attempt, root_call, event, report, after}
 use Rattle.usb_world.specs.{with_attempt, at_attempt, Course, here, step, World}

@@ -1,17 +1,15 @@
 -- The ports of which a hub told are known, and show their changes.
-use Rattle.std.proofs.Common.{◌≡◌, ◌≢◌, ◌≤◌, ◌<◌, ◌⊎◌, ◌∙◌, ◌==◌, ◌||◌, ◌&&◌, not}
-use Rattle.std.proofs.Common.{inl, inr, refl, sym, ap, subst, arith, if◌then◌else◌, ℕ, zero, suc}
-use Rattle.std.proofs.Common.{◌+◌, Bool, true, false, List, [], ◌∷◌, ◌++◌, length}
-use Rattle.std.proofs.Common.{length-append, take, Option, None, Some, is_some, Result, Ok, Err}
-use Rattle.std.proofs.Common.{is_ok, slice_get, IsSome}
+use Rattle.std.proofs.Common.{◌≡◌, ◌≢◌, ◌≤◌, ◌<◌, ◌⊎◌, ◌∙◌, ◌==◌, ◌||◌, ◌&&◌, not, inl, inr, refl}
+use Rattle.std.proofs.Common.{sym, ap, subst, arith, if◌then◌else◌, ℕ, zero, suc, ◌+◌, Bool, true}
+use Rattle.std.proofs.Common.{false, List, [], ◌∷◌, ◌++◌, length, length-append, take, Option, None}
+use Rattle.std.proofs.Common.{Some, is_some, Result, Ok, Err, is_ok, slice_get, IsSome}
 use Rattle.std.proofs.lemmas.Bool.{cases_lt, eq-eqb, le-leb}
 use Rattle.std.proofs.lemmas.List.Elements.{All-append, All-cons, All-nil}
 use Rattle.std.proofs.lemmas.Option.{same_Some, slice_get_within}
-use Rattle.usb_port.specs.{parent_of, port_on_hub, IsPath, IsPortNumber, PortState}
-use Rattle.usb_port.specs.{has_bit}
+use Rattle.usb_port.specs.{parent_of, port_on_hub, IsPath, IsPortNumber, PortState, has_bit}
 use Rattle.usb_port.proofs.Interface.{parent, rejoined}
-use Rattle.usb_device.specs.{change_bits, hub_ports, State, Spec, Ports, full, place, reach}
-use Rattle.usb_device.specs.{row_of, port_there, state_there}
+use Rattle.usb_device.specs.{change_bits, hub_ports, State, Spec, Ports, full, place, reach, row_of}
+use Rattle.usb_device.specs.{port_there, state_there}
 use Rattle.usb_tree.specs.{is_way}
 use Rattle.usb_world.specs.{row_reached, Consistent, at_attempt}
 use Rattle.usb_world.proofs.Interface.{course_taken, ports_counted, ready_taken, stands, way_parent}

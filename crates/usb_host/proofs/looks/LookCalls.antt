@@ -1,13 +1,12 @@
 -- What a look reports, and what it leaves.
-use Rattle.std.proofs.Common.{◌≡◌, ◌≢◌, ◌∙◌, inl, inr, ap, arith, refl, sym, ℕ, List, Bool}
-use Rattle.std.proofs.Common.{true, false, Result, Ok, Err}
+use Rattle.std.proofs.Common.{◌≡◌, ◌≢◌, ◌∙◌, inl, inr, ap, arith, refl, sym, ℕ, List, Bool, true}
+use Rattle.std.proofs.Common.{false, Result, Ok, Err}
 use Rattle.usb_world.specs.{PlanData}
 use Rattle.usb_table.specs.{NoPort}
-use Rattle.usb_host.specs.{Affords, Bus, CutAt, HostFault, HostState, HostWorks}
-use Rattle.usb_host.specs.{Look, LookCosts, LookDid, LookKeeps, LookMade, LookTells}
-use Rattle.usb_host.specs.{LooksOver, StopsAsLook}
-use Rattle.usb_host.specs.{PartFaultAllowed, ReportsPort, StandsNowhere, StaysOwned}
-use Rattle.usb_host.specs.{StaysSingle, Weights, handling_bound, handling_most, is_final, look_cost}
+use Rattle.usb_host.specs.{Affords, Bus, CutAt, HostFault, HostState, HostWorks, Look, LookCosts}
+use Rattle.usb_host.specs.{LookDid, LookKeeps, LookMade, LookTells, LooksOver, StopsAsLook}
+use Rattle.usb_host.specs.{PartFaultAllowed, ReportsPort, StandsNowhere, StaysOwned, StaysSingle}
+use Rattle.usb_host.specs.{Weights, handling_bound, handling_most, is_final, look_cost}
 use Rattle.usb_host.specs.declared.fault.HostFault.TheVariants.{Stopped, Transfer, Memory}
 use Rattle.usb_host.proofs.StepSums.{host_goes_none}
 use Rattle.usb_host.proofs.devices.Owners.{stays_owned_none}

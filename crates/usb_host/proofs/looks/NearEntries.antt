@@ -1,6 +1,6 @@
 -- Which entries change where a port is handled.
-use Rattle.std.proofs.Common.{◌≡◌, ◌∙◌, inl, inr, ap, refl, sym, ℕ, List, Bool, true, false}
-use Rattle.std.proofs.Common.{Some, Result, Ok, Err}
+use Rattle.std.proofs.Common.{◌≡◌, ◌∙◌, inl, inr, ap, refl, sym, ℕ, List, Bool, true, false, Some}
+use Rattle.std.proofs.Common.{Result, Ok, Err}
 use Rattle.std.specs.BTreeMap.{insert_entry}
 use Rattle.usb_port.specs.{parent_of, path_cmp}
 use Rattle.usb_tree.specs.{is_way}
@@ -13,7 +13,7 @@ use Rattle.usb_host.specs.{Bus, ChangesNear, DropsNear, EntriesStay, Entered, Ho
 use Rattle.usb_host.specs.{PartFaultAllowed, is_final, is_last_fault}
 use Rattle.usb_host.specs.declared.fault.HostFault.TheVariants.{Stopped, Transfer, Memory}
 use Rattle.usb_host.proofs.entries.Agreements.{lookup-insert_entry_elsewhere}
-use Rattle.usb_host.proofs.entries.EntryClaims.{lookup-insert_entry_here}
+use Rattle.usb_host.proofs.entries.Balances.{lookup-insert_entry_here}
 use Rattle.usb_host.proofs.knowledge.Places.{finding-kept, untied}
 
 -- Elsewhere entries stay

@@ -3,13 +3,12 @@ use Rattle.std.proofs.Common.{arith, inr, refl, List, ℕ, Result, Ok, Err, IsEr
 use Rattle.usb_enum.specs.{EnumFault}
 use Rattle.usb_table.specs.{KnownPort}
 use Rattle.usb_host.specs.{CutAt, EndsAs, FinishesAt, HostFault, HostInvariant, HostProgress}
-use Rattle.usb_host.specs.{HostState}
-use Rattle.usb_host.specs.{LookedThere, LooksAt, LooksOnceMore, LooksOver, Round, StandsAt, Waits}
-use Rattle.usb_host.specs.{Worked}
+use Rattle.usb_host.specs.{HostState, LookedThere, LooksAt, LooksOnceMore, LooksOver, Round}
+use Rattle.usb_host.specs.{StandsAt, Waits, Worked}
 use Rattle.usb_host.proofs.HostProgress.{handled}
 use Rattle.usb_host.proofs.PortServes.{done_by, look_finished}
 use Rattle.usb_host.proofs.RoundParts.{part-fails, part-wider}
-use Rattle.usb_host.proofs.looks.LookPayments.{look_over_pays}
+use Rattle.usb_host.proofs.payments.HandlingPayments.{look_over_pays}
 use Rattle.usb_host.proofs.payments.Payments.{is_err-if_ok}
 use Rattle.usb_host.proofs.services.CutPorts.{looked_left, on_errors, port_cut}
 use Rattle.usb_host.proofs.services.Services.{handled_once}
@@ -42,8 +41,7 @@ module _ {path : List ℕ} {port : KnownPort} {a b d : HostState} (s : StandsAt 
     cut = port_cut path served result a b d y.goes.went ends y.left
         (λ i. looked_left path served a b (x.looked i.owned)) x.sound.cut
         (λ i. y.drops.cut (x.sound.sound i));
-    pays = look_over_pays a b d s x.requested.goes.went y.goes.went served result ends
-        x.requested.told x y;
+    pays = look_over_pays s ends x y;
   }
 
 -- A device that waits

@@ -1,15 +1,12 @@
 -- A host that was just made.
 use Rattle.usb_bus.specs.{Traced}
-use Rattle.usb_enum.specs.{IsInOrder}
-use Rattle.usb_enum.specs.{HostOptions}
+use Rattle.usb_enum.specs.{IsInOrder, HostOptions}
 use Rattle.usb_enum.proofs.Interface.{traced_in_order}
 use Rattle.std.proofs.Common.{◌≡◌, ◌⊎◌, ◌∙◌, ◌<◌, inl, inr, refl, sym, ap, arith, zero, suc, ℕ}
-use Rattle.std.proofs.Common.{List, Option, None, ◌∷◌, Bool, true, []}
-use Rattle.std.proofs.Common.{false, length, nat_lt}
+use Rattle.std.proofs.Common.{List, Option, None, ◌∷◌, Bool, true, [], false, length, nat_lt}
 use Rattle.std.specs.FinSet as set
 use Rattle.std.proofs.lemmas.Bool.{lt-ltb}
-use Rattle.usb_port.specs.{parent_of, port_on_hub, PortState, powered_off, powered_on}
-use Rattle.usb_port.specs.{speed_of}
+use Rattle.usb_port.specs.{parent_of, port_on_hub, PortState, powered_off, powered_on, speed_of}
 use Rattle.usb_device.specs.{forgotten, Ports, ended, vacant, taken, row_of, reach, reach_at}
 use Rattle.usb_device.specs.{state_at, all_forgotten}
 use Rattle.usb_tree.specs.{has_power_at, IsSettled, pending_at}
@@ -17,9 +14,9 @@ use Rattle.usb_world.specs.{Consistent, World}
 use Rattle.usb_tree.proofs.Interface.{false_true}
 use Rattle.usb_resources.specs.{Addresses}
 use Rattle.usb_table.specs.{Table, empty}
-use Rattle.usb_host.specs.{DeviceNumbers, ReportedDevices, first_numbers}
-use Rattle.usb_host.specs.{BusCounts, HostState, no_counts, opening_host, repowered, HostMapHolds}
-use Rattle.usb_host.specs.{HostInvariant, PortsListed}
+use Rattle.usb_host.specs.{DeviceNumbers, ReportedDevices, first_numbers, BusCounts, HostState}
+use Rattle.usb_host.specs.{no_counts, opening_host, repowered, HostMapHolds, HostInvariant}
+use Rattle.usb_host.specs.{PortsListed}
 use Rattle.usb_host.proofs.entries.Roots.{rooted_opening}
 
 abbrev going : World → Option (List ℕ) → BusCounts → Table → Addresses → DeviceNumbers

@@ -1,6 +1,6 @@
 -- What the clearing of a port's changes pays of what is left to do.
-use Rattle.std.proofs.Common.{◌≡◌, inl, inr, ℕ, suc, true, false, List, ◌∷◌, Option, None}
-use Rattle.std.proofs.Common.{Some, is_some, option_map, refl, ap, sym, ◌∙◌, arith}
+use Rattle.std.proofs.Common.{◌≡◌, inl, inr, ℕ, suc, true, false, List, ◌∷◌, Option, None, Some}
+use Rattle.std.proofs.Common.{is_some, option_map, refl, ap, sym, ◌∙◌, arith}
 use Rattle.std.proofs.lemmas.Option.{same_Some}
 use Rattle.usb_port.specs.{PortState, is_attached, PortStatus, PortCall, ClearConnectionChange}
 use Rattle.usb_port.specs.{ClearResetChange, is_reset}

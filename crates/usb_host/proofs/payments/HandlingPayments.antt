@@ -1,27 +1,28 @@
--- What was left to do pays for the handling of a port.
+-- What was left to do pays for the handling of a port, and what a look costs where nothing was
+-- reported.
 use Rattle.std.proofs.Common.{◌≡◌, ◌≤◌, ◌⊎◌, ◌∙◌, inl, inr, refl, ap, subst, arith, ℕ, ◌+◌, ◌*◌}
 use Rattle.std.proofs.Common.{false, List, [], ◌∷◌, ◌++◌, Option, None, Some, Result, Ok, Err}
-use Rattle.std.proofs.Common.{IsErr, IsSome, IsSomeAnd, OnOk, IfErr, IfOk, is_some, length}
+use Rattle.std.proofs.Common.{IsErr, IsSome, IsSomeAnd, OnOk, IfOk, is_some, length}
 use Rattle.std.proofs.Math.Nat.{mul-le-mul_left}
 use Rattle.usb_port.specs.{parent_of, port_on_hub, IsPath}
 use Rattle.usb_tree.specs.{is_way}
 use Rattle.usb_world.specs.{AtPorts, PlanData}
 use Rattle.usb_world.proofs.Interface.{way_shorter}
-use Rattle.usb_backlog.specs.{KeepsAll, KeepsBy, unmarked, KeepsPlain, PaysBare, PaysLook}
-use Rattle.usb_backlog.proofs.Interface.{few-none}
-use Rattle.usb_enum.specs.{FaultAllowedAt, EnumFault, ParentLost}
-use Rattle.usb_enum.proofs.Interface.{went_sound}
+use Rattle.usb_backlog.specs.{KeepsAll, KeepsBy, unmarked, KeepsPlain, PaysBare, PaysLook, OwesAnew}
+use Rattle.usb_backlog.specs.{devices_in, looks_by, strays_by}
+use Rattle.usb_backlog.proofs.Interface.{few-none, devices_in-plan}
+use Rattle.usb_enum.specs.{EnumFault, ParentLost}
 use Rattle.usb_table.specs.{KnownPort, Entries, without, is_below_hub, known_port, port_below}
 use Rattle.usb_table.specs.{finding_at, hub_facts_at, hub_facts_in}
 use Rattle.usb_table.proofs.Interface.{FoundPort, port_found-some}
-use Rattle.usb_host.specs.{below_known, below_unknown}
-use Rattle.usb_host.specs.{FindsNone, ServePaid, hubs, found, bare, tidied, calm, deciding_bound}
-use Rattle.usb_host.specs.{drop_bound, serving_bound, NumberPaid, Pays, PaysPart, PortPaid, Weights}
-use Rattle.usb_host.specs.{WorksOn, handling_most, hub_weight, paid, idle, HostState, ServesSound}
-use Rattle.usb_host.specs.{EndsAs, StandsAt, HostSteps, FinishesAt, HandlesBelow, HandlesNumber}
-use Rattle.usb_host.specs.{CutAt, HandlesPort, HasHub, HostInvariant, ServesPort, StaysOrForgets}
-use Rattle.usb_host.specs.{port_known}
-use Rattle.usb_host.specs.{port_unknown, HostFault, Round, Worked, Quiet}
+use Rattle.usb_host.specs.{below_known, below_unknown, FindsNone, ServePaid, hubs, found, bare}
+use Rattle.usb_host.specs.{tidied, calm, deciding_bound, NumberPaid, Pays, PaysPart, PortPaid}
+use Rattle.usb_host.specs.{Weights, WorksOn, handling_most, hub_weight, paid, idle, HostState}
+use Rattle.usb_host.specs.{EndsAs, StandsAt, FinishesAt, HandlesBelow, HandlesNumber, CutAt}
+use Rattle.usb_host.specs.{HandlesPort, HasHub, HostInvariant, ServesPort, StaysOrForgets}
+use Rattle.usb_host.specs.{port_known, port_unknown, HostFault, Round, Worked, Quiet, Costs}
+use Rattle.usb_host.specs.{LooksAt, PaysLookOver, look_cost}
+use Rattle.usb_host.proofs.StepSums.{went_before}
 use Rattle.usb_host.proofs.ParentPaths.{parent_length}
 use Rattle.usb_host.proofs.RoundParts.{part-fails, part-none, part-wider}
 use Rattle.usb_host.proofs.payments.Payments.{few_stop, looks_pay, is_err-if_ok, pays_part_failed}
@@ -29,7 +30,8 @@ use Rattle.usb_host.proofs.payments.Payments.{plain_costs, plain_pays, works_on-
 use Rattle.usb_host.proofs.payments.Payments.{works_on-ports}
 use Rattle.usb_host.proofs.knowledge.Places.{finding-kept}
 use Rattle.usb_host.proofs.PortLocations.{lost_above}
-use Rattle.usb_host.proofs.services.CutPorts.{on_errors}
+use Rattle.usb_host.proofs.services.CutPorts.{on_errors, looked_left}
+use Rattle.usb_host.proofs.payments.Ledgers.{sums_anew}
 
 -- The hub of a port
 
@@ -132,9 +134,7 @@ module _ (c : Weights) (path : List ℕ) (a b : HostState) (few : b.world.attemp
 
 -- A port was handled
 
-module _ {path : List ℕ} {port : KnownPort} (a b d : HostState) (s : StandsAt path port a)
-    (first : HostSteps serving_bound a b)
-    (second : HostSteps drop_bound b d) where
+module _ {path : List ℕ} {port : KnownPort} {a b : HostState} (s : StandsAt path port a) where
   few_served : (c : Weights) {plan : PlanData} {served : Result (Unit {0}) EnumFault}
       → ServesPort path port a served b → WorksOn c plan a
       → b.world.attempts ≤ a.world.attempts + (257200 + 100 * c.most)
@@ -143,44 +143,45 @@ module _ {path : List ℕ} {port : KnownPort} (a b d : HostState) (s : StandsAt 
     x.pays.few w.sound c.most (λ still. works_on-plan c plan a w),
   )
 
-  module _ (c : Weights) (plan : PlanData) (w : WorksOn c plan a)
-      (still : d.world.fault ≡ None) where
-    here : b.world.fault ≡ None
-    here = went_sound drop_bound b.world d.world second still
+  done_pays : {d : HostState} (c : Weights) (plan : PlanData) → WorksOn c plan a
+      → d.world.fault ≡ None
+      → (served : Result (Unit {0}) EnumFault) (result : Result (Unit {0}) HostFault)
+      → EndsAs served result → ServesPort path port a served b
+      → FinishesAt path served b result d → IfOk result (λ done. PortPaid c path a d)
+  done_pays c plan w still (Ok done) (Ok x) ends serves finishes =
+      rw finishes.left (port_paid c path a b (few_served c serves w)
+      serves.requested.goes.went.spends.onward serves.hubs
+      (serves.pays.pays w.sound (works_on-ports w)
+      (went_before finishes.goes.went still)))
+  done_pays {d = d} c plan w still (Err ParentLost) (Ok x) ends serves finishes =
+      let first = serves.requested.goes.went in
+      let here = went_before finishes.goes.went still in
+      let has : HasHub path a.entries =
+      has_by path a.entries port (parent_of path) s.known
+      (lost_above path a.entries b.world serves.requested.told (parent_of path) refl s.known) in
+      paid
+      (lost_paid c path a b (few_served c serves w) first.spends.onward serves.hubs d
+      (serves.pays.pays w.sound (works_on-ports w) here) (ports_after plan a b first w here)
+      (finishes.drops.backlog (serves.sound.sound w.sound) still)
+      (omega (arith, finishes.goes.went.spends.most))
+      (finishes.fewer refl (has_hub path a.entries b.entries (serves.served w.sound) has)))
+  done_pays c plan w still (Ok done) (Err other) ends serves finishes = tt
+  done_pays c plan w still (Err fault) (Err other) ends serves finishes = tt
+  done_pays c plan w still _ (Ok x) ends serves finishes = absurd (cc ends)
 
-    done_pays : (served : Result (Unit {0}) EnumFault) (result : Result (Unit {0}) HostFault)
-        → EndsAs served result → IfErr served (λ fault. FaultAllowedAt port.port fault b.world)
-        → ServesSound path a served b → ServesPort path port a served b
-        → FinishesAt path served b result d → AtPorts b.world.left
-        → IfOk result (λ done. PortPaid c path a d)
-    done_pays (Ok done) (Ok x) ends told sound serves finishes ports =
-        rw finishes.left (port_paid c path a b (few_served c serves w) first.spends.onward
-        serves.hubs (serves.pays.pays w.sound (works_on-ports w) here))
-    done_pays (Err ParentLost) (Ok x) ends told sound serves finishes ports =
-        let has : HasHub path a.entries =
-        has_by path a.entries port (parent_of path) s.known
-        (lost_above path a.entries b.world told (parent_of path) refl s.known) in
-        paid
-        (lost_paid c path a b (few_served c serves w) first.spends.onward serves.hubs d
-        (serves.pays.pays w.sound (works_on-ports w) here) ports
-        (finishes.drops.backlog (sound.sound w.sound) still) (omega (arith, second.spends.most))
-        (finishes.fewer refl (has_hub path a.entries b.entries (serves.served w.sound) has)))
-    done_pays (Ok done) (Err other) ends told sound serves finishes ports = tt
-    done_pays (Err fault) (Err other) ends told sound serves finishes ports = tt
-    done_pays _ (Ok x) ends told sound serves finishes ports = absurd (cc ends)
-
-  pub handling_pays : (served : Result (Unit {0}) EnumFault) (result : Result (Unit {0}) HostFault)
-      → EndsAs served result → IfErr served (λ fault. FaultAllowedAt port.port fault b.world)
-      → ServesSound path a served
-      b → ServesPort path port a served b → FinishesAt path served b result d
+  pub handling_pays : {served : Result (Unit {0}) EnumFault}
+      {result : Result (Unit {0}) HostFault} {d : HostState} → EndsAs served result
+      → ServesPort path port a served b → FinishesAt path served b result d
       → PaysPart handling_most (λ c done. PortPaid c path) a result d
-  handling_pays served result ends told sound serves finishes = record {
-    stops = λ c plan w. few_stop c (handling_most c) a d
-        (omega (arith, few_served c serves w, second.spends.most))
-        (omega (arith, first.spends.onward, second.spends.onward));
-    pays = λ c plan w still. done_pays c plan w still served result ends told sound serves finishes
-        (ports_after plan a b first w (went_sound drop_bound b.world d.world second still));
-  }
+  handling_pays {served = served} {result = result} {d = d} ends serves finishes =
+      let first = serves.requested.goes.went in
+      let second = finishes.goes.went in
+      record {
+        stops = λ c plan w. few_stop c (handling_most c) a d
+            (omega (arith, few_served c serves w, second.spends.most))
+            (omega (arith, first.spends.onward, second.spends.onward));
+        pays = λ c plan w still. done_pays c plan w still served result ends serves finishes;
+      }
 
 -- A port of a hub
 
@@ -239,3 +240,74 @@ pub hubs_dropped : (result : Result (Unit {0}) HostFault) (hub : List ℕ) (a b 
     → IsSome (hub_facts_at hub a.entries) → OnOk result (hubs b.entries + 1 ≤ hubs a.entries)
 hubs_dropped (Ok done) hub a b fewer some = fewer some
 hubs_dropped (Err fault) hub a b fewer some = tt
+
+-- Where nothing was reported
+
+-- a look is owed again for each device, of which there are no more than events
+pub anew_costs : (c : Weights) (plan : PlanData) (a d : HostState) → WorksOn c plan a
+    → OwesAnew a.world d.world → d.world.attempts ≤ a.world.attempts + handling_most c
+    → hubs d.entries ≤ hubs a.entries + 1 → a.world.taken ≤ d.world.taken
+    → Costs c (look_cost c plan) a d
+anew_costs c plan a d w x few more on =
+    sums_anew c.most c.polls (handling_most c) (devices_in a.world.roots) (length plan.events)
+    a.world.attempts d.world.attempts (looks_by unmarked a.world.roots)
+    (looks_by unmarked d.world.roots) (strays_by unmarked unmarked a.world.roots)
+    (strays_by unmarked unmarked d.world.roots) (hubs a.entries) (hubs d.entries) a.world.taken
+    d.world.taken few x.looks (devices_in-plan plan a.world w.course) x.strays more on
+
+-- and then the hub was dropped
+anew_then : (a b d : HostState) → AtPorts b.world.left → OwesAnew a.world b.world
+    → KeepsAll b.world d.world → OwesAnew a.world d.world
+anew_then a b d ports x keeps =
+    let all : KeepsBy unmarked unmarked unmarked b.world d.world =
+    keeps.all ports unmarked unmarked unmarked few-none in
+    record {
+      looks = omega (arith, x.looks, all.looks);
+      strays = omega (arith, x.strays, all.strays);
+    }
+
+module _ {path : List ℕ} {port : KnownPort} {a b d : HostState} (s : StandsAt path port a) where
+  few_over : (c : Weights) {plan : PlanData} {served : Result (Unit {0}) EnumFault}
+      {result : Result (Unit {0}) HostFault} → WorksOn c plan a → LooksAt path port a served b
+      → FinishesAt path served b result d
+      → d.world.attempts ≤ a.world.attempts + handling_most c
+  few_over c {plan = plan} w x y = omega (
+    arith,
+    x.pays.few w.sound c.most (λ still. works_on-plan c plan a w),
+    y.goes.went.spends.most,
+  )
+
+  over_costs : (c : Weights) (plan : PlanData) → WorksOn c plan a → d.world.fault ≡ None
+      → (served : Result (Unit {0}) EnumFault) (result : Result (Unit {0}) HostFault)
+      → EndsAs served result → LooksAt path port a served b → FinishesAt path served b result d
+      → OnOk result (Costs c (look_cost c plan) a d)
+  over_costs c plan w still (Ok done) (Ok tt) ends x y =
+      let here = went_before y.goes.went still in
+      rw y.left (anew_costs c plan a b w (x.pays.anew w.sound (works_on-ports w) tt here)
+      (rw y.left at (few_over c w x y)) x.hubs x.requested.goes.went.spends.onward)
+  over_costs c plan w still (Err ParentLost) (Ok tt) ends x y =
+      let first = x.requested.goes.went in
+      let here = went_before y.goes.went still in
+      let has : HasHub path a.entries = has_by path a.entries port (parent_of path) s.known
+      (lost_above path a.entries b.world x.requested.told (parent_of path) refl s.known) in
+      let gone : StaysOrForgets path a.entries b.entries =
+      looked_left path (Err ParentLost) a b (x.looked w.sound.owned) in
+      let fewer = y.fewer refl (has_hub path a.entries b.entries gone has) in
+      anew_costs c plan a d w
+      (anew_then a b d (ports_after plan a b first w here)
+      (x.pays.anew w.sound (works_on-ports w) tt here)
+      (y.drops.backlog (x.sound.sound w.sound) still))
+      (few_over c w x y) (omega (arith, fewer, x.hubs))
+      (omega (arith, first.spends.onward, y.goes.went.spends.onward))
+  over_costs c plan w still (Ok done) (Err other) ends x y = tt
+  over_costs c plan w still (Err fault) (Err other) ends x y = tt
+  over_costs c plan w still _ (Ok tt) ends x y = absurd (cc ends)
+
+  pub look_over_pays : {served : Result (Unit {0}) EnumFault} {result : Result (Unit {0}) HostFault}
+      → EndsAs served result → LooksAt path port a served b → FinishesAt path served b result d
+      → PaysLookOver a result d
+  look_over_pays {served = served} {result = result} ends x y = record {
+    stops = λ c plan w. few_stop c (handling_most c) a d (few_over c w x y)
+        (omega (arith, x.requested.goes.went.spends.onward, y.goes.went.spends.onward));
+    pays = λ c plan w still. over_costs c plan w still served result ends x y;
+  }

@@ -9,9 +9,9 @@ use Rattle.usb_world.proofs.Interface.{course_joined, events_went}
 use Rattle.usb_backlog.specs.{looks_by, strays_by, unmarked}
 use Rattle.usb_enum.specs.{HasPlanWithin}
 use Rattle.usb_enum.proofs.Interface.{traced_faulted, went_course}
-use Rattle.usb_host.specs.{hubs, Costs, Pays, PaysPart, StopsWithin, Weights, WorksOn, event_weight}
-use Rattle.usb_host.specs.{hub_weight, look_weight, stray_weight, HostState, HostSteps}
-use Rattle.usb_host.specs.{HostInvariant, HostFault}
+use Rattle.usb_host.specs.{Part, hubs, Costs, Pays, PaysPart, StopsWithin, Weights, WorksOn}
+use Rattle.usb_host.specs.{event_weight, hub_weight, look_weight, stray_weight, HostState}
+use Rattle.usb_host.specs.{HostSteps, HostInvariant, HostFault}
 use Rattle.usb_host.proofs.payments.Ledgers.{sums_costs, sums_look, sums_plain}
 
 -- A host at work on a plan
@@ -50,6 +50,10 @@ works_on {n = n} {a = a} {b = b} went x sound work = record {
   within = x.within;
   polls = x.polls;
 }
+
+pub part_works : {A : Type 0} {n : ℕ} {x : A} {c : Weights} {plan : PlanData} {a b : HostState}
+    → Part n a (Ok x) b → WorksOn c plan a → b.world.fault ≡ None → WorksOn c plan b
+part_works part w still = works_on part.goes.went w (part.sound.sound.sound w.sound) still
 
 -- What is paid
 

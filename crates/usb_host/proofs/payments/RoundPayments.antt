@@ -2,16 +2,16 @@
 use Rattle.std.proofs.Common.{◌≡◌, refl, sym, subst, arith, ℕ, Bool, List, None, Result, Ok, Err}
 use Rattle.std.proofs.Common.{IfOk, IsErr, OnOk}
 use Rattle.usb_world.specs.{PlanData}
-use Rattle.usb_enum.proofs.Interface.{went_sound}
-use Rattle.usb_host.specs.{Affords, Costs, PaysPart, PaysRound, RootsPaid, RoundPaid, Stops}
-use Rattle.usb_host.specs.{StopsWithin, Weights, event_weight, handling_most, hubs_most, HostState}
-use Rattle.usb_host.specs.{HasPlugs, Waits, HostSteps, either, LooksKeep, NoneWait, PartStays}
-use Rattle.usb_host.specs.{HostFault, Round, Worked, Quiet}
+use Rattle.usb_host.specs.{ServesEach, ServesHubs, Affords, Costs, PaysRound, RootsPaid, RoundPaid}
+use Rattle.usb_host.specs.{Stops, StopsWithin, Weights, event_weight, handling_most, hubs_most}
+use Rattle.usb_host.specs.{HostState, HasPlugs, Waits, HostSteps, either, LooksKeep, NoneWait}
+use Rattle.usb_host.specs.{PartStays, HostFault, Round, Worked, Quiet}
+use Rattle.usb_host.proofs.StepSums.{went_before}
 use Rattle.usb_host.proofs.rests.RestingRounds.{done}
 use Rattle.usb_host.proofs.entries.Roots.{on_failed}
 use Rattle.usb_host.proofs.payments.Payments.{costs_none, few_stop, is_err-if_ok, pays_costs}
 use Rattle.usb_host.proofs.payments.Payments.{pays_none, pays_then, stops_after, stops_more}
-use Rattle.usb_host.proofs.payments.Payments.{works_on}
+use Rattle.usb_host.proofs.payments.Payments.{part_works, works_on}
 
 pub affords_on : {n : ℕ} {c : Weights} (plan : PlanData) {a b : HostState} → HostSteps n a b
     → PartStays a b → Affords c plan a → b.world.fault ≡ None → Affords c plan b
@@ -28,118 +28,116 @@ none_wait c h x = x.plugs.none_waits x.few
 pub one_waits : {a b : HostState} {path : List ℕ} → b ≡ a → Waits path b → NoneWait a.entries → ⊥
 one_waits {path = path} same waits none = none path (rw same at waits.entry)
 
--- the root ports failed
-pub roots_fail : (c : Weights) (plan : PlanData) (a b : HostState) {inner : Result Round HostFault}
-    (result : Result Round HostFault) → IsErr result
-    → PaysPart handling_most RootsPaid a inner b → Affords c plan a → PaysRound c plan a result b
-roots_fail c plan a b result e x w = record {
-  most = stops_more c a b (handling_most c) (event_weight c) (x.stops c plan w.works) (omega arith);
-  pays = λ still. is_err-if_ok result (λ round. RoundPaid c round a b) e;
-  plugs = on_failed result (b.world.fault ≡ None → HasPlugs plan.events b) e;
+-- a part failed
+failed_pays : {c : Weights} {plan : PlanData} {a b : HostState} (other : Result Round HostFault)
+    → IsErr other → Stops c a b → PaysRound c plan a other b
+failed_pays {c = c} {plan = plan} {a = a} {b = b} other e stops = record {
+  most = stops;
+  pays = λ still. is_err-if_ok other (λ round. RoundPaid c round a b) e;
+  plugs = on_failed other (b.world.fault ≡ None → HasPlugs plan.events b) e;
 }
 
-module _ {m : ℕ} {roots : Round} (a b : HostState) (first : HostSteps m a b) (stays : PartStays a b)
-    (x : PaysPart handling_most RootsPaid a (Ok roots) b) where
+module _ {result : Result Round HostFault} {a b : HostState} (x : ServesEach a result b) where
+  roots_stop : (c : Weights) (plan : PlanData) → Affords c plan a → Stops c a b
+  roots_stop c plan w = stops_more c a b (handling_most c) (event_weight c)
+      (x.pays.stops c plan w.works) (omega arith)
+
+  -- the root ports failed
+  pub roots_fail : {other : Result Round HostFault} → IsErr other → (c : Weights) (plan : PlanData)
+      → Affords c plan a → PaysRound c plan a other b
+  roots_fail {other = other} e c plan w = failed_pays other e (roots_stop c plan w)
+
+module _ {roots : Round} {a b : HostState} (x : ServesEach a (Ok roots) b) where
   roots_cost : (c : Weights) (plan : PlanData) → Affords c plan a → b.world.fault ≡ None
       → Costs c 0 a b
-  roots_cost c plan w still = pick roots (x.pays c plan w.works still)
+  roots_cost c plan w still = pick roots (x.pays.pays c plan w.works still)
     where
       pick : (roots : Round) → RootsPaid c roots a b → Costs c 0 a b
       pick Worked y = pays_none c a b c.polls 0 y
       pick Quiet y = rw y (costs_none c 0 a)
 
-  module _ {n : ℕ} (d : HostState) (second : HostSteps n b d) where
-    hubs_stop : (c : Weights) (plan : PlanData) {result : Result Round HostFault}
-        → PaysPart hubs_most RoundPaid b result d → Affords c plan a → Stops c a d
-    hubs_stop c plan y w =
-        stops_after c a b d 0 (hubs_most c) (event_weight c) second
-        (stops_more c a b (handling_most c) (event_weight c) (x.stops c plan w.works) (omega arith))
-        (roots_cost c plan w)
-        (λ still. y.stops c plan (works_on first w.works (stays.sound.sound w.works.sound) still))
-        (omega arith)
+  module _ {result : Result Round HostFault} {d : HostState} (y : ServesHubs b result d) where
+    hubs_stop : (c : Weights) (plan : PlanData) → Affords c plan a → Stops c a d
+    hubs_stop c plan w =
+        stops_after c a b d 0 (hubs_most c) (event_weight c) y.keeps.part.goes.went
+        (roots_stop x c plan w) (roots_cost c plan w)
+        (λ still. y.pays.stops c plan (part_works x.part w.works still)) (omega arith)
 
     -- the hubs failed
-    pub hubs_fail : (c : Weights) (plan : PlanData) {inner : Result Round HostFault}
-        (result : Result Round HostFault) → IsErr result
-        → PaysPart hubs_most RoundPaid b inner d → Affords c plan a → PaysRound c plan a result d
-    hubs_fail c plan result e y w = record {
-      most = hubs_stop c plan y w;
-      pays = λ still. is_err-if_ok result (λ round. RoundPaid c round a d) e;
-      plugs = on_failed result (d.world.fault ≡ None → HasPlugs plan.events d) e;
+    pub hubs_fail : {other : Result Round HostFault} → IsErr other → (c : Weights)
+        (plan : PlanData) → Affords c plan a → PaysRound c plan a other d
+    hubs_fail {other = other} e c plan w = failed_pays other e (hubs_stop c plan w)
+
+  module _ {hubs : Round} {d : HostState} (y : ServesHubs b (Ok hubs) d) where
+    before : d.world.fault ≡ None → b.world.fault ≡ None
+    before = went_before y.keeps.part.goes.went
+
+    both_paid : (c : Weights) (roots : Round) (hubs : Round) → RootsPaid c roots a b
+        → RoundPaid c hubs b d → RoundPaid c (either roots hubs) a d
+    both_paid c Worked Worked p q = pays_then c a b d c.polls 0 0 p q (omega arith)
+    both_paid c Worked Quiet p q = pays_costs c a b d c.polls c.polls 0 p q (omega arith)
+    both_paid c Quiet hubs p q = rw p at q
+
+    all_paid : (c : Weights) (plan : PlanData) → Affords c plan a → d.world.fault ≡ None
+        → RoundPaid c (either roots hubs) a d
+    all_paid c plan w still =
+        both_paid c roots hubs (x.pays.pays c plan w.works (before still))
+        (y.pays.pays c plan (part_works x.part w.works (before still)) still)
+
+    hubs_cost : (c : Weights) (plan : PlanData) → Affords c plan a → d.world.fault ≡ None
+        → Costs c c.polls a d
+    hubs_cost c plan w still = pick (either roots hubs) (all_paid c plan w still)
+      where
+        pick : (round : Round) → RoundPaid c round a d → Costs c c.polls a d
+        pick Worked p = pays_none c a d 0 c.polls p
+        pick Quiet p = p
+
+    affords_then : (c : Weights) (plan : PlanData) → Affords c plan a → d.world.fault ≡ None
+        → Affords c plan d
+    affords_then c plan w still =
+        affords_on plan y.keeps.part.goes.went y.keeps.part.sound
+        (affords_on plan x.part.goes.went x.part.sound w (before still)) still
+
+    waits_none : (c : Weights) (plan : PlanData) → Affords c plan a → d.world.fault ≡ None
+        → NoneWait d.entries
+    waits_none c plan w still = none_wait c d (affords_then c plan w still)
+
+    module _ {result : Result Round HostFault} {e : HostState} (z : LooksKeep d result e) where
+      looks_stop : (c : Weights) (plan : PlanData) → Affords c plan a → Stops c a e
+      looks_stop c plan w =
+          stops_after c a d e c.polls 0 (event_weight c) z.part.goes.went (hubs_stop y c plan w)
+          (hubs_cost c plan w)
+          (λ still. subst (λ (h : HostState). StopsWithin c 0 d h)
+          (sym (z.idle (waits_none c plan w still)).1)
+          (few_stop c 0 d d (omega arith) (omega arith))) (omega arith)
+
+      -- the second looks failed
+      pub looks_fail : {other : Result Round HostFault} → IsErr other → (c : Weights)
+          (plan : PlanData) → Affords c plan a → PaysRound c plan a other e
+      looks_fail {other = other} f c plan w = failed_pays other f (looks_stop c plan w)
+
+    -- all was done
+    pub parts_pay : {looks : Round} {e : HostState} → LooksKeep d (Ok looks) e → (c : Weights)
+        (plan : PlanData) → Affords c plan a
+        → PaysRound c plan a (Ok (either (either roots hubs) looks)) e
+    parts_pay {looks = looks} {e = e} z c plan w = record {
+      most = looks_stop z c plan w;
+      pays = λ still.
+          let idle = z.idle (waits_none c plan w (here still)) in
+          let paid : RoundPaid c (either roots hubs) a e =
+          rw idle.1 (all_paid c plan w (here still)) in
+          rw (either_quiet (either roots hubs) looks idle.0) paid;
+      plugs = λ still.
+          rw (sym (z.idle (waits_none c plan w (here still))).1) at
+          (affords_then c plan w (here still)).plugs;
     }
+      where
+        here : e.world.fault ≡ None → d.world.fault ≡ None
+        here = went_before z.part.goes.went
 
-    module _ (hubs : Round) (next : PartStays b d)
-        (y : PaysPart hubs_most RoundPaid b (Ok hubs) d) where
-      both_paid : (c : Weights) (roots : Round) (hubs : Round) → RootsPaid c roots a b
-          → RoundPaid c hubs b d → RoundPaid c (either roots hubs) a d
-      both_paid c Worked Worked p q = pays_then c a b d c.polls 0 0 p q (omega arith)
-      both_paid c Worked Quiet p q = pays_costs c a b d c.polls c.polls 0 p q (omega arith)
-      both_paid c Quiet hubs p q = rw p at q
-
-      all_paid : (c : Weights) (plan : PlanData) → Affords c plan a → d.world.fault ≡ None
-          → RoundPaid c (either roots hubs) a d
-      all_paid c plan w still =
-          let here : b.world.fault ≡ None = went_sound n b.world d.world second still in
-          both_paid c roots hubs (x.pays c plan w.works here)
-          (y.pays c plan (works_on first w.works (stays.sound.sound w.works.sound) here) still)
-
-      hubs_cost : (c : Weights) (plan : PlanData) → Affords c plan a → d.world.fault ≡ None
-          → Costs c c.polls a d
-      hubs_cost c plan w still = pick (either roots hubs) (all_paid c plan w still)
-        where
-          pick : (round : Round) → RoundPaid c round a d → Costs c c.polls a d
-          pick Worked p = pays_none c a d 0 c.polls p
-          pick Quiet p = p
-
-      affords_then : (c : Weights) (plan : PlanData) → Affords c plan a → d.world.fault ≡ None
-          → Affords c plan d
-      affords_then c plan w still =
-          affords_on plan second next (affords_on plan first stays w
-          (went_sound n b.world d.world second still)) still
-
-      waits_none : (c : Weights) (plan : PlanData) → Affords c plan a → d.world.fault ≡ None
-          → NoneWait d.entries
-      waits_none c plan w still = none_wait c d (affords_then c plan w still)
-
-      module _ (k : ℕ) (e : HostState) (third : HostSteps k d e) where
-        looks_stop : (c : Weights) (plan : PlanData) (result : Result Round HostFault)
-            → LooksKeep d result e → Affords c plan a → Stops c a e
-        looks_stop c plan result z w =
-            stops_after c a d e c.polls 0 (event_weight c) third (hubs_stop c plan y w)
-            (hubs_cost c plan w)
-            (λ still. subst (λ (h : HostState). StopsWithin c 0 d h)
-            (sym (z.idle (waits_none c plan w still)).1)
-            (few_stop c 0 d d (omega arith) (omega arith))) (omega arith)
-
-        -- the second looks failed
-        pub looks_fail : (c : Weights) (plan : PlanData) (inner : Result Round HostFault)
-            (result : Result Round HostFault) → IsErr result
-            → LooksKeep d inner e → Affords c plan a → PaysRound c plan a result e
-        looks_fail c plan inner result f z w = record {
-          most = looks_stop c plan inner z w;
-          pays = λ still. is_err-if_ok result (λ round. RoundPaid c round a e) f;
-          plugs = on_failed result (e.world.fault ≡ None → HasPlugs plan.events e) f;
-        }
-
-        -- all was done
-        pub parts_pay : (c : Weights) (plan : PlanData) (looks : Round) → LooksKeep d (Ok looks) e
-            → Affords c plan a → PaysRound c plan a (Ok (either (either roots hubs) looks)) e
-        parts_pay c plan looks z w = record {
-          most = looks_stop c plan (Ok looks) z w;
-          pays = λ still.
-              let here : d.world.fault ≡ None = went_sound k d.world e.world third still in
-              let idle : _ = z.idle (waits_none c plan w here) in
-              let paid : RoundPaid c (either roots hubs) a e =
-              rw idle.1 (all_paid c plan w here) in
-              rw (either_quiet (either roots hubs) looks idle.0) paid;
-          plugs = λ still.
-              let here : d.world.fault ≡ None = went_sound k d.world e.world third still in
-              rw (sym (z.idle (waits_none c plan w here)).1) at (affords_then c plan w here).plugs;
-        }
-          where
-            either_quiet : (r s : Round) → done s ≡ done Quiet → either r s ≡ r
-            either_quiet Worked s is = refl
-            either_quiet Quiet s is = cc is
+        either_quiet : (r s : Round) → done s ≡ done Quiet → either r s ≡ r
+        either_quiet Worked s is = refl
+        either_quiet Quiet s is = cc is
 
 -- A whole round
 

@@ -10,14 +10,14 @@ use Rattle.usb_world.specs.{roots_of}
 use Rattle.usb_world.proofs.Interface.{course_bits, course_wider, same_device}
 use Rattle.usb_hub.specs.{PortStatusAt, TouchesNoPort}
 use Rattle.usb_hub.proofs.Interface.{row_port}
-use Rattle.usb_enum.proofs.Interface.{went_sound}
-use Rattle.usb_host.specs.{Costs, NumberPaid, Pays, PaysPart, PortPaid, RootsPaid, ShowsChange}
-use Rattle.usb_host.specs.{ShowsTold, StopsWithin, ToldPaid, Weights, WorksOn, debt, event_weight}
-use Rattle.usb_host.specs.{handling_most, told_most, paid, idle, HostState, HostSteps, PartStays}
-use Rattle.usb_host.specs.{HostFault, Round, Worked, Quiet}
+use Rattle.usb_host.specs.{Part, Costs, NumberPaid, Pays, PaysPart, PortPaid, RootsPaid}
+use Rattle.usb_host.specs.{ShowsChange, ShowsTold, StopsWithin, ToldPaid, Weights, WorksOn, debt}
+use Rattle.usb_host.specs.{event_weight, handling_most, told_most, paid, idle, HostState, HostFault}
+use Rattle.usb_host.specs.{Round, Worked, Quiet}
+use Rattle.usb_host.proofs.StepSums.{went_before}
 use Rattle.usb_host.proofs.payments.Payments.{costs_more, costs_none, costs_pays, costs_then}
 use Rattle.usb_host.proofs.payments.Payments.{few_stop, is_err-if_ok, pays_none, stops_after}
-use Rattle.usb_host.proofs.payments.Payments.{works_on}
+use Rattle.usb_host.proofs.payments.Payments.{part_works}
 
 -- A port that shows a change
 
@@ -92,49 +92,42 @@ root_shows w (suc i) least most on =
       changed = inl on;
     }
 
--- the root ports below a number were handled
-pub record RootsSoFar (round : Round) (a b : HostState) : Type 0 where
-  pub stops : (c : Weights) (plan : PlanData) → WorksOn c plan a
-      → StopsWithin c (handling_most c) a b
-  pub pays : (c : Weights) (plan : PlanData) → WorksOn c plan a → b.world.fault ≡ None
-      → RootsPaid c round a b
-
 roots_cost : (c : Weights) (round : Round) (a b : HostState) → RootsPaid c round a b → Costs c 0 a b
 roots_cost c Worked a b x = pays_none c a b c.polls 0 x
 roots_cost c Quiet a b x = rw x (costs_none c 0 a)
 
-module _ {m n : ℕ} {round : Round} (number : ℕ) (a b d : HostState) (first : HostSteps m a b)
-    (second : HostSteps n b d) (sound : PartStays a b)
-    (before : RootsSoFar round a b) where
-  roots_stop : {result : Result (Unit {0}) HostFault}
-      → PaysPart handling_most (λ c done. PortPaid c (number ∷ [])) b result d
-      → (c : Weights) (plan : PlanData) → WorksOn c plan a → StopsWithin c (handling_most c) a d
-  roots_stop x c plan w =
-      stops_after c a b d 0 (handling_most c) (handling_most c) second (before.stops c plan w)
-      (λ still. roots_cost c round a b (before.pays c plan w still))
-      (λ still. x.stops c plan (works_on first w (sound.sound.sound w.sound) still)) (omega arith)
+module _ {m n number : ℕ} {round : Round} {result : Result (Unit {0}) HostFault}
+    {a b d : HostState} (first : Part m a (Ok round) b) (second : Part n b result d)
+    (before : PaysPart handling_most RootsPaid a (Ok round) b)
+    (then : PaysPart handling_most (λ c done. PortPaid c (number ∷ [])) b result d) where
+  roots_stop : (c : Weights) (plan : PlanData) → WorksOn c plan a
+      → StopsWithin c (handling_most c) a d
+  roots_stop c plan w =
+      stops_after c a b d 0 (handling_most c) (handling_most c) second.goes.went
+      (before.stops c plan w) (λ still. roots_cost c round a b (before.pays c plan w still))
+      (λ still. then.stops c plan (part_works first w still)) (omega arith)
 
-  pub roots_failed : {A : Type 0} {result : Result (Unit {0}) HostFault}
-      → PaysPart handling_most (λ c done. PortPaid c (number ∷ [])) b result d
-      → (other : Result A HostFault) (Done : Weights → A → HostState → HostState → Type 0)
-      → IsErr other → PaysPart handling_most Done a other d
-  roots_failed x other Done e = record {
-    stops = roots_stop x;
+  pub roots_failed : {B : Type 0} {other : Result B HostFault}
+      {Done : Weights → B → HostState → HostState → Type 0} → IsErr other
+      → PaysPart handling_most Done a other d
+  roots_failed {other = other} {Done = Done} e = record {
+    stops = roots_stop;
     pays = λ c plan w still. is_err-if_ok other (λ y. Done c y a d) e;
   }
 
-  pub roots_next : {done : Unit {0}} → ShowsChange b.world (number ∷ [])
-      → PaysPart handling_most (λ c done. PortPaid c (number ∷ [])) b (Ok done) d
-      → RootsSoFar Worked a d
-  roots_next shows x = record {
-    stops = roots_stop x;
-    pays = λ c plan w still.
-        let here : b.world.fault ≡ None = went_sound n b.world d.world second still in
-        costs_pays c a b d 0 (c.polls + 28768) c.polls
-        (roots_cost c round a b (before.pays c plan w here))
-        (changed_paid b shows
-        (x.pays c plan (works_on first w (sound.sound.sound w.sound) here) still)) (omega arith);
-  }
+pub roots_next : {m n number : ℕ} {round : Round} {a b d : HostState}
+    → ShowsChange b.world (number ∷ []) → Part m a (Ok round) b
+    → Part {A = Unit {0}} n b (Ok tt) d → PaysPart handling_most RootsPaid a (Ok round) b
+    → PaysPart {A = Unit {0}} handling_most (λ c done. PortPaid c (number ∷ [])) b (Ok tt) d
+    → PaysPart handling_most RootsPaid a (Ok Worked) d
+roots_next {n = n} {round = round} {a = a} {b = b} {d = d} shows first second before then = record {
+  stops = roots_stop first second before then;
+  pays = λ c plan w still.
+      let here : b.world.fault ≡ None = went_before second.goes.went still in
+      costs_pays c a b d 0 (c.polls + 28768) c.polls
+      (roots_cost c round a b (before.pays c plan w here))
+      (changed_paid b shows (then.pays c plan (part_works first w here) still)) (omega arith);
+}
 
 -- Ports of which a hub told
 
@@ -198,52 +191,56 @@ first_paid c number Worked a b least most on x y = changed_paid a (x.shows numbe
 first_paid c number Quiet a b least most on x y = let known : _ =
     x.known number least most on in absurd (cc (known.1, y.1 known.0))
 
-module _ (m n : ℕ) (hub : List ℕ) (bits number : ℕ) (least : 1 ≤ number) (most : number ≤ 15)
-    (a b d : HostState) (first : HostSteps m a b) (second : HostSteps n b d) (sound : PartStays a b)
-    (before : ToldSoFar hub bits number a b)
-  where
-    told_stop : (result : Result Round HostFault)
-        → PaysPart handling_most (λ c. NumberPaid c hub number) b result d
-        → (c : Weights) (plan : PlanData) → WorksOn c plan a → StopsWithin c (told_most c) a d
-    told_stop result x c plan w =
-        stops_after c a b d (2000 * number) (handling_most c) (told_most c) second
-        (before.stops c plan w) (before.costs c plan w)
-        (λ still. x.stops c plan (works_on first w (sound.sound.sound w.sound) still)) (omega arith)
+module _ {m n : ℕ} {hub : List ℕ} {bits number : ℕ} (least : 1 ≤ number) (most : number ≤ 15)
+    {result : Result Round HostFault} {a b d : HostState} (first : Part {A = Unit {0}} m a (Ok tt)
+    b)
+    (second : Part n b result d) (before : ToldSoFar hub bits number a b)
+    (then : PaysPart handling_most (λ c. NumberPaid c hub number) b result d) where
+  told_stop : (c : Weights) (plan : PlanData) → WorksOn c plan a → StopsWithin c (told_most c) a d
+  told_stop c plan w =
+      stops_after c a b d (2000 * number) (handling_most c) (told_most c) second.goes.went
+      (before.stops c plan w) (before.costs c plan w)
+      (λ still. then.stops c plan (part_works first w still)) (omega arith)
 
-    pub told_failed : {A : Type 0} (result : Result Round HostFault)
-        → PaysPart handling_most (λ c. NumberPaid c hub number) b result d
-        → (other : Result A HostFault) (Done : Weights → A → HostState → HostState → Type 0)
-        → IsErr other → PaysPart told_most Done a other d
-    told_failed result x other Done e = record {
-      stops = told_stop result x;
-      pays = λ c plan w still. is_err-if_ok other (λ y. Done c y a d) e;
-    }
+  pub told_failed : {B : Type 0} {other : Result B HostFault}
+      {Done : Weights → B → HostState → HostState → Type 0} → IsErr other
+      → PaysPart told_most Done a other d
+  told_failed {other = other} {Done = Done} e = record {
+    stops = told_stop;
+    pays = λ c plan w still. is_err-if_ok other (λ y. Done c y a d) e;
+  }
 
-    pub told_next : (round : Round) → has_bit bits number ≡ true
-        → PaysPart handling_most (λ c. NumberPaid c hub number) b (Ok round) d
-        → ToldSoFar hub bits (number + 1) a d
-    told_next round on x = record {
-      stops = told_stop (Ok round) x;
+pub told_next : {m n : ℕ} {hub : List ℕ} {bits number : ℕ} {round : Round} {a b d : HostState}
+    → 1 ≤ number → number ≤ 15 → has_bit bits number ≡ true → Part {A = Unit {0}} m a (Ok tt) b
+    → Part n b (Ok round) d → ToldSoFar hub bits number a b
+    → PaysPart handling_most (λ c. NumberPaid c hub number) b (Ok round) d
+    → ToldSoFar hub bits (number + 1) a d
+told_next {n = n} {hub = hub} {bits = bits} {number = number} {round = round} {a = a} {b = b}
+    {d = d} least most on first second before then = record {
+      stops = told_stop least most first second before then;
       costs = λ c plan w still.
-          let here : b.world.fault ≡ None = went_sound n b.world d.world second still in
-          costs_then c a b d (2000 * number) 2000 (2000 * (number + 1)) (before.costs c plan w here)
-          (number_costs c hub number round b d
-          (x.pays c plan (works_on first w (sound.sound.sound w.sound) here) still)) (omega arith);
-      shown = λ c plan w still s.
-          let here : b.world.fault ≡ None = went_sound n b.world d.world second still in
-          let one : NumberPaid c hub number round b d =
-          x.pays c plan (works_on first w (sound.sound.sound w.sound) here) still in
-          inr (after c s one (before.shown c plan w here s));
+          costs_then c a b d (2000 * number) 2000 (2000 * (number + 1))
+          (before.costs c plan w (here still))
+          (number_costs c hub number round b d (one c plan w still)) (omega arith);
+      shown = λ c plan w still s. inr (after c s (one c plan w still)
+          (before.shown c plan w (here still) s));
     }
-      where
-        after : (c : Weights) → ShowsTold hub bits a → NumberPaid c hub number round b d
-            → NoneBelow bits number a b ⊎ LeftOver c number a b → LeftOver c (number + 1) a d
-        after c s one (inl y) =
-            let pays : Pays c (c.polls + 28768) a d =
-            first_paid c number round a d least most on s (rw y.same at one) in
-            omega (arith, pays)
-        after c s one (inr y) = let costs : Costs c 2000 b d =
-            number_costs c hub number round b d one in omega (arith, costs)
+  where
+    here : d.world.fault ≡ None → b.world.fault ≡ None
+    here still = went_before second.goes.went still
+
+    one : (c : Weights) (plan : PlanData) → WorksOn c plan a → d.world.fault ≡ None
+        → NumberPaid c hub number round b d
+    one c plan w still = then.pays c plan (part_works first w (here still)) still
+
+    after : (c : Weights) → ShowsTold hub bits a → NumberPaid c hub number round b d
+        → NoneBelow bits number a b ⊎ LeftOver c number a b → LeftOver c (number + 1) a d
+    after c s one (inl y) =
+        let pays : Pays c (c.polls + 28768) a d =
+        first_paid c number round a d least most on s (rw y.same at one) in
+        omega (arith, pays)
+    after c s one (inr y) = let costs : Costs c 2000 b d =
+        number_costs c hub number round b d one in omega (arith, costs)
 
 -- all of them were handled
 pub told_all : {hub : List ℕ} {bits : ℕ} {done : Unit {0}} (a b : HostState)

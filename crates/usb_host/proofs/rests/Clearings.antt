@@ -9,8 +9,8 @@ use Rattle.usb_port.specs.{ClearConnectionChange, called_port}
 use Rattle.usb_device.specs.{State, Ports, empty, full, port_of, called, place, port_there}
 use Rattle.usb_device.specs.{state_there, Place}
 use Rattle.usb_world.specs.{Attempt, step_keeps_pending, AsksNothing, UnchangedOrPending}
-use Rattle.usb_world.specs.{Consistent, Step, attempt, after}
-use Rattle.usb_world.specs.{with_attempt, at_attempt, Course, here, step, World}
+use Rattle.usb_world.specs.{Consistent, Step, attempt, after, with_attempt, at_attempt, Course}
+use Rattle.usb_world.specs.{here, step, World}
 use Rattle.usb_tree.specs.{has_power, pending, is_way}
 use Rattle.usb_world.proofs.Interface.{MadeOrNot, attempt_cases, course_wider, kept_course}
 use Rattle.usb_world.proofs.Interface.{made_pend, made_sound, pending_persists, rests_or_pends}

@@ -1,12 +1,12 @@
 -- A hub that is known, and answers a poll that it has nothing to tell, has no port that tells of a
 -- change of connection.
-use Rattle.std.proofs.Common.{◌≡◌, ◌≤◌, ◌&&◌, ◌||◌, ◌∙◌, if◌then◌else◌, ℕ, zero, suc}
-use Rattle.std.proofs.Common.{Bool, true, false, List, [], ◌∷◌, ◌++◌, Option, None, Some, is_some}
-use Rattle.std.proofs.Common.{Ok, refl, ap, sym, arith, inl, inr, IfSome}
+use Rattle.std.proofs.Common.{◌≡◌, ◌≤◌, ◌&&◌, ◌||◌, ◌∙◌, if◌then◌else◌, ℕ, zero, suc, Bool, true}
+use Rattle.std.proofs.Common.{false, List, [], ◌∷◌, ◌++◌, Option, None, Some, is_some, Ok, refl, ap}
+use Rattle.std.proofs.Common.{sym, arith, inl, inr, IfSome}
 use Rattle.std.proofs.lemmas.Bool.{eq-eqb}
 use Rattle.usb_port.specs.{PortState, has_change}
-use Rattle.usb_device.specs.{hub_ports, State, Spec, Hub, IsSpec, IsHub, reach, Location}
-use Rattle.usb_device.specs.{path_to, reach_on, state_on, port_there}
+use Rattle.usb_device.specs.{hub_ports, State, Spec, Hub, IsSpec, IsHub, reach, Location, path_to}
+use Rattle.usb_device.specs.{reach_on, state_on, port_there}
 use Rattle.usb_tree.specs.{address_of, pending, IsSettled, deep_at}
 use Rattle.usb_world.specs.{World, roots_of}
 use Rattle.usb_world.proofs.Interface.{sane_spec}
@@ -14,8 +14,7 @@ use Rattle.usb_tree.proofs.Interface.{and_of, neither, false_true}
 use Rattle.usb_transaction.specs.{Target, is_at as has_address, in_attempt, Waiting}
 use Rattle.usb_resources.specs.{Addresses, supply_of}
 use Rattle.usb_pipe.specs.{Interrupt}
-use Rattle.usb_enum.specs.{Accepted, Finding, HubFacts, facts_of, is_hub_device}
-use Rattle.usb_enum.specs.{IsKnownAs}
+use Rattle.usb_enum.specs.{Accepted, Finding, HubFacts, facts_of, is_hub_device, IsKnownAs}
 use Rattle.usb_enum.specs.{HostOptions}
 use Rattle.usb_enum.specs.declared.finding.Finding.TheVariants.{Device}
 use Rattle.usb_table.specs.{Pipes, Hub as HubPipe, Function, Absent, Entries, accepted_device_of}

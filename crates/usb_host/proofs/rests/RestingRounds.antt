@@ -16,9 +16,7 @@ use Rattle.usb_world.proofs.Interface.{course_joined, course_wider, pending_pers
 use Rattle.usb_tree.proofs.Interface.{false_true}
 use Rattle.usb_hub.specs.{TouchesNoPort}
 use Rattle.usb_hub.proofs.Interface.{row_port}
-use Rattle.usb_enum.proofs.Interface.{went_sound}
-use Rattle.usb_enum.specs.{NoAddress, Finding, HubFacts}
-use Rattle.usb_enum.specs.{HostOptions}
+use Rattle.usb_enum.specs.{NoAddress, Finding, HubFacts, HostOptions}
 use Rattle.usb_enum.specs.declared.finding.Finding.TheVariants.{Device, Refused}
 use Rattle.usb_table.specs.{Entries, is_hub, is_waiting, hub_facts_in, hub_facts_at, IsListedPort}
 use Rattle.usb_table.specs.{IsPortBelow, ListsEach, ComesAfter, Stands, IsNext, IsLast}
@@ -26,12 +24,13 @@ use Rattle.usb_table.proofs.Interface.{path_tied}
 use Rattle.usb_host.specs.{Agrees, HostState, IsRooted, HostRuns, Did, Remains, either, HostFault}
 use Rattle.usb_host.specs.{HostInvariant, IsSilent, IsAtRest, NoneWaiting, KeepsInvariant}
 use Rattle.usb_host.specs.{RootsRest, HubKeeps, HubsKeep, LooksKeep, Round, Worked, Quiet}
+use Rattle.usb_host.proofs.StepSums.{went_before}
 use Rattle.usb_host.proofs.entries.Balances.{accounts_listed}
 use Rattle.usb_host.proofs.rests.CalmPorts.{calm_port, pend-no_change}
 use Rattle.usb_host.proofs.rests.Polls.{hub_there}
 use Rattle.usb_host.proofs.entries.Roots.{accounted}
 use Rattle.usb_host.proofs.knowledge.SettledListings.{listed_port}
-use Rattle.usb_host.proofs.entries.RisingEntries.{path_cmp-greater}
+use Rattle.usb_host.proofs.entries.Agreements.{path_cmp-greater}
 use Rattle.usb_host.proofs.PortLocations.{root_alone}
 
 -- Rounds that are quiet
@@ -154,7 +153,7 @@ module _ {m n : ℕ} (r s : Round) (a b c : HostState) (p : HostRuns m a b) (q :
       → (done s ≡ done Quiet → c.world.fault ≡ None → TouchesNoPort b.world c.world)
       → TouchesNoPort a.world c.world
   calm_then x y = all_rest_then a.world b.world c.world
-      (x (quiet_first r s quiet) (went_sound n b.world c.world q.went still))
+      (x (quiet_first r s quiet) (went_before q.went still))
       (y (ap done (quiet_second r s quiet)) still)
 
   pub polled_then : {last : Option (List ℕ)} {next : List ℕ} → IsNext is_hub last b.entries next
@@ -170,7 +169,7 @@ module _ {m n : ℕ} (r s : Round) (a b c : HostState) (p : HostRuns m a b) (q :
       let taken_first : b.world.taken ≡ a.world.taken = omega arith in
       let taken_second : c.world.taken ≡ b.world.taken = omega arith in
       polled_next b c is (ap (λ (h : HostState). h.entries) remains) (hub.calm told still)
-      taken_second (before sound (quiet_first r s quiet) (went_sound n b.world c.world q.went still)
+      taken_second (before sound (quiet_first r s quiet) (went_before q.went still)
       taken_first) (hub.silent (stays.sound sound) told still)
 
 -- after the last of them all were polled

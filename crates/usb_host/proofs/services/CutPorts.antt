@@ -2,10 +2,10 @@
 use Rattle.std.proofs.Common.{◌≡◌, ◌∙◌, inl, inr, ap, ℕ, List, None, Result, Ok, Err, OnErr}
 use Rattle.usb_world.proofs.Interface.{way_itself}
 use Rattle.usb_enum.specs.{EnumFault, ParentLost, Bus, Memory}
-use Rattle.usb_enum.proofs.Interface.{went_sound}
 use Rattle.usb_table.specs.{Entries, without}
 use Rattle.usb_host.specs.{CutAt, EndsAs, EndsAt, ForgetsOnWay, HostFault, HostInvariant, HostState}
 use Rattle.usb_host.specs.{HostSteps, LookedOrLost, ServedOrLost, StaysOrForgets, StaysWhere}
+use Rattle.usb_host.proofs.StepSums.{went_before}
 use Rattle.usb_host.proofs.devices.BulkPipes.{AllStay, stays_where, where_joined}
 use Rattle.usb_host.proofs.services.Services.{without-way}
 
@@ -70,7 +70,7 @@ cut_bulk : (n : ℕ) (served : Result (Unit {0}) EnumFault) (fault : HostFault) 
     → StaysWhere (d.world.fault ≡ None) b d → StaysWhere (d.world.fault ≡ None) a d
 cut_bulk n (Ok done) fault a b d went ends x y = absurd (cc ends)
 cut_bulk n (Err why) fault a b d went ends x y =
-    where_joined a b d (λ still. went_sound n b.world d.world went still) x y
+    where_joined a b d (λ still. went_before went still) x y
 
 -- A port was served, and its hub dropped where that was lost; one of them failed
 

@@ -3,15 +3,13 @@ use Rattle.std.proofs.Common.{◌≡◌, ◌∙◌, ◌+◌, arith, refl, sym, a
 use Rattle.std.proofs.Common.{Option, None, Some, Result, Ok, Err, is_err, [], IfOk, IsErr, OnErr}
 use Rattle.usb_table.specs.{ComesAfter}
 use Rattle.usb_world.specs.{PlanData, changes, root_row}
-use Rattle.usb_enum.proofs.Interface.{went_sound}
-use Rattle.usb_host.specs.{HostWorks}
-use Rattle.usb_host.specs.{hubs_bound, looks_bound, roots_bound, round_bound, Affords, PaysRound}
+use Rattle.usb_host.specs.{HostWorks, hubs_bound, roots_bound, round_bound, Affords, PaysRound}
 use Rattle.usb_host.specs.{Weights, HostState, Waits, HostProgress, Did, Remains, either, DidParts}
 use Rattle.usb_host.specs.{LookedAgain, LookedOnce, LooksAgain, ServesEach, ServesHubs, WentByParts}
 use Rattle.usb_host.specs.{next_device, Part, HostFault, HostInvariant, Round, PartsFail, StopsIn}
 use Rattle.usb_host.specs.{Worked, Quiet, hubs_failed, looks_failed, roots_failed}
 use Rattle.usb_host.proofs.rests.IdleRounds.{all_idle, hubs_idle, looks_idle, roots_idle}
-use Rattle.usb_host.proofs.StepSums.{did_then}
+use Rattle.usb_host.proofs.StepSums.{did_then, went_before}
 use Rattle.usb_host.proofs.RoundParts.{part-fails, part-then, parts_fail, parts_keep}
 use Rattle.usb_host.proofs.rests.RestingRounds.{ok_is, quiet_first}
 use Rattle.usb_host.proofs.payments.RoundPayments.{hubs_fail, looks_fail, parts_pay, roots_fail}
@@ -55,7 +53,7 @@ module _ {a b : HostState} where
       → ServesEach a (Err fault) b → WentByParts a other b
   parts_rootless {fault = fault} {other = other} e x =
       parts_failed other e (part-fails {k = round_bound} other x.part e (omega arith))
-      (λ c plan w. roots_fail c plan a b other e x.pays w)
+      (roots_fail x e)
       (λ entries none. roots_idle a entries none b fault x.idle)
       (λ i none. roots_failed (x.fails i none))
 
@@ -68,8 +66,7 @@ module _ {a b : HostState} where
         parts_failed other e (part-fails {k = round_bound} other
         (part-then {k = roots_bound + hubs_bound} _ x.part y.keeps.part (omega arith)) e
         (omega arith))
-        (λ c plan w. hubs_fail a b x.part.goes.went x.part.sound x.pays d y.keeps.part.goes.went c
-        plan other e y.pays w)
+        (hubs_fail x y e)
         (λ entries none. hubs_idle a entries none b roots x.idle d fault y.idle)
         (λ i none. hubs_failed roots b (x.serves.served i) (x.part.sound.bulk i (working none))
         (y.fails (x.part.sound.sound.sound i) (working none)))
@@ -85,9 +82,7 @@ module _ {a b : HostState} where
       parts_lookless {fault = fault} {other = other} e z =
           parts_failed other e (part-fails {k = round_bound} other
           (part-then {k = round_bound} _ both_served z.keeps.part (omega arith)) e (omega arith))
-          (λ c plan w. looks_fail a b x.part.goes.went x.part.sound x.pays d y.keeps.part.goes.went
-          hubs y.keeps.part.sound y.pays looks_bound f z.keeps.part.goes.went c plan (Err fault)
-          other e z.keeps w)
+          (looks_fail x y z.keeps e)
           (λ entries none. looks_idle a entries none b roots x.idle d hubs y.idle f fault
           z.keeps.idle)
           (λ i none.
@@ -117,7 +112,7 @@ module _ {a b : HostState} where
               hubs = hubs;
               second = d;
               polled = y.polls before
-                  (went_sound looks_bound d.world f.world z.keeps.part.goes.went still);
+                  (went_before z.keeps.part.goes.went still);
               looks = looks;
               looked = z.looked (y.keeps.part.sound.sound.sound before);
               is = refl;
@@ -134,10 +129,7 @@ module _ {a b : HostState} where
           looked = z.order;
           is = refl;
         };
-        pays = λ c plan w.
-            parts_pay a b x.part.goes.went x.part.sound x.pays d y.keeps.part.goes.went hubs
-            y.keeps.part.sound y.pays looks_bound f
-            z.keeps.part.goes.went c plan looks z.keeps w;
+        pays = parts_pay x y z.keeps;
         idle = λ entries none.
             all_idle a entries none b roots x.idle d hubs y.idle f looks z.keeps.idle;
       }

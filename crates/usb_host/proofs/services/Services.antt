@@ -14,13 +14,11 @@ use Rattle.usb_hub.specs.{HubPort, IsAt, CommandsPort, PortCallDone, PortStatusA
 use Rattle.usb_enum.specs.{EnumFault, ParentLost, Bus, Memory, Lost, Finding}
 use Rattle.usb_enum.specs.declared.finding.Finding.TheVariants.{Refused}
 use Rattle.usb_table.specs.{KnownPort, Entries, is_at_or_below, without}
-use Rattle.usb_host.specs.{HandledSo}
-use Rattle.usb_host.specs.{HostState, claims, HasLost, IsOwned, Watches, EndsAs, StandsAt}
-use Rattle.usb_host.specs.{HostProgress, HostSteps, OnlyBusSteps, HostInvariant, DoneWhere, EndsAt}
-use Rattle.usb_host.specs.{ForgetsOnWay, HandlesAt, LookedOnce, LookedOrLost, LosesParent, Renews}
-use Rattle.usb_host.specs.{ServedAt}
-use Rattle.usb_host.specs.{ServedOrLost, StaysOrForgets, TidiesTold, was_tidied, was_looked_at}
-use Rattle.usb_host.specs.{was_lost, looked_once, lost_once, HostFault}
+use Rattle.usb_host.specs.{HandledSo, HostState, claims, HasLost, IsOwned, Watches, EndsAs}
+use Rattle.usb_host.specs.{StandsAt, HostProgress, HostSteps, OnlyBusSteps, HostInvariant}
+use Rattle.usb_host.specs.{DoneWhere, EndsAt, ForgetsOnWay, HandlesAt, LookedOnce, LookedOrLost}
+use Rattle.usb_host.specs.{LosesParent, Renews, ServedAt, ServedOrLost, StaysOrForgets, TidiesTold}
+use Rattle.usb_host.specs.{was_tidied, was_looked_at, was_lost, looked_once, lost_once, HostFault}
 use Rattle.usb_host.proofs.OwnedPorts.{owned_rests}
 use Rattle.usb_host.proofs.StepSums.{host_rests_then}
 use Rattle.usb_host.proofs.knowledge.ServedPorts.{rests_stands}

@@ -144,14 +144,17 @@ module _ (damages : List Damage) where
         settled_course work.course (settled work.sound)) (x.stays settled h);
   }
 
+  pub damages_traced : {w v : World} {t s : Option (List ℕ)} → Traced w t v s → Damages w v
+  damages_traced traced = record {
+    onward = traced_runs_onward traced;
+    stays = λ settled. damaged_traced settled traced;
+  }
+
   pub damages_runs : OverRuns Damages
   damages_runs = record {
     same = λ w. record { onward = onward_runs.same w; stays = λ settled h. h };
     joined = damages_then;
-    traced = λ w v traced. record {
-      onward = onward_runs.traced w v traced;
-      stays = λ settled. damaged_traced settled traced;
-    };
+    called = λ a b calls. damages_traced calls.went.traced;
     took = λ w v result takes. record {
       onward = onward_runs.took w v result takes;
       stays = λ settled. damaged_took w v result takes;

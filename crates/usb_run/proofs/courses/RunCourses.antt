@@ -1,11 +1,12 @@
 -- What holds over each step of a run holds over its parts. As long as the bus is at work, what went
 -- over a run is a course of steps; whether it is or not, address losses only grow.
-use Rattle.std.proofs.Common.{◌≡◌, arith, ℕ, List, Bool, Option, None, Some, Result, Ok, Err, ap}
-use Rattle.std.proofs.Common.{sym, subst, refl, is_some}
+use Rattle.std.proofs.Common.{◌≡◌, ◌+◌, arith, ℕ, List, Bool, Option, None, Some, Result, Ok, Err}
+use Rattle.std.proofs.Common.{ap, sym, subst, refl, is_some}
 use Rattle.usb_world.specs.declared.event.Ask.{Ask}
 use Rattle.usb_world.specs.{Attempt, BusFault, Failed, Limit, Memory, Outcome, AnyStep}
-use Rattle.usb_world.specs.{Course, here, step, attempt, root_call, event, after, World}
-use Rattle.usb_world.proofs.Interface.{course_joined, over_step}
+use Rattle.usb_world.specs.{AttemptsWithin, Course, here, step, attempt, root_call, event, after}
+use Rattle.usb_world.specs.{World}
+use Rattle.usb_world.proofs.Interface.{course_joined, over_step, spends_none, spends_then}
 use Rattle.usb_bus.specs.{Attempts, TakesEvent, Traced, still, attempted, called}
 use Rattle.usb_bus.proofs.Interface.{OverFaults, over_traced}
 use Rattle.usb_host.specs.{HostState}
@@ -14,25 +15,25 @@ use Rattle.usb_run.specs.{Makes, asked, last, RunStops, in_round, at_event, in_i
 use Rattle.usb_run.specs.{AppendsText, CutsText, RunsTo, StoppedRun, begun, behind, in_text}
 use Rattle.usb_run.specs.{on_the_way, told, unwritten}
 use Rattle.usb_run.specs.Transcript.{Transcript}
-use Rattle.usb_run.proofs.courses.RunParts.{Called, item_called, settles_called, stop_called}
-use Rattle.usb_run.proofs.courses.RunParts.{unsettled_called}
+use Rattle.usb_run.proofs.courses.RunParts.{Called, called_spent, item_called, settles_called}
+use Rattle.usb_run.proofs.courses.RunParts.{stop_called, unsettled_called}
 use Rattle.usb_enum.proofs.Interface.{IsWorse, sound_before, worse_steps}
 
 -- Relations
 
--- a relation that each world has to itself, that joins, and that holds over attempts and root
--- calls, over an event, and where a line was not written whole
+-- a relation that each world has to itself, that joins, and that holds over calls of the host, over
+-- an event, and where a line was not written whole
 pub record OverRuns (R : World → World → Type 0) : Type 0 where
   pub same : (w : World) → R w w
   pub joined : (w m v : World) → R w m → R m v → R w v
-  pub traced : (w v : World) {t s : Option (List ℕ)} → Traced w t v s → R w v
+  pub called : (a b : HostState) → Called a b → R a.world b.world
   pub took : (w v : World) (result : Result (Option (Option Ask)) BusFault)
       {t s : Option (List ℕ)} → TakesEvent w t result v s → R w v
   pub cut : (w v : World) → v ≡ record w { fault = v.fault } → (v.fault ≡ None → v ≡ w) → R w v
 
 module _ {R : World → World → Type 0} (l : OverRuns R) where
   over_called : {a b : HostState} → Called a b → R a.world b.world
-  over_called {a} {b} calls = l.traced a.world b.world calls.went.traced
+  over_called {a} {b} calls = l.called a b calls
 
   over_comes : {a b : HostState} {result : Result (Option (Option Ask)) BusFault}
       → Comes a result b → R a.world b.world
@@ -108,6 +109,25 @@ module _ {R : World → World → Type 0} (l : OverRuns R) where
   over_run mode words CutsAt was old items (Ok done) new t = over_transcript t
   over_run mode words CutsAt was old items (Err fault) new t = over_stopped t
 
+-- Counts
+
+-- attempts were made within the limit, and no event was added
+abbrev pub SpentBetween : World → World → Type 0
+SpentBetween w v = (n : ℕ) × AttemptsWithin n w v
+
+spends_fault : (w : World) (fault : Option BusFault)
+    → AttemptsWithin 0 w (record w { fault = fault })
+spends_fault w fault = grind arith
+
+pub spent_runs : OverRuns SpentBetween
+spent_runs = record {
+  same = λ w. (0, spends_none w);
+  joined = λ w m v x y. (x.0 + y.0, spends_then x.0 y.0 w m v x.1 y.1);
+  called = λ a b calls. called_spent calls;
+  took = λ w v result takes. (0, takes.took.spends);
+  cut = λ w v rest still. (0, subst (AttemptsWithin 0 w) (sym rest) (spends_fault w v.fault));
+}
+
 -- As long as the bus is at work
 
 -- the bus was at work, and these were its steps
@@ -165,7 +185,7 @@ pub onward_runs : OverRuns RunsOnward
 onward_runs = record {
   same = runs_onward_none;
   joined = onward_then;
-  traced = λ w v traced. traced_runs_onward traced;
+  called = λ a b calls. traced_runs_onward calls.went.traced;
   took = λ w v result takes. takes_onward w v result takes;
   cut = λ w v rest still none. subst (RunsOnward w) (sym (still none)) (runs_onward_none w) none;
 }
@@ -225,7 +245,7 @@ pub worse_runs : OverRuns IsWorse
 worse_runs = record {
   same = λ w. omega arith;
   joined = λ w m v x y. omega (arith, x, y);
-  traced = λ w v traced. over_traced worse_faults traced;
+  called = λ a b calls. over_traced worse_faults calls.went.traced;
   took = λ w v result takes. worse_took w v result takes;
   cut = λ w v rest still. subst (IsWorse w) (sym rest) (omega arith);
 }

@@ -11,7 +11,7 @@ use Rattle.usb_host.specs.{Agrees, handling_bound, round_bound, HostFault, Round
 use Rattle.usb_host.specs.{HostSteps}
 use Rattle.usb_host.specs.{OnlyBusSteps, RoundTells, TransferTells}
 use Rattle.usb_run.specs.{Item, RunFault, Spent, Arrives, Ran, idle, Reaches, Rounds, none, more}
-use Rattle.usb_run.specs.{Settled, Settles, Settling, Unsettled, Makes, asked, last, RunStops}
+use Rattle.usb_run.specs.{Settled, Settles, Settling, Unsettled, RunStops}
 use Rattle.usb_run.specs.{in_round, at_event, in_item, in_last, Does, IsItemOf, StopsAt}
 use Rattle.usb_run.specs.{CallGives, CallTells}
 use Rattle.usb_run.specs.RunSegments as run
@@ -186,36 +186,6 @@ taken_fewer a b v (Some due) (n, s) same takes some =
     let left = ap to_come same in
     let came = ap (λ (w : World). w.taken) same in
     omega (arith, left, came, s.events, s.onward, takes.took.spends.events, takes.took.ends.one)
-
-arrives_spent : {a b : HostState} {result : Result (Option (Option Ask)) BusFault}
-    → Arrives a result b → Spent a b
-arrives_spent {a} {b} arrives = spent_then a arrives.mid b
-    (called_spent (settles_called arrives.settles)) (0, arrives.comes.takes.took.spends)
-
-ran_spent : {a b : HostState} → Ran a b → Spent a b
-ran_spent {a} idle = spent_none a
-ran_spent {a} (run.silent {h} {k} due before arrives is) =
-    spent_then a h k (ran_spent before) (arrives_spent arrives)
-
-reaches_spent : {a b : HostState} {result : Result (Option (Option Ask)) BusFault}
-    → Reaches a result b → Spent a b
-reaches_spent {a} {b} reaches = spent_then a reaches.behind b (ran_spent reaches.ran)
-    (arrives_spent reaches.arrives)
-
-pub makes_spent : {a b : HostState} {item : Item} {over : Bool} → Makes a item over b → Spent a b
-makes_spent {a} (asked {item} {mid} {new} due reaches is right) =
-    spent_then a mid new (reaches_spent reaches)
-    (called_spent (item_called due (Some item) mid new is))
-makes_spent (last reaches settled) = reaches_spent reaches
-
-pub stops_spent : {a b : HostState} {fault : RunFault} → RunStops a fault b → Spent a b
-stops_spent {a} (in_round {behind} {new} ran unsettled) =
-    spent_then a behind new (ran_spent ran) (called_spent (unsettled_called unsettled))
-stops_spent (at_event fault reaches) = reaches_spent reaches
-stops_spent {a} (in_item {mid} {new} {fault} due reaches stops) =
-    spent_then a mid new (reaches_spent reaches)
-    (called_spent (stop_called due fault mid new stops))
-stops_spent (in_last reaches) = reaches_spent reaches
 
 -- a run that began within its limit ends within it
 pub within_limit : (a b : HostState) → Spent a b → a.world.attempts ≤ a.world.limit

@@ -6,9 +6,10 @@ use Rattle.usb_world.specs.{Failed, World, HasFault}
 use Rattle.usb_enum.specs.{usual_options}
 use Rattle.usb_host.specs.{HostState, opening_host as host_opening, HostInvariant}
 use Rattle.usb_host.specs.{RefusalsJustified, HostFault, RoundFaultAllowed}
-use Rattle.usb_host.specs.{TransferFaultAllowed, is_final, RoundTells, Round}
+use Rattle.usb_host.specs.{TransferFaultAllowed, TransferTells, is_final, RoundTells, Round}
 use Rattle.usb_run.specs.{RunFault, Memory as NoMemory, transfer_ended, Knows, OneRound, IsCaused}
-use Rattle.usb_run.specs.{RunsOn, round_fault, run_fault, Opens}
+use Rattle.usb_run.specs.{GoesOn, Item, RunsOn, TransferStops, round_fault, run_fault, Opens}
+use Rattle.usb_run.specs.Transfers.{Transfers}
 use Rattle.usb_table.specs.{TransferFault}
 use Rattle.usb_host.specs.declared.fault.HostFault.TheVariants as host
 use Rattle.usb_bus.specs.{Traced}
@@ -91,6 +92,36 @@ answered_caused {A} (Err (host.Bus fault)) f w told e =
     (failed_is_caused fault w told)
 answered_caused {A} (Err host.Memory) f w told e =
     subst (λ x. IsCaused x w) (err_same {A = A} NoMemory f e) tt
+
+-- a transfer was asked for
+module _ {A : Type 0} {most : ℕ} {Did : HostState → Result A HostFault → HostState → Type 0}
+    {Goes : HostState → Result Item RunFault → HostState → Type 0} {old new : HostState}
+    {answer : Result A HostFault} (call : TransferTells most Did old answer new) where
+  -- it gave its item
+  pub transfer_goes : {item : Item} (told : Result A TransferFault)
+      → transfer_ended answer ≡ Ok told → old.stopped ≡ false
+      → (Transfers (TransferTells most Did) old told new → Goes old (Ok item) new)
+      → GoesOn Goes old (Ok item) new
+  transfer_goes told is running goes = record {
+    on = record {
+      goes = goes (record { answer = answer; call = call; tells = is });
+      running = call.stopped.stops running ∙ answered_goes answer told is;
+      caused = tt;
+    };
+    owning = call.keeps.owning;
+  }
+
+  -- it ended the run
+  pub transfer_stops : (result : Result Item RunFault) (fault : RunFault)
+      → IsErrAnd result (λ e. e ≡ fault) → transfer_ended answer ≡ Err fault
+      → (TransferStops (TransferTells most Did) old fault new → Goes old (Err fault) new)
+      → GoesOn Goes old result new
+  transfer_stops result fault failed is stops = record {
+    on = error_runs_on Goes result fault failed
+        (stops (record { answer = answer; call = call; tells = is }))
+        (answered_caused answer fault new.world call.told is);
+    owning = call.keeps.owning;
+  }
 
 -- a plan's run begins with a host of its bus
 

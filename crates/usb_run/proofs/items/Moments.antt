@@ -19,7 +19,7 @@ use Rattle.usb_enum.specs.{FewLosses, usual_options}
 use Rattle.usb_enum.proofs.Interface.{IsWorse, course_later}
 use Rattle.usb_table.specs.{Delivered, EndpointChoice, FirstBulk, At, Matches, TransferFault}
 use Rattle.usb_table.proofs.Interface.{lists_of_plan}
-use Rattle.usb_host.specs.{HostState, IsFairTo, table_in, SendTells}
+use Rattle.usb_host.specs.{HostInvariant, HostState, IsFairTo, table_in, SendTells}
 use Rattle.usb_run.specs.{Item, RunFault, Mode, IsListingOf, ListsRight, TellsRight, Reaches}
 use Rattle.usb_run.specs.{Settled, listing_of, Makes, asked, last, RunsTo, StoppedRun, behind}
 use Rattle.usb_run.specs.{on_the_way, unwritten, in_text, begun, told, IsItemOf, sent_count, Opens}
@@ -34,7 +34,7 @@ use Rattle.usb_run.proofs.courses.KnowledgeKept.{reaches_knows, reaches_running,
 use Rattle.usb_run.proofs.courses.KnowledgeKept.{transcript_options}
 use Rattle.usb_run.proofs.courses.RunCourses.{RunsOnward, onward_runs, onward_then, over_cuts}
 use Rattle.usb_run.proofs.courses.RunCourses.{over_makes, over_puts, over_stops, over_transcript}
-use Rattle.usb_run.proofs.courses.DamagedLosses.{damages_runs}
+use Rattle.usb_run.proofs.courses.DamagedLosses.{damages_runs, damages_traced}
 use Rattle.usb_run.proofs.courses.RunCourses.{over_run, traced_runs_onward, worse_runs}
 use Rattle.usb_run.proofs.endings.Ends.{options_opened}
 use Rattle.usb_run.proofs.items.ToldTransfers.{told_sent, told_received, told_cleared, told_read}
@@ -88,6 +88,15 @@ pub item_right : (due : Option Ask) (made : Item) (h mid k : HostState)
     → Reaches h (Ok (Some due)) mid → IsItemOf due (Some made) mid k → TellsRight due made mid k
 item_right due made h mid k reaches is = right (answered due (Some made) mid k is)
   where
+    sound : HostInvariant mid
+    sound = (reaches_knows reaches).sound
+
+    still : mid.world.fault ≡ None
+    still = reaches_still reaches
+
+    running : mid.stopped ≡ false
+    running = reaches_running reaches
+
     tells : (of_ask : Option Ask) (answer : Item) → due ≡ of_ask → Some made ≡ Some answer
         → TellsRight of_ask answer mid k → TellsRight due made mid k
     tells of_ask answer asks e so =
@@ -103,8 +112,7 @@ item_right due made h mid k reaches is = right (answered due (Some made) mid k i
     sent_right choice path bytes answer came =
         subst (λ (b : Bool). Delivered path choice b bytes (table_in mid) mid.world (table_in k)
         k.world) (count_done (length bytes) answer)
-        (told_sent path mid k (reaches_knows reaches).sound (reaches_still reaches)
-        (reaches_running reaches) choice bytes answer came)
+        (told_sent path mid k sound still running choice bytes answer came)
 
     item_so : (ask : Ask) (x : Item) → Some made ≡ Some x → TellsRight (Some ask) x mid k
         → TellsRight (Some ask) made mid k
@@ -122,46 +130,37 @@ item_right due made h mid k reaches is = right (answered due (Some made) mid k i
         (sent_right FirstBulk path bytes answer came)
     call_right (Receive path packets) answer of came =
         item_so (Receive path packets) _ of
-        (told_received path mid k (reaches_knows reaches).sound (reaches_still reaches)
-        (reaches_running reaches) FirstBulk packets answer came)
+        (told_received path mid k sound still running FirstBulk packets answer came)
     call_right (Clear path) answer of came =
         item_so (Clear path) _ of
-        (told_cleared path mid k (reaches_knows reaches).sound (reaches_still reaches)
-        (reaches_running reaches) answer came)
+        (told_cleared path mid k sound still running answer came)
     call_right (SendTo path endpoint bytes) answer of came =
         item_so (SendTo path endpoint bytes) _ of
         (sent_right (At endpoint) path bytes answer came)
     call_right (ReceiveFrom path endpoint packets) answer of came =
         item_so (ReceiveFrom path endpoint packets) _ of
-        (told_received path mid k (reaches_knows reaches).sound (reaches_still reaches)
-        (reaches_running reaches) (At endpoint) packets answer came)
+        (told_received path mid k sound still running (At endpoint) packets answer came)
     call_right (Poll path endpoint) answer of came =
         item_so (Poll path endpoint) _ of
-        (told_reported path mid k (reaches_knows reaches).sound (reaches_still reaches)
-        (reaches_running reaches) endpoint answer came)
+        (told_reported path mid k sound still running endpoint answer came)
     call_right (ClearOf path endpoint) answer of came =
         item_so (ClearOf path endpoint) _ of
-        (told_cleared_of path mid k (reaches_knows reaches).sound (reaches_still reaches)
-        (reaches_running reaches) endpoint answer came)
+        (told_cleared_of path mid k sound still running endpoint answer came)
     call_right (SetInterface path interface setting) answer of came =
         item_so (SetInterface path interface setting) _ of
-        (told_interface path mid k (reaches_knows reaches).sound (reaches_still reaches)
-        (reaches_running reaches) interface setting answer came)
+        (told_interface path mid k sound still running interface setting answer came)
     call_right (ControlIn path request) answer of came =
         item_so (ControlIn path request) _ of
-        (told_read path mid k (reaches_knows reaches).sound (reaches_still reaches)
-        (reaches_running reaches) request answer came)
+        (told_read path mid k sound still running request answer came)
     call_right (ControlOut path write) answer of came =
         item_so (ControlOut path write) _ of (
           answer,
           refl,
-          told_written path mid k (reaches_knows reaches).sound (reaches_still reaches)
-              (reaches_running reaches) write answer came,
+          told_written path mid k sound still running write answer came,
         )
     call_right (LookAt path) answer of came =
         item_so (LookAt path) _ of
-        (told_look path mid k (reaches_knows reaches).sound (reaches_still reaches)
-        (reaches_running reaches) answer came
+        (told_look path mid k sound still running answer came
         (item_knows due (Some made) mid k is (reaches_knows reaches)))
 
     right : AskAnswered due (Some made) mid k → TellsRight due made mid k
@@ -282,7 +281,7 @@ pub run_lists_right : {A E : Type 0} (plan : PlanData) (mode : Mode) (words : Ru
 run_lists_right plan mode words CutsAt was old items new result opens t =
     let l = damages_runs plan.damages in
     let all = l.joined (opening plan) old.world new.world
-    (l.traced (opening plan) old.world opens.traced)
+    (damages_traced plan.damages opens.traced)
     (over_run l mode words CutsAt was old items result new t) in
     let lost = all.stays (λ none. opening_settled plan)
     (record { same = refl; lost = no_losses_yet plan.damages }) in

@@ -1,27 +1,25 @@
 -- How a report has the items of a run.
 use Rattle.std.proofs.Common.{◌≡◌, ◌≢◌, ◌∙◌, refl, sym, ap, subst, inl, inr, arith, ℕ, ◌-◌, ◌≤◌}
 use Rattle.std.proofs.Common.{◌<◌, length, List, [], ◌∷◌, ◌++◌, reverse, Bool, false, Option, None}
-use Rattle.std.proofs.Common.{Some, Result, Ok, Err, IsErrAnd, All, IfErr, IfOk}
+use Rattle.std.proofs.Common.{Some, Result, Ok, Err, IsErrAnd, All, IfOk}
 use Rattle.std.proofs.lemmas.Grind.{reverse_onto}
 use Rattle.std.proofs.lemmas.List.{get_or-reverse, length-reverse}
 use Rattle.std.proofs.lemmas.List.Elements.{All-from_recursion}
 use Rattle.std.specs.List.{AllByRecursion}
-use Rattle.usb_world.specs.{PlanData, AtMostTwoRunning, World, AttemptsWithin}
-use Rattle.usb_world.proofs.Interface.{spends_none}
+use Rattle.usb_world.specs.{PlanData, AtMostTwoRunning}
 use Rattle.usb_host.specs.{HostState}
-use Rattle.usb_run.specs.{Item, Report, RunFault, Memory, TraceFailed, Tree, IsListingOf}
+use Rattle.usb_run.specs.{Item, Report, RunFault, TraceFailed, Tree, IsListingOf}
 use Rattle.usb_run.specs.{ListsPlugged, Knows, EndsWell, Finishes, Opens, RunsWell, Next}
-use Rattle.usb_run.specs.{AppendsText, begun, behind, itself, never, told, Mode, IsCaused, Spent}
+use Rattle.usb_run.specs.{IsCaused, StoppedRun, begun, itself, never}
 use Rattle.usb_world.specs.declared.types.BusFault.TheVariants as bus
-use Rattle.usb_run.specs.Reports.{Reports}
 use Rattle.usb_run.specs.Transcript.{Transcript}
 use Rattle.usb_run.proofs.endings.Causes.{at_fault, run_limit, untold_trace}
 use Rattle.usb_run.proofs.endings.Ends.{limit_opened}
 use Rattle.usb_run.proofs.courses.KnowledgeKept.{makes_knows}
 use Rattle.usb_run.proofs.items.Moments.{run_lists_right}
-use Rattle.usb_run.proofs.courses.RunParts.{makes_spent, spent_then, within_limit}
-use Rattle.usb_run.proofs.items.Transcripts.{ends_failed, over_next, appends_no_text, stopped_next}
-use Rattle.usb_run.proofs.items.Transcripts.{told_next}
+use Rattle.usb_run.proofs.courses.RunCourses.{over_transcript, spent_runs}
+use Rattle.usb_run.proofs.courses.RunParts.{within_limit}
+use Rattle.usb_run.proofs.items.Transcripts.{appends_no_text, over_next, told_next}
 
 -- what holds of each element holds of each in turn
 All-reverse : {X : Type 0} (P : X → Type 0) (xs : List X) → All P xs → All P (reverse xs)
@@ -53,36 +51,14 @@ report_told r item on k more next is = record {
   knows = λ _. makes_knows next.1;
 }
 
-not_reported : (Q : Report → Type 0) (result : Result Report RunFault) (said : RunFault)
-    → IsErrAnd result (λ e. e ≡ said) → IfOk result Q
-not_reported Q (Ok report) said is = absurd is
-not_reported Q (Err fault) said is = tt
-
-pub report_stopped : {was : Bool} {old : HostState} {made : List Item} {over : Bool} {h : HostState}
-    (r : ReportSoFar was old made over h) (on : Bool) (k : HostState) (fault : RunFault)
-    (result : Result Report RunFault)
-    → (said : RunFault) → said ≡ fault → IsErrAnd result (λ e. e ≡ said)
-    → Next over h (Err fault) on k → IsCaused said k.world → Finishes was old result k
-report_stopped r on k fault result said same is next caused = record {
-  items = r.items;
-  ends = ends_failed itself never result said is (stopped_next on fault same r.so_far next);
-  report = not_reported (Reports r.items k.world) result said is;
-  caused = at_fault (λ x. IfErr x (λ f. IsCaused f k.world)) result said is caused;
-}
-
--- memory was refused for an item
-pub report_refused : {was : Bool} {old : HostState} {made : List Item} {over : Bool} {h : HostState}
-    (r : ReportSoFar was old made over h) (item : Item) (on : Bool) (k : HostState)
-    (result : Result Report RunFault)
-    → IsErrAnd result (λ e. e ≡ Memory) → Next over h (Ok (Some item)) on k
+-- a run that stopped is told with its fault
+pub report_stopped : {was : Bool} {old k : HostState} {items : List Item}
+    (result : Result Report RunFault) (said : RunFault) → IsErrAnd result (λ e. e ≡ said)
+    → StoppedRun Tree (λ why. said ≡ itself why) ⊥ was old items k → IsCaused said k.world
     → Finishes was old result k
-report_refused r item on k result is next = record {
-  items = item ∷ r.items;
-  ends = ends_failed itself never result Memory is
-      (behind (λ cut. cut) (told_next r.so_far next (appends_no_text k)));
-  report = not_reported (Reports (item ∷ r.items) k.world) result Memory is;
-  caused = at_fault (λ x. IfErr x (λ f. IsCaused f k.world)) result Memory is tt;
-}
+report_stopped {was} {old} {k} {items} result said is stopped caused =
+    at_fault (λ x. Finishes was old x k) result said is
+    (record { items = items; ends = stopped; report = tt; caused = caused })
 
 -- the run is over
 pub report_over : {was : Bool} {old : HostState} {made : List Item} {over : Bool} {h : HostState}
@@ -104,27 +80,13 @@ report_over {h = h} r on k report next made attempts losses worst = record {
 
 -- Attempts
 
-puts_spent : {h k : HostState} {text : List ℕ} → AppendsText text h k → Spent h k
-puts_spent {h} {k} puts = (
-  0,
-  subst (λ (w : World). AttemptsWithin 0 h.world w)
-      (sym (ap (λ (x : HostState). x.world) puts.rest)) (spends_none h.world),
-)
-
-transcript_spent : {mode : Mode} {was : Bool} {old : HostState} {items : List Item} {over : Bool}
-    {new : HostState} → Transcript mode was old items over new → Spent old new
-transcript_spent {old = old} begun = (0, spends_none old.world)
-transcript_spent {old = old} (told {h = h} {k = k} {new = new} t makes puts) =
-    spent_then old k new (spent_then old h k (transcript_spent t) (makes_spent makes))
-    (puts_spent puts)
-
 -- a run that is reported made its attempts within the limit
 pub reports_limit : (was : Bool) (old new : HostState) (result : Result Report RunFault) (limit : ℕ)
     → Finishes was old result new → old.world.attempts ≡ 0 → old.world.limit ≡ limit
     → IfOk result (λ report. report.attempts ≤ limit)
 reports_limit was old new (Ok report) limit finishes none is =
     let least : old.world.attempts ≤ old.world.limit = omega (arith, none) in
-    let most = within_limit old new (transcript_spent finishes.ends) least in
+    let most = within_limit old new (over_transcript spent_runs finishes.ends) least in
     omega (arith, most, is, finishes.report.attempts)
 reports_limit was old new (Err fault) limit finishes none is = tt
 

@@ -9,7 +9,7 @@ use Rattle.usb_bus.specs.{AppendsFront}
 use Rattle.usb_bus.proofs.Interface.{front_after}
 use Rattle.usb_world.specs.{World, BusFault}
 use Rattle.usb_host.specs.{HostState}
-use Rattle.usb_run.specs.{Item, RunFault, Mode, CutsText, RunsTo, Next, AppendsText, StoppedRun}
+use Rattle.usb_run.specs.{Item, RunFault, Mode, CutsText, Next, AppendsText, StoppedRun}
 use Rattle.usb_run.specs.{RunStops, told, on_the_way, unwritten, in_text, shown}
 use Rattle.usb_run.specs.Transcript.{Transcript}
 
@@ -63,17 +63,6 @@ pub next_failed : {was : Bool} {old new : HostState} (over : Bool)
 next_failed over (Ok item) fault is at_work stops = absurd is
 next_failed {old = old} {new = new} over (Err e) fault is at_work stops =
     (at_work, subst (λ f. RunStops old f new) (sym is) stops)
-
--- what is told of a run that stopped
-pub ends_failed : {A E : Type 0} {mode : Mode} (words : RunFault → E) (CutsAt : E → Type 0)
-    {was : Bool} {old new : HostState} {items : List Item} (result : Result A E) (fault : E)
-    → IsErrAnd result (λ e. e ≡ fault)
-    → StoppedRun mode (λ why. fault ≡ words why) (CutsAt fault) was old items new
-    → RunsTo mode words CutsAt was old items result new
-ends_failed words CutsAt (Ok done) fault is stopped = absurd is
-ends_failed {mode = mode} words CutsAt {was = was} {old = old} {new = new} {items = items} (Err e)
-    fault is stopped = subst (λ f. StoppedRun mode (λ why. f ≡ words why) (CutsAt f) was old items
-    new) (sym is) stopped
 
 -- Lines
 

@@ -1,7 +1,7 @@
 -- A table that is copied entry by entry, by rising path.
-use Rattle.std.proofs.Common.{◌≡◌, ◌∙◌, refl, sym, ap, subst, inl, inr, true, false, Bool, ℕ, ◌+◌}
-use Rattle.std.proofs.Common.{cond, List, [], ◌∷◌, ◌++◌, Option, Some, None, All, append_assoc}
-use Rattle.std.proofs.Common.{arith, option_map}
+use Rattle.std.proofs.Common.{◌≡◌, ◌∙◌, refl, sym, ap, inl, inr, true, false, Bool, ℕ, ◌+◌, cond}
+use Rattle.std.proofs.Common.{List, [], ◌∷◌, ◌++◌, Option, Some, None, All, append_assoc, arith}
+use Rattle.std.proofs.Common.{option_map}
 use Rattle.std.specs.Prelude.{unwrap_or}
 use Rattle.std.specs.Map.{keys_of, lookup}
 use Rattle.std.specs.BTreeMap.{is_at, insert_entry}
@@ -18,10 +18,10 @@ use Rattle.std.proofs.lemmas.Map.Keys.{sorted_head, sorted_tail}
 use Rattle.usb_port.specs.{path_cmp}
 use Rattle.usb_enum.specs.{Finding, Silent}
 use Rattle.usb_enum.specs.declared.finding.Finding.TheVariants.{Device, Refused}
-use Rattle.usb_table.specs.{AddressKeys, AreIndexes, Entry, HasNewAddress, PathKeys}
-use Rattle.usb_table.specs.{Slots, Table, TableSlots, address_in, entries_of}
-use Rattle.usb_table.specs.{finding_under, findings, has_address, key_of_path, no_pipes, pipings}
-use Rattle.usb_table.specs.{table_of, under, values_by_path, with_entry}
+use Rattle.usb_table.specs.{AddressKeys, AreIndexes, Entry, HasNewAddress, PathKeys, Slots, Table}
+use Rattle.usb_table.specs.{TableSlots, address_in, entries_of, finding_under, findings}
+use Rattle.usb_table.specs.{has_address, key_of_path, no_pipes, pipings, table_of, under}
+use Rattle.usb_table.specs.{values_by_path, with_entry}
 use Rattle.usb_table.proofs.entries.Keys.{findings-standing, same_table}
 use Rattle.usb_table.proofs.entries.Paths.{path_itself}
 
@@ -98,8 +98,7 @@ module _ (found : Slots) (paths : PathKeys) (addresses : AddressKeys)
         let two = (are.addressed a key).1 has in
         let same : d.1 ≡ key = cc (one, two) in
         let here : path ≡ d.0 = are.once d.0 path d.1 other.0 (at ∙ ap Some (sym same)) in
-        let less : path_cmp d.0 d.0 ≡ Less =
-        subst (λ (p : List ℕ). path_cmp d.0 p ≡ Less) here other.1 in
+        let less : path_cmp d.0 d.0 ≡ Less = rw here at other.1 in
         let apart : is_at (path_cmp d.0) d.0 ≡ false = ap is_eq less in
         let itself = path_itself d.0 in
         absurd (cc (apart, itself))
@@ -169,22 +168,20 @@ module _ (standings : TableSlots) (paths left rest : PathKeys) (path : List ℕ)
     (each : All (λ e. key_of_path paths e.0 ≡ Some e.1) paths)
     (so_far : Copied standings paths left copy) (step : left ≡ (path, key) ∷ rest) where
   d : Copied standings paths ((path, key) ∷ rest) copy
-  d = subst (λ (l : PathKeys). Copied standings paths l copy) step so_far
+  d = rw step at so_far
 
   abbrev IsFound : List ℕ × ℕ → Type 0
   IsFound e = key_of_path paths e.0 ≡ Some e.1
 
   found : AllByRecursion IsFound (d.before ++ (path, key) ∷ rest)
-  found =
-      subst (λ (l : PathKeys). AllByRecursion IsFound l) (sym d.split)
-      (recursion_from_All IsFound paths each)
+  found = rw d.split (recursion_from_All IsFound paths each)
 
   pub next_at : key_of_path paths path ≡ Some key
   next_at = middle IsFound d.before (path, key) rest found
 
   less : AreBefore path d.before
   less = before_next d.before (path, key) rest
-      (subst (λ (l : PathKeys). IsStrictlySortedBy path_cmp (keys_of l)) (sym d.split) rises)
+      (rw d.split rises)
 
   pub next_away : lookup (is_at (path_cmp path)) copy.entries ≡ None
   next_away =
@@ -195,7 +192,7 @@ module _ (standings : TableSlots) (paths left rest : PathKeys) (path : List ℕ)
   pub next_address : (addresses : AddressKeys) (s : Entry) → standings key ≡ Some s
       → AreIndexes (findings standings) paths addresses → HasNewAddress s.finding copy.entries
   next_address addresses s stands are =
-      subst (λ (t : Table). HasNewAddress s.finding t.entries) (sym d.is)
+      rw d.is
       (new_address (findings standings) paths addresses are path key s.finding next_at
       (findings-standing standings key s stands) d.before
       (both IsFound (λ e. path_cmp e.0 path ≡ Less) d.before

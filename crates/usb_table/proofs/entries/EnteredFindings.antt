@@ -13,9 +13,9 @@ use Rattle.usb_device.specs.{State, IsSpec, reach, state_there}
 use Rattle.usb_world.specs.{World}
 use Rattle.usb_enum.specs.{Accepted, Cause, Finding, HostOptions, IsOwn}
 use Rattle.usb_enum.specs.declared.finding.Finding.TheVariants.{Device, Refused}
-use Rattle.usb_table.specs.{Pipes, no_pipes, accepted_device_of, accepted_device_at, is_below_hub}
-use Rattle.usb_table.specs.{PipesInSync, InSyncAt, new_pipes, Table, pipes_at, entered}
-use Rattle.usb_table.specs.{said_at, said_in, said_of}
+use Rattle.usb_table.specs.{no_pipes, accepted_device_of, accepted_device_at, is_below_hub}
+use Rattle.usb_table.specs.{PipesInSync, InSyncAt, new_pipes, Table, pipes_at, entered, said_at}
+use Rattle.usb_table.specs.{said_in, said_of}
 use Rattle.usb_table.proofs.levels.NewPipes.{new_level}
 use Rattle.usb_table.proofs.entries.Paths.{path_tied, path_itself}
 
@@ -106,13 +106,8 @@ module _ (path : List ℕ) (finding : Finding) (said : ArrayVec ℕ) (table : Ta
           let same : d ≡ device =
           cc (sym (ap accepted_device_of (lookup-inserted path finding table.entries ∙ ap Some is))
           ∙ e) in
-          subst
-          (λ (x : Accepted). PipesInSync x (pipes_at path (entered path finding said table)) s)
-          same
-          (subst (λ (q : Pipes). PipesInSync d q s)
-          (sym (pipes_at-entered path finding said table
-          ∙ ap (λ f. new_pipes f (is_below_hub path) said) is))
-          (new_level options tier supply d (is_below_hub path) said s so.0 so.1))
+          rw (← same, pipes_at-entered path finding said table, is)
+          (new_level options tier supply d (is_below_hub path) said s so.0 so.1)
       by_finding (Refused cause) is device s e on there =
           absurd (cc (sym (ap accepted_device_of (lookup-inserted path finding table.entries
           ∙ ap Some is)) ∙ e))
@@ -122,8 +117,7 @@ module _ (path : List ℕ) (finding : Finding) (said : ArrayVec ℕ) (table : Ta
       → InSyncAt x (entered path finding said table) w
   level_beside x apart l = record {
     level = λ device s e on there.
-        subst (λ (q : Pipes). PipesInSync device q s)
-        (sym (pipes_at-entered_elsewhere path finding said table x apart))
+        rw (pipes_at-entered_elsewhere path finding said table x apart)
         (l.level device s (sym (ap accepted_device_of
         (lookup-inserted_elsewhere path finding x table.entries apart)) ∙ e) on there);
   }

@@ -1,7 +1,7 @@
 -- An entry that is to come has no key yet, and so has its address.
-use Rattle.std.proofs.Common.{◌≡◌, ◌∙◌, refl, sym, ap, subst, inl, inr, true, false, Bool, ℕ, ◌+◌}
-use Rattle.std.proofs.Common.{cond, List, [], ◌∷◌, Option, Some, None, arith, nat_eq, IfSome}
-use Rattle.std.proofs.Common.{is_some, option_map}
+use Rattle.std.proofs.Common.{◌≡◌, ◌∙◌, refl, sym, ap, inl, inr, true, false, Bool, ℕ, ◌+◌, cond}
+use Rattle.std.proofs.Common.{List, [], ◌∷◌, Option, Some, None, arith, nat_eq, IfSome, is_some}
+use Rattle.std.proofs.Common.{option_map}
 use Rattle.std.specs.Map.{lookup}
 use Rattle.std.specs.BTreeMap.{is_at}
 use Rattle.std.specs.List.{count_by}
@@ -23,8 +23,7 @@ use Rattle.usb_table.proofs.entries.Paths.{path_tied, path_itself}
 is_at-not_way : (path q : List ℕ) → is_at_or_below q path ≡ false → is_at (path_cmp path) q ≡ false
 is_at-not_way path q apart = false_from_ne_true _ (λ tie.
     let yes : pointwise nat_eq q path ≡ true = texts_ties q path
-    ∙ subst (λ (r : List ℕ). is_at (path_cmp q) r ≡ true) (sym (path_tied path q tie))
-    (path_itself q) in
+    ∙ rw (path_tied path q tie) (path_itself q) in
     cc (yes, (neither (pointwise nat_eq q path) (is_below q path) apart).0))
 
 pub none_at : (path : List ℕ) (es : Entries) → has_at path es ≡ false

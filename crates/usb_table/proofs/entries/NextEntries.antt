@@ -1,6 +1,6 @@
 -- The next entry of a kind is the first one after the last path.
-use Rattle.std.proofs.Common.{◌≡◌, ◌≢◌, ◌∙◌, refl, sym, ap, subst, true, false, not, Bool, ℕ, cond}
-use Rattle.std.proofs.Common.{List, [], ◌∷◌, ◌&&◌, Option, Some, None}
+use Rattle.std.proofs.Common.{◌≡◌, ◌≢◌, ◌∙◌, refl, sym, ap, true, false, not, Bool, ℕ, cond, List}
+use Rattle.std.proofs.Common.{[], ◌∷◌, ◌&&◌, Option, Some, None}
 use Rattle.std.specs.Map.{lookup, keys_of}
 use Rattle.std.specs.BTreeMap.{is_at}
 use Rattle.std.specs.BTreeMap.Range.{entries_between, is_from_start}
@@ -90,9 +90,9 @@ module _ (kind : Finding → Bool) (last : Option (List ℕ)) (e : List ℕ × F
         let same = path_tied q e.0 tie in
         let found : Some e.1 ≡ Some s.finding = sym (lookup_head (is_at (path_cmp q)) e es tie)
         ∙ s.found in
-        let kind_is : kind e.1 ≡ true = subst (λ (f : Finding). kind f ≡ true) (cc found) s.fits in
-        let after_is : is_after last e.0 ≡ true =
-        if_after last e.0 (subst (λ (p : List ℕ). ComesAfter last p) same s.after) in
+        let finding : s.finding ≡ e.1 = cc found in
+        let kind_is : kind e.1 ≡ true = rw finding at s.fits in
+        let after_is : is_after last e.0 ≡ true = if_after last e.0 (rw same at s.after) in
         absurd (cc (and_from (is_after last e.0) (kind e.1) after_is kind_is, fails))
     in_tail_by q fails s false tie =
         record {
@@ -124,8 +124,8 @@ module _ (kind : Finding → Bool) (last : Option (List ℕ)) (e : List ℕ × F
         → (first_from kind last es ≡ Some path → IsNext kind last es path) → (b : Bool)
         → (is_after last e.0 && kind e.1) ≡ b → cond b (Some e.0) (first_from kind last es)
         ≡ Some path → IsNext kind last (e ∷ es) path
-    next_step path rises more true pass is = subst (λ (p : List ℕ). IsNext kind last (e ∷ es) p)
-        (cc is) (next_here rises pass)
+    next_step path rises more true pass is =
+        let same : e.0 ≡ path = cc is in rw (← same) (next_here rises pass)
     next_step path rises more false fails is = next_later path rises fails (more is)
 
     last_step : ((first_from kind last es) ≡ None → IsLast kind last es) → (b : Bool)

@@ -61,8 +61,11 @@ module _ {less more : TableSlots} {fewer most : PathKeys} {lower upper : Address
   -- It comes
 
   module _ (are : AreIndexes (findings less) fewer lower) where
-    come_at : (q : List ℕ) (k : ℕ) → key_of_path most q ≡ Some k → ((q ≡ path) × (k ≡ key))
-        ⊎ ((key_of_path fewer q ≡ Some k) × (k ≢ key))
+    -- the key that came with the path, or another one
+    abbrev Came : List ℕ → ℕ → Type 0
+    Came q k = ((q ≡ path) × (k ≡ key)) ⊎ ((key_of_path fewer q ≡ Some k) × (k ≢ key))
+
+    come_at : (q : List ℕ) (k : ℕ) → key_of_path most q ≡ Some k → Came q k
     come_at q k h = elim (cases_path q path) [
       | inl e ↦ let is = ap (key_of_path most) e ∙ d.at in inl (e, cc (h, is))
       | inr ne ↦
@@ -70,9 +73,7 @@ module _ {less more : TableSlots} {fewer most : PathKeys} {lower upper : Address
           inr (was, some_apart k (are.stands q k was))
     ]
 
-    come_once : (p q : List ℕ) (k : ℕ) → ((p ≡ path) × (k ≡ key))
-        ⊎ ((key_of_path fewer p ≡ Some k) × (k ≢ key)) → ((q ≡ path) × (k ≡ key))
-        ⊎ ((key_of_path fewer q ≡ Some k) × (k ≢ key)) → q ≡ p
+    come_once : (p q : List ℕ) (k : ℕ) → Came p k → Came q k → q ≡ p
     come_once p q k (inl x) (inl y) = y.0 ∙ sym x.0
     come_once p q k (inl x) (inr y) = absurd (y.1 x.1)
     come_once p q k (inr x) (inl y) = absurd (x.1 y.1)
@@ -123,7 +124,7 @@ module _ {less more : TableSlots} {fewer most : PathKeys} {lower upper : Address
     come_piped piped fits q k t h stands = elim (come_at q k h) [
       | inl here ↦
           let is : s ≡ t = same_Some s t (sym d.stands ∙ ap more (sym here.1) ∙ stands) in
-          subst (IsPiped q) is (subst (λ (r : List ℕ). IsPiped r s) (sym here.0) fits)
+          subst (IsPiped q) is (rw here.0 fits)
       | inr there ↦ piped q k t there.0 (sym (d.others k there.1) ∙ stands)
     ]
 
@@ -234,7 +235,7 @@ off_path path q slot was ne =
 module _ (found slot : Option ℕ) (old new : AddressKeys) (a : ℕ) where
   at_address : found ≡ Some a → UpdatesAddress found slot old new → key_of_address new a ≡ slot
   at_address is updates =
-      subst (λ o. UpdatesAddress o slot old new) is updates a
+      (rw is at updates) a
       ∙ ap (λ b. cond b slot (key_of_address old a)) (number_itself a)
 
   off_address : found ≢ Some a → UpdatesAddress found slot old new
@@ -262,8 +263,7 @@ module _ (less more : TableSlots) (path : List ℕ) (key : ℕ) (s : Entry) (vac
     away = away;
     at = enters.path_keys path ∙ at_path path _ _;
     apart = λ q ne. enters.path_keys q ∙ off_path path q _ _ ne;
-    free = λ a is. subst (λ (o : Option ℕ). IfSome o
-        (λ x. key_of_address before.by_address.entries x ≡ None)) is free;
+    free = λ a is. rw is at free;
     addressed = λ a is. at_address _ _ _ _ a is enters.address_keys;
     elsewhere = λ a ne. off_address _ _ _ _ a ne enters.address_keys;
   }

@@ -1,7 +1,7 @@
 -- What is known of a port hangs on its hub alone.
-use Rattle.std.proofs.Common.{◌≡◌, ◌∙◌, refl, sym, ap, subst, arith, length-append, true, false}
-use Rattle.std.proofs.Common.{Bool, ℕ, ◌+◌, ◌<◌, List, [], ◌∷◌, length, not, Option, Some, None}
-use Rattle.std.proofs.Common.{◌||◌, ◌≤◌, if◌then◌else◌, nat_eq, nat_le}
+use Rattle.std.proofs.Common.{◌≡◌, ◌∙◌, refl, sym, ap, arith, length-append, true, false, Bool, ℕ}
+use Rattle.std.proofs.Common.{◌+◌, ◌<◌, List, [], ◌∷◌, length, not, Option, Some, None, ◌||◌, ◌≤◌}
+use Rattle.std.proofs.Common.{if◌then◌else◌, nat_eq, nat_le}
 use Rattle.std.specs.Map.{lookup}
 use Rattle.std.specs.BTreeMap.{is_at}
 use Rattle.std.specs.Cmp.Lexicographic.{pointwise, same_text}
@@ -38,8 +38,7 @@ kept_hub : (path hub : List ℕ) (es : Entries) → length hub < length path
     → lookup (is_at (path_cmp hub)) (without path es) ≡ lookup (is_at (path_cmp hub)) es
 kept_hub path hub es shorter =
     lookup-filter-keys (is_at (path_cmp hub)) (λ q. not (is_at_or_below q path)) true
-    (λ k tie. subst (λ (q : List ℕ). not (is_at_or_below q path) ≡ true) (path_tied hub k tie)
-    (rw (is_at_or_below-short hub path shorter) refl)) es
+    (λ k tie. rw (← path_tied hub k tie, is_at_or_below-short hub path shorter) refl) es
 
 pub parent_shorter : (path hub : List ℕ) → parent_of path ≡ Some hub → length hub < length path
 parent_shorter path hub is =

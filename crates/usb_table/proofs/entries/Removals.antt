@@ -1,6 +1,6 @@
 -- Entries that are taken out.
-use Rattle.std.proofs.Common.{◌≡◌, ◌∙◌, refl, ap, arith, subst, sym, ℕ, ◌+◌, List, [], ◌∷◌, length}
-use Rattle.std.proofs.Common.{Bool, true, false, cond, not, Some}
+use Rattle.std.proofs.Common.{◌≡◌, ◌∙◌, refl, ap, arith, ℕ, ◌+◌, List, [], ◌∷◌, length, Bool, true}
+use Rattle.std.proofs.Common.{false, cond, not, Some}
 use Rattle.std.specs.List.{filter}
 use Rattle.std.specs.Map.{lookup, remove_entry}
 use Rattle.std.specs.BTreeMap.{is_at}
@@ -23,8 +23,7 @@ length_without test (e ∷ es) v h =
 pub takes_one : (path : List ℕ) (finding : Finding) (old new : Table)
     → TakesOut path finding old new → length new.entries + 1 ≡ length old.entries
 takes_one path finding old new t =
-    subst (λ (left : Table). length left.entries + 1 ≡ length old.entries) (sym t.rest)
-    (length_without (is_at (path_cmp t.first)) old.entries finding t.found)
+    rw t.rest (length_without (is_at (path_cmp t.first)) old.entries finding t.found)
 
 -- a taken entry stood at the path or below it, so that what stands elsewhere is as before
 kept_step : (keep : List ℕ → Bool) (e : List ℕ × Finding) (es rest : Entries) (b : Bool)
@@ -44,8 +43,7 @@ pub taken_apart : (path : List ℕ) (finding : Finding) (old new : Table)
 taken_apart path finding old new t =
     ap (λ (left : Table). without path left.entries) t.rest
     ∙ kept_apart (λ q. not (is_at_or_below q path)) (is_at (path_cmp t.first))
-    (λ q tie. subst (λ r. not (is_at_or_below r path) ≡ false) (path_tied t.first q tie)
-    (rw t.at refl)) old.entries
+    (λ q tie. rw (← path_tied t.first q tie, t.at) refl) old.entries
 
 pub none_apart : (path : List ℕ) (es : Entries) → has_at path es ≡ false → without path es ≡ es
 none_apart path [] h = refl

@@ -3,27 +3,25 @@ use Rattle.usb_device.specs.{Location, EndpointData, EndpointState, Registers, b
 use Rattle.usb_device.specs.{SourceAt, PollAt, NeverTold, OnlyStage, OnlySink, OnlySource}
 use Rattle.usb_device.specs.{OnlyWrite, Spec, State, OutEnd, InEnd, endpoint_row, in_data, in_end}
 use Rattle.usb_device.specs.{IsSource, in_max, is_numbered, out_end, out_max, packet_in}
-use Rattle.usb_device.specs.{place_behind}
-use Rattle.usb_device.specs.{hub_ports, served_at, status_length, status_number, tells_changes}
-use Rattle.usb_device.specs.{text_of}
+use Rattle.usb_device.specs.{place_behind, hub_ports, served_at, status_length, status_number}
+use Rattle.usb_device.specs.{tells_changes, text_of}
 use Rattle.usb_descriptor.specs.{max_of_usable}
 use Rattle.usb_request.specs.{DIRECTION_IN}
-use Rattle.std.proofs.Common.{◌≡◌, ◌∙◌, refl, sym, ap, subst, true, false, ℕ, ◌+◌, ◌==◌, ◌≤◌}
-use Rattle.std.proofs.Common.{◌&&◌, List, [], Option, None, Some, Result, Ok, Err, IsOk, is_some}
-use Rattle.std.proofs.Common.{Bool, IfSome, eqb-true, length}
-use Rattle.std.specs.Global.{Vec}
+use Rattle.std.proofs.Common.{◌≡◌, ◌∙◌, refl, sym, ap, subst, true, false, ℕ, ◌+◌, ◌==◌, ◌≤◌, ◌&&◌}
+use Rattle.std.proofs.Common.{List, [], Option, None, Some, Result, Ok, Err, IsOk, is_some, Bool}
+use Rattle.std.proofs.Common.{IfSome, eqb-true, length}
 use Rattle.arrayvec.specs.ArrayVec.{ArrayVec}
 use Rattle.usb_packet.specs.{Toggle}
 use Rattle.usb_tree.specs.{address_of}
 use Rattle.usb_world.specs.{World}
 use Rattle.usb_transaction.specs.{IsStatusEndpoint, Target}
 use Rattle.usb_pipe.specs.{PipeFault, PipeState, Interrupt, OutPipeInSync, InPipeInSync, pipe_known}
-use Rattle.usb_pipe.specs.{got_after, SendLeaves, ReceiveLeaves, PacketLeaves, ClearLeaves}
-use Rattle.usb_pipe.specs.{PollLeaves, interrupt_made, pipe_made}
+use Rattle.usb_pipe.specs.{got_after, SendLeaves, ClearLeaves, PollLeaves, interrupt_made}
+use Rattle.usb_pipe.specs.{pipe_made}
 use Rattle.usb_enum.specs.{Accepted}
-use Rattle.usb_table.specs.{AreInPlace, FunctionInSync, FunctionPipes, pipe_at, with_pipe}
-use Rattle.usb_table.specs.{Pipes, Hub, Function, Absent, StatusPipeInSync, FitsOut, FitsIn}
-use Rattle.usb_table.specs.{PipesInSync, SameSettings}
+use Rattle.usb_table.specs.{AreInPlace, FunctionInSync, FunctionPipes, pipe_at, with_pipe, Pipes}
+use Rattle.usb_table.specs.{Hub, Function, Absent, StatusPipeInSync, FitsOut, FitsIn, PipesInSync}
+use Rattle.usb_table.specs.{SameSettings}
 use Rattle.usb_table.proofs.levels.StandingPipes.{at_elsewhere, at_with, same_number, same_way}
 use Rattle.usb_table.proofs.transfers.HaltClears.{in_cleared, out_cleared}
 use Rattle.usb_table.proofs.transfers.DevicesKept.{RanAs}
@@ -34,45 +32,43 @@ use Rattle.usb_table.proofs.transfers.DevicesKept.{RanAs}
 abbrev pub root : Location
 root = record { row = 0; rest = [] }
 
--- what depends on them alone
+-- the state of an endpoint of a direction (true: IN)
+abbrev pub state_at : Bool → State → ℕ → EndpointState
+state_at true s e = (in_end s e).state
+state_at false s e = (out_end s e).state
+
+-- a pipe of a direction, if there is one, is as far as its endpoint
+abbrev pub FitsWay : Bool → Option PipeState → State → Type 0
+FitsWay true = FitsIn
+FitsWay false = FitsOut
+
+pub way-none : (is_in : Bool) (s : State) → FitsWay is_in None s
+way-none true s = tt
+way-none false s = tt
+
+-- what depends on the settings alone
 same_seen : {X : Type 0} (seen : Spec → Registers → X) (s v : State) → SameSettings root s v
     → seen v.spec v.registers ≡ seen s.spec s.registers
 same_seen seen s v k = ap (λ (x : Spec). seen x v.registers) k.0 ∙ ap (seen s.spec) k.1
 
-pub same_out_max : (e : ℕ) (s v : State) → SameSettings root s v → out_max v e ≡ out_max s e
-same_out_max e = same_seen (λ x g. max_of_usable (served_at x g false e))
-
-pub same_in_max : (e : ℕ) (s v : State) → SameSettings root s v → in_max v e ≡ in_max s e
-same_in_max e = same_seen (λ x g. max_of_usable (served_at x g true e))
-
--- the text of its configuration, and its speed
+-- the text of its configuration
 pub same_text : (s v : State) → SameSettings root s v
     → text_of v.spec v.registers ≡ text_of s.spec s.registers
 same_text = same_seen text_of
 
-pub same_low : (s v : State) → SameSettings root s v → v.spec.low ≡ s.spec.low
-same_low s v k = ap (λ (x : Spec). x.low) k.0
-
-pub same_all : (s v : State) → SameSettings root s v
-    → length v.registers.settings ≡ length s.registers.settings
-same_all s v k = ap (λ (g : Registers). length g.settings) k.1
-
-pub same_tells : (s v : State) → SameSettings root s v → tells_changes v.spec v.registers
-    ≡ tells_changes s.spec s.registers
-same_tells = same_seen (λ x g. tells_changes x g)
-
 -- whether an IN endpoint is a hub's status endpoint
-pub same_alone : (e : ℕ) (s v : State) → SameSettings root s v
-    → (e == status_number v.spec v.registers && tells_changes v.spec v.registers)
-    ≡ (e == status_number s.spec s.registers && tells_changes s.spec s.registers)
-same_alone e = same_seen (λ x g. e == status_number x g && tells_changes x g)
+abbrev pub is_status : State → ℕ → Bool
+is_status s e = e == status_number s.spec s.registers && tells_changes s.spec s.registers
+
+same_status : (e : ℕ) (s v : State) → SameSettings root s v → is_status v e ≡ is_status s e
+same_status e = same_seen (λ x g. e == status_number x g && tells_changes x g)
 
 -- the endpoint that tells of changes, and how many bytes it gives (11.12.4)
 pub status_same : (t : Target) (ep : ℕ) (s v : State) → SameSettings root s v
     → IsStatusEndpoint t ep s → IsStatusEndpoint t ep v
 status_same t ep s v k to = record {
   number = to.number ∙ sym (same_seen status_number s v k);
-  tells = same_tells s v k ∙ to.tells;
+  tells = same_seen tells_changes s v k ∙ to.tells;
   fits = subst (λ n. n ≤ t.max)
       (sym (same_seen (λ x g. status_length (hub_ports x.hub)) s v k)) to.fits;
 }
@@ -81,16 +77,28 @@ pub same_in_data : (e : ℕ) (s v : State) → SameSettings root s v → in_data
 same_in_data e = same_seen (λ x g. data_by (endpoint_row x.endpoints (DIRECTION_IN + e)) x.source
     (is_numbered e (bulk_at x g true)))
 
-still_sink : (pipe : PipeState) (s v : State) → SameSettings root s v
-    → (out_end v pipe.ep).state ≡ (out_end s pipe.ep).state → OutPipeInSync pipe s
+-- an endpoint keeps its toggle, and its halt
+abbrev pub MayHalt : EndpointState → EndpointState → Type 0
+MayHalt before after = (after.toggle ≡ before.toggle) × (before.halted ≡ true
+    → after.halted ≡ true)
+
+pub same_halts : (before after : EndpointState) → after ≡ before → MayHalt before after
+same_halts before after e = (
+  ap (λ (x : EndpointState). x.toggle) e,
+  λ h. ap (λ (x : EndpointState). x.halted) e ∙ h,
+)
+
+-- the endpoint of an OUT pipe is as large as it was
+pub sink_level : (pipe : PipeState) (s v : State) → out_max v pipe.ep ≡ out_max s pipe.ep
+    → MayHalt (out_end s pipe.ep).state (out_end v pipe.ep).state → OutPipeInSync pipe s
     → OutPipeInSync pipe v
-still_sink pipe s v k e f = record {
+sink_level pipe s v most may f = record {
   endpoint = record {
-    endpoint = same_out_max pipe.ep s v k ∙ f.endpoint.endpoint;
+    endpoint = most ∙ f.endpoint.endpoint;
     not_zero = f.endpoint.not_zero;
   };
-  level = λ ready. ap (λ (x : EndpointState). x.toggle) e ∙ f.level ready;
-  halted = λ halts. ap (λ (x : EndpointState). x.halted) e ∙ f.halted halts;
+  level = λ ready. may.0 ∙ f.level ready;
+  halted = λ halts. may.1 (f.halted halts);
 }
 
 -- what comes next of an endpoint that is where it was
@@ -101,7 +109,7 @@ same_next seen ep s v data_same place =
     ap (λ content. seen content (in_end v ep).place) data_same
     ∙ ap (seen (in_data s ep)) place
 
-pub source_at-same : (ep most got : ℕ) (t : Toggle) (s v : State) → in_data v ep ≡ in_data s ep
+source_at-same : (ep most got : ℕ) (t : Toggle) (s v : State) → in_data v ep ≡ in_data s ep
     → (in_end v ep).place ≡ (in_end s ep).place
     → (in_end v ep).state.toggle ≡ (in_end s ep).state.toggle
     → SourceAt ep most got t s → SourceAt ep most got t v
@@ -112,32 +120,52 @@ source_at-same ep most got t s v same place e (SourceAt.ahead a b c) =
     (a ∙ sym (same_next (λ content n. place_behind content most n) ep s v same place))
     (same_next (λ content n. is_some (packet_in content most n)) ep s v same place ∙ b) (e ∙ c)
 
-pub still_source_at : (ep most got : ℕ) (t : Toggle) (s v : State) → SameSettings root s v
-    → (in_end v ep).place ≡ (in_end s ep).place
-    → (in_end v ep).state.toggle ≡ (in_end s ep).state.toggle
-    → SourceAt ep most got t s → SourceAt ep most got t v
-still_source_at ep most got t s v k = source_at-same ep most got t s v (same_in_data ep s v k)
+-- that of an IN pipe is as large as it was, and where it was
+pub source_level : (pipe : PipeState) (got : ℕ) (s v : State)
+    → in_max v pipe.ep ≡ in_max s pipe.ep → is_status v pipe.ep ≡ is_status s pipe.ep
+    → in_data v pipe.ep ≡ in_data s pipe.ep
+    → (in_end v pipe.ep).place ≡ (in_end s pipe.ep).place
+    → MayHalt (in_end s pipe.ep).state (in_end v pipe.ep).state → InPipeInSync pipe got s
+    → InPipeInSync pipe got v
+source_level pipe got s v most alone same place may f = record {
+  endpoint = record {
+    endpoint = most ∙ f.endpoint.endpoint;
+    not_zero = f.endpoint.not_zero;
+    alone = alone ∙ f.endpoint.alone;
+  };
+  level = λ ready. source_at-same pipe.ep pipe.max got pipe.toggle s v same place may.0
+      (f.level ready);
+  halted = λ halts. may.1 (f.halted halts);
+}
+
+-- no setting changed
+pub set_sink : (pipe : PipeState) (s v : State) → SameSettings root s v
+    → MayHalt (out_end s pipe.ep).state (out_end v pipe.ep).state → OutPipeInSync pipe s
+    → OutPipeInSync pipe v
+set_sink pipe s v k =
+    sink_level pipe s v (same_seen (λ x g. max_of_usable (served_at x g false pipe.ep)) s v k)
+
+pub set_source : (pipe : PipeState) (got : ℕ) (s v : State) → SameSettings root s v
+    → (in_end v pipe.ep).place ≡ (in_end s pipe.ep).place
+    → MayHalt (in_end s pipe.ep).state (in_end v pipe.ep).state → InPipeInSync pipe got s
+    → InPipeInSync pipe got v
+set_source pipe got s v k =
+    source_level pipe got s v
+    (same_seen (λ x g. max_of_usable (served_at x g true pipe.ep)) s v k)
+    (same_status pipe.ep s v k) (same_in_data pipe.ep s v k)
 
 -- the endpoint of an IN pipe is as far as it was
 pub still_source : (pipe : PipeState) (got : ℕ) (s v : State) → SameSettings root s v
     → (in_end v pipe.ep).place ≡ (in_end s pipe.ep).place
     → (in_end v pipe.ep).state ≡ (in_end s pipe.ep).state → InPipeInSync pipe got s
     → InPipeInSync pipe got v
-still_source pipe got s v k place e f = record {
-  endpoint = record {
-    endpoint = same_in_max pipe.ep s v k ∙ f.endpoint.endpoint;
-    not_zero = f.endpoint.not_zero;
-    alone = same_alone pipe.ep s v k ∙ f.endpoint.alone;
-  };
-  level = λ ready. still_source_at pipe.ep pipe.max got pipe.toggle s v k place
-      (ap (λ (x : EndpointState). x.toggle) e) (f.level ready);
-  halted = λ halts. ap (λ (x : EndpointState). x.halted) e ∙ f.halted halts;
-}
+still_source pipe got s v k place e = set_source pipe got s v k place (same_halts _ _ e)
 
 still_out : (out : Option PipeState) (s v : State) → SameSettings root s v
     → ((e : ℕ) → out_end v e ≡ out_end s e) → FitsOut out s → FitsOut out v
 still_out None s v k e f = tt
-still_out (Some pipe) s v k e f = still_sink pipe s v k (ap (λ (x : OutEnd). x.state) (e pipe.ep)) f
+still_out (Some pipe) s v k e f =
+    set_sink pipe s v k (same_halts _ _ (ap (λ (x : OutEnd). x.state) (e pipe.ep))) f
 
 fits_in-same : (into : Option PipeState) (s v : State) → SameSettings root s v
     → ((e : ℕ) → in_end v e ≡ in_end s e) → FitsIn into s → FitsIn into v
@@ -164,6 +192,20 @@ still_status pipe s v k e held f = record {
   runs = ap (λ (x : EndpointState). x.halted) e ∙ f.runs;
 }
 
+-- where no setting changed, the pipes that fit are level
+pub function_level : {device : Accepted} {pipes : FunctionPipes} (left : FunctionPipes)
+    (s v : State) → SameSettings root s v → FunctionInSync device pipes s
+    → ((e : ℕ) → FitsOut (pipe_at false e left) v) → ((e : ℕ) → FitsIn (pipe_at true e left) v)
+    → FunctionInSync device left v
+function_level left s v k f outs ins = record {
+  text = same_text s v k ∙ f.text;
+  low = ap (λ (x : Spec). x.low) k.0 ∙ f.low;
+  quiet = same_seen tells_changes s v k ∙ f.quiet;
+  settings = ap (λ (g : Registers). length g.settings) k.1 ∙ f.settings;
+  outs = outs;
+  ins = ins;
+}
+
 -- no setting changed, nor where an endpoint stands but endpoint 0
 record StillEnds (s v : State) : Type 0 where
   settings : SameSettings root s v
@@ -175,37 +217,34 @@ record StillEnds (s v : State) : Type 0 where
 still_ends : (device : Accepted) (pipes : Pipes) (s v : State) → StillEnds s v
     → PipesInSync device pipes s → PipesInSync device pipes v
 still_ends device (Hub pipe) s v x f = still_status pipe s v x.settings x.changes x.held f
-still_ends device (Function pipes) s v x f = record {
-  text = same_text s v x.settings ∙ f.text;
-  low = same_low s v x.settings ∙ f.low;
-  quiet = same_tells s v x.settings ∙ f.quiet;
-  settings = same_all s v x.settings ∙ f.settings;
-  outs = λ e. still_out (pipe_at false e pipes) s v x.settings x.outs (f.outs e);
-  ins = λ e. fits_in-same (pipe_at true e pipes) s v x.settings x.ins (f.ins e);
-}
+still_ends device (Function pipes) s v x f = function_level pipes s v x.settings f
+    (λ e. still_out (pipe_at false e pipes) s v x.settings x.outs (f.outs e))
+    (λ e. fits_in-same (pipe_at true e pipes) s v x.settings x.ins (f.ins e))
 still_ends device (Absent said) s v x f = tt
 
 -- where nothing changed but where the device's transfer stands
 pub still_level : (device : Accepted) (pipes : Pipes) (s v : State) → OnlyStage s v
     → PipesInSync device pipes s → PipesInSync device pipes v
-still_level device pipes s v frame = still_ends device pipes s v (record {
-  settings = (ap (λ (d : State). d.spec) frame, ap (λ (d : State). d.registers) frame);
-  changes = ap (λ (d : State). d.changes) frame;
-  held = ap (λ (d : State). d.held) frame;
-  outs = λ e. ap (λ (d : State). out_end d e) frame;
-  ins = λ e. ap (λ (d : State). in_end d e) frame;
-})
+still_level device pipes s v frame f = subst (PipesInSync device pipes) (sym frame)
+    (still_ends device pipes s _ (record {
+      settings = (refl, refl);
+      changes = refl;
+      held = refl;
+      outs = λ e. refl;
+      ins = λ e. refl;
+    }) f)
 
 -- and the data that control transfers brought
 pub written_level : (device : Accepted) (pipes : Pipes) (s v : State) → OnlyWrite s v
     → PipesInSync device pipes s → PipesInSync device pipes v
-written_level device pipes s v frame = still_ends device pipes s v (record {
-  settings = (ap (λ (d : State). d.spec) frame, ap (λ (d : State). d.registers) frame);
-  changes = ap (λ (d : State). d.changes) frame;
-  held = ap (λ (d : State). d.held) frame;
-  outs = λ e. ap (λ (d : State). out_end d e) frame;
-  ins = λ e. ap (λ (d : State). in_end d e) frame;
-})
+written_level device pipes s v frame f = subst (PipesInSync device pipes) (sym frame)
+    (still_ends device pipes s _ (record {
+      settings = (refl, refl);
+      changes = refl;
+      held = refl;
+      outs = λ e. refl;
+      ins = λ e. refl;
+    }) f)
 
 -- The pipes to a function, of which a call went through one
 
@@ -214,22 +253,20 @@ out_beside : (e : ℕ) (out : Option PipeState) (s v : State)
     → IfSome out (λ (p : PipeState). (p.is_in ≡ false) × (p.ep ≡ e)) → SameSettings root s v
     → out_end v e ≡ out_end s e → FitsOut out s → FitsOut out v
 out_beside e None s v place k same f = tt
-out_beside e (Some pipe) s v place k same f = still_sink pipe s v k
-    (ap (λ n. (out_end v n).state) place.1 ∙ ap (λ (x : OutEnd). x.state) same
-    ∙ ap (λ n. (out_end s n).state) (sym place.1)) f
+out_beside e (Some pipe) s v place k same f =
+    let end : out_end v pipe.ep ≡ out_end s pipe.ep = rw place.1 same in
+    set_sink pipe s v k (same_halts _ _ (ap (λ (x : OutEnd). x.state) end)) f
 
 in_beside : (e : ℕ) (into : Option PipeState) (s v : State)
     → IfSome into (λ (p : PipeState). (p.is_in ≡ true) × (p.ep ≡ e)) → SameSettings root s v
     → in_end v e ≡ in_end s e → FitsIn into s → FitsIn into v
 in_beside e None s v place k same f = tt
-in_beside e (Some pipe) s v place k same f = (
-  f.0,
-  still_source pipe f.0 s v k
-      (ap (λ n. (in_end v n).place) place.1 ∙ ap (λ (x : InEnd). x.place) same
-      ∙ ap (λ n. (in_end s n).place) (sym place.1))
-      (ap (λ n. (in_end v n).state) place.1 ∙ ap (λ (x : InEnd). x.state) same
-      ∙ ap (λ n. (in_end s n).state) (sym place.1)) f.1,
-)
+in_beside e (Some pipe) s v place k same (got, f) =
+    let end : in_end v pipe.ep ≡ in_end s pipe.ep = rw place.1 same in (
+      got,
+      still_source pipe got s v k (ap (λ (x : InEnd). x.place) end)
+          (ap (λ (x : InEnd). x.state) end) f,
+    )
 
 module _ (device : Accepted) (pipes : FunctionPipes) (placed : AreInPlace pipes)
     (left : PipeState) (s v : State) (k : SameSettings root s v)
@@ -237,50 +274,44 @@ module _ (device : Accepted) (pipes : FunctionPipes) (placed : AreInPlace pipes)
   pub out_fits : left.is_in ≡ false → OutPipeInSync left v
       → ((e : ℕ) → (e == left.ep) ≡ false → out_end v e ≡ out_end s e)
       → ((e : ℕ) → in_end v e ≡ in_end s e) → FunctionInSync device (with_pipe left pipes) v
-  out_fits way fits outs ins = record {
-    text = same_text s v k ∙ f.text;
-    low = same_low s v k ∙ f.low;
-    quiet = same_tells s v k ∙ f.quiet;
-    settings = same_all s v k ∙ f.settings;
-    outs = λ e. by_number e (e == left.ep) refl;
-    ins = λ e. subst (λ o. FitsIn o v)
-        (sym (at_elsewhere left pipes true e (λ same. cc (sym way ∙ same))))
-        (fits_in-same (pipe_at true e pipes) s v k ins (f.ins e));
-  }
+  out_fits way fits outs ins = function_level (with_pipe left pipes) s v k f
+      (λ e. by_number e (e == left.ep) refl)
+      (λ e. rw (at_elsewhere left pipes true e (λ same. cc (sym way ∙ same)))
+      (fits_in-same (pipe_at true e pipes) s v k ins (f.ins e)))
     where
       by_number : (e : ℕ) (b : Bool) → (e == left.ep) ≡ b
           → FitsOut (pipe_at false e (with_pipe left pipes)) v
-      by_number e true at = subst (λ o. FitsOut o v)
-          (sym (ap (λ n. pipe_at false n (with_pipe left pipes)) (eqb-true e left.ep at)
-          ∙ ap (λ b. pipe_at b left.ep (with_pipe left pipes)) (sym way) ∙ at_with left pipes))
-          fits
-      by_number e false apart = subst (λ o. FitsOut o v)
-          (sym (at_elsewhere left pipes false e (λ same. apart)))
+      by_number e true at =
+          rw (at_with left pipes false e way (sym (eqb-true e left.ep at))) fits
+      by_number e false apart = rw (at_elsewhere left pipes false e (λ same. apart))
           (out_beside e (pipe_at false e pipes) s v (placed false e) k (outs e apart) (f.outs e))
 
   pub in_fits : left.is_in ≡ true → FitsIn (Some left) v → ((e : ℕ) → out_end v e ≡ out_end s e)
       → ((e : ℕ) → (e == left.ep) ≡ false → in_end v e ≡ in_end s e)
       → FunctionInSync device (with_pipe left pipes) v
-  in_fits way fits outs ins = record {
-    text = same_text s v k ∙ f.text;
-    low = same_low s v k ∙ f.low;
-    quiet = same_tells s v k ∙ f.quiet;
-    settings = same_all s v k ∙ f.settings;
-    outs = λ e. subst (λ o. FitsOut o v)
-        (sym (at_elsewhere left pipes false e (λ same. cc (sym way ∙ same))))
-        (still_out (pipe_at false e pipes) s v k outs (f.outs e));
-    ins = λ e. by_number e (e == left.ep) refl;
-  }
+  in_fits way fits outs ins = function_level (with_pipe left pipes) s v k f
+      (λ e. rw (at_elsewhere left pipes false e (λ same. cc (sym way ∙ same)))
+      (still_out (pipe_at false e pipes) s v k outs (f.outs e)))
+      (λ e. by_number e (e == left.ep) refl)
     where
       by_number : (e : ℕ) (b : Bool) → (e == left.ep) ≡ b
           → FitsIn (pipe_at true e (with_pipe left pipes)) v
-      by_number e true at = subst (λ o. FitsIn o v)
-          (sym (ap (λ n. pipe_at true n (with_pipe left pipes)) (eqb-true e left.ep at)
-          ∙ ap (λ b. pipe_at b left.ep (with_pipe left pipes)) (sym way) ∙ at_with left pipes))
-          fits
-      by_number e false apart = subst (λ o. FitsIn o v)
-          (sym (at_elsewhere left pipes true e (λ same. apart)))
+      by_number e true at =
+          rw (at_with left pipes true e way (sym (eqb-true e left.ep at))) fits
+      by_number e false apart = rw (at_elsewhere left pipes true e (λ same. apart))
           (in_beside e (pipe_at true e pipes) s v (placed true e) k (ins e apart) (f.ins e))
+
+-- where it stands among them
+module _ {device : Accepted} {pipes : FunctionPipes} (pipe : PipeState)
+    (at : pipe_at pipe.is_in pipe.ep pipes ≡ Some pipe) (s : State)
+    (f : FunctionInSync device pipes s) where
+  pub out_of : pipe.is_in ≡ false → OutPipeInSync pipe s
+  out_of out = subst (λ o. FitsOut o s) (ap (λ b. pipe_at b pipe.ep pipes) (sym out) ∙ at)
+      (f.outs pipe.ep)
+
+  pub in_of : pipe.is_in ≡ true → FitsIn (Some pipe) s
+  in_of into = subst (λ o. FitsIn o s) (ap (λ b. pipe_at b pipe.ep pipes) (sym into) ∙ at)
+      (f.ins pipe.ep)
 
 -- A call through the pipes to the device of an address
 
@@ -335,16 +366,6 @@ module _ (device : Accepted) (ends : Type 0) (pipes : FunctionPipes) (placed : A
   apart_of : (e : ℕ) → (e == left.ep) ≡ false → (e == pipe.ep) ≡ false
   apart_of e apart = ap (λ n. e == n) (sym number) ∙ apart
 
-  pub out_of : (s : State) → pipe.is_in ≡ false → FunctionInSync device pipes s
-      → OutPipeInSync pipe s
-  out_of s out f = subst (λ o. FitsOut o s) (ap (λ b. pipe_at b pipe.ep pipes) (sym out) ∙ at)
-      (f.outs pipe.ep)
-
-  pub in_of : (s : State) → pipe.is_in ≡ true → FunctionInSync device pipes s
-      → FitsIn (Some pipe) s
-  in_of s into f = subst (λ o. FitsIn o s) (ap (λ b. pipe_at b pipe.ep pipes) (sym into) ∙ at)
-      (f.ins pipe.ep)
-
   pub send_moves : (bytes : List ℕ) (answer : Result (Unit {0}) PipeFault) (j : Location)
       (s v : State) → (ends → pipe_known answer left ≡ left) → pipe.is_in ≡ false
       → SendLeaves bytes pipe answer left j s v → SameSettings j s v
@@ -354,7 +375,7 @@ module _ (device : Accepted) (ends : Type 0) (pipes : FunctionPipes) (placed : A
     others = x.others;
     same = ap (λ (g : Registers). g.address) k.1;
     itself = λ e there f.
-        let level = out_of s out f in
+        let level = out_of pipe at s f out in
         let frame : OnlySink pipe.ep s v = x.frame level.endpoint in
         out_fits device pipes placed left s v k f (way ∙ out)
         (known_itself ends answer left v OutPipeInSync is e (x.fits there level))
@@ -363,7 +384,7 @@ module _ (device : Accepted) (ends : Type 0) (pipes : FunctionPipes) (placed : A
   }
 
   -- an IN pipe, by what it got then
-  given_moves : {A : Type 0} (answer : Result A PipeFault) (j : Location) (s v : State)
+  pub given_moves : {A : Type 0} (answer : Result A PipeFault) (j : Location) (s v : State)
       → (ends → pipe_known answer left ≡ left) → pipe.is_in ≡ true
       → ((address_of s == pipe.target.addr) ≡ false → v ≡ s)
       → (IsSource pipe.ep pipe.max s → OnlySource pipe.ep s v)
@@ -375,7 +396,7 @@ module _ (device : Accepted) (ends : Type 0) (pipes : FunctionPipes) (placed : A
     others = others;
     same = ap (λ (g : Registers). g.address) k.1;
     itself = λ e there f.
-        let level = in_of s into f in
+        let level = in_of pipe at s f into in
         let only : OnlySource pipe.ep s v = frame level.1.endpoint in
         in_fits device pipes placed left s v k f (way ∙ into)
         (known_itself ends answer left v (λ b w. FitsIn (Some b) w) is e
@@ -383,22 +404,6 @@ module _ (device : Accepted) (ends : Type 0) (pipes : FunctionPipes) (placed : A
         (λ a. ap (λ (d : State). out_end d a) only.rest)
         (λ a apart. only.others a (apart_of a apart));
   }
-
-  pub receive_moves : (answer : Result (Vec ℕ) PipeFault) (j : Location) (s v : State)
-      → (ends → pipe_known answer left ≡ left) → pipe.is_in ≡ true
-      → ReceiveLeaves pipe answer left j s v → SameSettings j s v
-      → PipesMove device pipe.target.addr ends (Function pipes) (Function (with_pipe left pipes)) j
-      s v
-  receive_moves answer j s v is into x k = given_moves answer j s v is into x.others x.frame
-      (λ there got f. let g = x.gave there got f in (g.behind, g.level)) k
-
-  pub packet_moves : (answer : Result (Option (ArrayVec ℕ)) PipeFault) (j : Location)
-      (s v : State) → (ends → pipe_known answer left ≡ left) → pipe.is_in ≡ true
-      → PacketLeaves pipe answer left j s v → SameSettings j s v
-      → PipesMove device pipe.target.addr ends (Function pipes) (Function (with_pipe left pipes)) j
-      s v
-  packet_moves answer j s v is into x k = given_moves answer j s v is into x.others x.frame
-      (λ there got f. let g = x.gave there got f in (g.behind, g.level)) k
 
   pub clear_moves : (is_sent : Bool) (answer : Result (Unit {0}) PipeFault) (j : Location)
       (s v : State) → (ends → pipe_known answer left ≡ left)
@@ -414,13 +419,13 @@ module _ (device : Accepted) (ends : Type 0) (pipes : FunctionPipes) (placed : A
       by_way : (b : Bool) → pipe.is_in ≡ b → ends → (address_of s == pipe.target.addr) ≡ true
           → FunctionInSync device pipes s → FunctionInSync device (with_pipe left pipes) v
       by_way false out e there f =
-          let level = out_of s out f in
+          let level = out_of pipe at s f out in
           let only = out_cleared pipe.ep s v (x.only_sink out level.endpoint) in
           out_fits device pipes placed left s v k f (way ∙ out)
           (known_itself ends answer left v OutPipeInSync is e (x.sink there out level).0)
           (λ a apart. only.others a (apart_of a apart)) only.ins
       by_way true into e there f =
-          let level = in_of s into f in
+          let level = in_of pipe at s f into in
           let got : ℕ = got_after is_sent level.0 answer (in_end s pipe.ep).place in
           let only = in_cleared pipe.ep s v (x.only_source into level.1.endpoint) in
           in_fits device pipes placed left s v k f (way ∙ into) (

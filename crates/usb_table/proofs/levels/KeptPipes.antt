@@ -1,6 +1,6 @@
 -- A transfer leaves pipes to the same endpoints.
-use Rattle.std.proofs.Common.{◌≡◌, ◌≢◌, refl, sym, inl, inr, ap, subst, ◌∙◌, ◌⊎◌, ℕ, List, [], ◌∷◌}
-use Rattle.std.proofs.Common.{Bool, true, false, Option, Some, None, get_or}
+use Rattle.std.proofs.Common.{◌≡◌, ◌≢◌, refl, inl, inr, ap, ◌∙◌, ◌⊎◌, ℕ, List, [], ◌∷◌, Bool, true}
+use Rattle.std.proofs.Common.{false, Option, Some, None}
 use Rattle.std.specs.Option.{option_map}
 use Rattle.arrayvec.specs.ArrayVec.{ArrayVec}
 use Rattle.usb_descriptor.specs.{EndpointKind, UsableEndpoint}
@@ -9,10 +9,8 @@ use Rattle.usb_pipe.specs.declared.condition.Condition.TheVariants.{Broken}
 use Rattle.usb_enum.specs.{Accepted, Finding}
 use Rattle.usb_enum.specs.declared.finding.Finding.TheVariants.{Device, Refused}
 use Rattle.usb_table.specs.{FunctionPipes, Pipes, Hub, Function, Absent, AreAbsent}
-use Rattle.usb_table.specs.{AreFunctionPipes}
-use Rattle.usb_table.specs.{IsPlace, end_under, lost_row, pipe_at}
-use Rattle.usb_table.specs.{IsStatusPipe, IsPipe, ArePipesTo, ArePipesOf, first_number}
-use Rattle.usb_table.specs.{function_made, pipes_made}
+use Rattle.usb_table.specs.{AreFunctionPipes, IsPlace, lost_row, IsStatusPipe, IsPipe, ArePipesTo}
+use Rattle.usb_table.specs.{ArePipesOf, first_number, function_made, pipes_made}
 use Rattle.usb_table.proofs.levels.StandingPipes.{at_made}
 
 pub broken_or_not : (c : Condition) → (c ≡ Broken) ⊎ (c ≢ Broken)
@@ -73,8 +71,7 @@ function_to device below_hub pipes left same are = record {
   settings = are.settings;
   all = are.all;
   each = λ is_in e.
-      subst (λ row. IsPlace device below_hub is_in e (end_under are.settings device is_in e)
-      (get_or row e None) (pipe_at is_in e left)) (sym (same_lost is_in pipes left same))
+      rw (same_lost is_in pipes left same)
       (place_to device below_hub is_in e _ _ _ _ (at_made is_in e pipes left same)
       (are.each is_in e));
   first = λ is_in. same_first is_in pipes left same ∙ are.first is_in;
@@ -86,8 +83,7 @@ status_to : (device : Accepted) (below_hub : Bool) (pipe left : Interrupt)
 status_to device below_hub pipe left same to =
     let made : IsStatusPipe device below_hub (interrupt_made pipe) =
     record { target = to.target; endpoint = to.endpoint; other = to.other } in
-    let back : IsStatusPipe device below_hub (interrupt_made left) =
-    subst (IsStatusPipe device below_hub) (sym same) made in
+    let back : IsStatusPipe device below_hub (interrupt_made left) = rw same made in
     record { target = back.target; endpoint = back.endpoint; other = back.other }
 
 pipes_to : (device : Accepted) (below_hub : Bool) (pipes left : Pipes)

@@ -1,6 +1,6 @@
 -- Calls through the pipes at a path leave the pipes of the table level.
-use Rattle.std.proofs.Common.{◌≡◌, ◌≢◌, ◌∙◌, refl, sym, ap, subst, Bool, true, false, suc, ℕ}
-use Rattle.std.proofs.Common.{◌==◌, eq-eqb, List, ◌∷◌, Option, Some, option_map}
+use Rattle.std.proofs.Common.{◌≡◌, ◌≢◌, ◌∙◌, refl, sym, ap, Bool, true, false, suc, ℕ, ◌==◌, eq-eqb}
+use Rattle.std.proofs.Common.{List, ◌∷◌, Option, Some, option_map}
 use Rattle.std.proofs.lemmas.Bool.{false_from_ne_true}
 use Rattle.std.proofs.lemmas.Option.{same_Some}
 use Rattle.std.specs.BTreeMap.{is_at}
@@ -32,12 +32,15 @@ pub address_found : (path : List ℕ) (entries : Entries) (device : Accepted)
     → entry_address path entries ≡ Some device.address
 address_found path entries device e = device_address (finding_at path entries) device e
 
--- a path is none that starts at no port of the root
-at_some_port : (table : Table) (w : World) (path : List ℕ)
-    → ((x : Location) → path ≡ path_to x → (device : Accepted) (s : State)
-    → accepted_device_at path table.entries ≡ Some device → reach_on w.roots x ≡ true
-    → state_on w.roots x ≡ Some s → PipesInSync device (pipes_at path table) s) → InSyncAt path
-    table w
+-- the pipes to the device at a path, where that starts at a port of the root
+abbrev InSyncFrom : List ℕ → Table → World → Type 0
+InSyncFrom path table w = (j : Location) → path ≡ path_to j → (device : Accepted) (s : State)
+    → accepted_device_at path table.entries ≡ Some device → reach_on w.roots j ≡ true
+    → state_on w.roots j ≡ Some s → PipesInSync device (pipes_at path table) s
+
+-- nothing is reached at any other path
+at_some_port : (table : Table) (w : World) (path : List ℕ) → InSyncFrom path table w
+    → InSyncAt path table w
 at_some_port table w (suc j ∷ p) f = record {
   level = λ device s e on there. f (record { row = j; rest = p }) refl device s e on there;
 }
@@ -76,7 +79,7 @@ stood_at path old j v e w = (ap (reach old.roots) e ∙ w.on, ap (state_there ol
 
 apart_or : (path x : List ℕ) → is_at (path_cmp path) x ≡ false → x ≢ path
 apart_or path x apart e = false_true (sym apart
-    ∙ subst (λ y. is_at (path_cmp path) y ≡ true) (sym e) (path_itself path))
+    ∙ rw e (path_itself path))
 
 module _ (path : List ℕ) (device : Accepted) (ends : Type 0) (pipes left : Pipes) (old new : Table)
     (before after : World) (stands : accepted_device_at path old.entries ≡ Some device)
@@ -96,9 +99,7 @@ module _ (path : List ℕ) (device : Accepted) (ends : Type 0) (pipes left : Pip
       → InSyncAt x old before → InSyncAt x new after
   others held x apart l = at_some_port new after x at
     where
-      at : (j : Location) → x ≡ path_to j → (d : Accepted) (s : State)
-          → accepted_device_at x new.entries ≡ Some d → reach_on after.roots j ≡ true
-          → state_on after.roots j ≡ Some s → PipesInSync d (pipes_at x new) s
+      at : InSyncFrom x new after
       at j e d s found on there =
           let w : Was (PipesMove device device.address ends pipes left) before j s =
           moves (single held) j s on there in
@@ -106,27 +107,21 @@ module _ (path : List ℕ) (device : Accepted) (ends : Type 0) (pipes left : Pip
           let kept : s ≡ w.before = w.so.others (false_from_ne_true _
           (λ at. apart_or path x apart (e ∙ sym (stands_there path old before held device stands
           device.address refl j w.before w.on w.stands at)))) in
-          subst (λ (q : Pipes). PipesInSync d q s) (sym (goes.others x apart))
-          (subst (PipesInSync d (pipes_at x old)) (sym kept)
-          (l.level d w.before (same_device x d found) stood.0 stood.1))
+          rw (goes.others x apart, kept)
+          (l.level d w.before (same_device x d found) stood.0 stood.1)
 
   itself : IsHeld old before → ends → InSyncAt path old before → InSyncAt path new after
   itself held e l = at_some_port new after path at
     where
-      at : (j : Location) → path ≡ path_to j → (d : Accepted) (s : State)
-          → accepted_device_at path new.entries ≡ Some d → reach_on after.roots j ≡ true
-          → state_on after.roots j ≡ Some s → PipesInSync d (pipes_at path new) s
+      at : InSyncFrom path new after
       at j x d s found on there =
           let w : Was (PipesMove device device.address ends pipes left) before j s =
           moves (single held) j s on there in
           let stood = stood_at path before j s x w in
           let has = held_address old before path device w.before held stands stood.0 stood.1 in
-          subst (λ (y : Accepted). PipesInSync y (pipes_at path new) s)
-          (same_Some device d (sym stands ∙ same_device path d found))
-          (subst (λ (q : Pipes). PipesInSync device q s) (sym is)
+          rw (← same_Some device d (sym stands ∙ same_device path d found), is)
           (w.so.itself e (eq-eqb (address_of w.before) device.address has)
-          (subst (λ (q : Pipes). PipesInSync device q w.before) was
-          (l.level device w.before stands stood.0 stood.1))))
+          (rw was at (l.level device w.before stands stood.0 stood.1)))
 
   pub moved_levels : (Worlds : World → World → Type 0) → Worlds before after
       → KeepsLevels Worlds path ends old before new after
@@ -137,8 +132,8 @@ module _ (path : List ℕ) (device : Accepted) (ends : Type 0) (pipes left : Pip
 level_at-same : (x : List ℕ) (old new : Table) (w : World) → new.entries ≡ old.entries
     → pipes_at x new ≡ pipes_at x old → InSyncAt x old w → InSyncAt x new w
 level_at-same x old new w e same l = record {
-  level = λ device s found on there. subst (λ (q : Pipes). PipesInSync device q s) (sym same)
-      (l.level device s (ap (accepted_device_at x) (sym e) ∙ found) on there);
+  level = λ device s found on there.
+      rw same (l.level device s (ap (accepted_device_at x) (sym e) ∙ found) on there);
 }
 
 pub still_levels : (Worlds : World → World → Type 0) (path : List ℕ) (ends : Type 0)
@@ -147,10 +142,9 @@ pub still_levels : (Worlds : World → World → Type 0) (path : List ℕ) (ends
     → KeepsLevels Worlds path ends old before new after
 still_levels Worlds path ends old new before after goes same none keeps = record {
   worlds = keeps;
-  others = λ held x apart l. subst (InSyncAt x new) (sym none)
-      (level_at-same x old new before goes.entries (goes.others x apart) l);
-  itself = λ held e l. subst (InSyncAt path new) (sym none)
-      (level_at-same path old new before goes.entries same l);
+  others = λ held x apart l.
+      rw none (level_at-same x old new before goes.entries (goes.others x apart) l);
+  itself = λ held e l. rw none (level_at-same path old new before goes.entries same l);
 }
 
 -- what a call through the pipes at a path leaves of all of them
@@ -160,8 +154,7 @@ pub all_kept : {Worlds : World → World → Type 0} (path : List ℕ) (ends : T
 all_kept path ends old new before after k held e all x = by_test (is_at (path_cmp path) x) refl
   where
     by_test : (b : Bool) → is_at (path_cmp path) x ≡ b → InSyncAt x new after
-    by_test true at = subst (λ y. InSyncAt y new after) (path_tied path x at)
-        (k.itself held e (all path))
+    by_test true at = rw (← path_tied path x at) (k.itself held e (all path))
     by_test false apart = k.others held x apart (all x)
 
 -- A call that is not through the pipes
@@ -172,9 +165,7 @@ module _ (table : Table) (old new : World) where
       → InSyncAt x table old → InSyncAt x table new
   level_if x was l = at_some_port table new x at
     where
-      at : (j : Location) → x ≡ path_to j → (d : Accepted) (s : State)
-          → accepted_device_at x table.entries ≡ Some d → reach_on new.roots j ≡ true
-          → state_on new.roots j ≡ Some s → PipesInSync d (pipes_at x table) s
+      at : InSyncFrom x table new
       at j e d s found on there =
           let w : Was StaysAs old j s = was j e s on there in
           let stood = stood_at x old j s e w in

@@ -1,26 +1,23 @@
 -- New pipes to a device that was just configured are level.
 use Rattle.std.proofs.Common.{◌≡◌, ◌∙◌, refl, sym, ap, subst, arith, Bool, true, false, ℕ, ◌==◌}
-use Rattle.std.proofs.Common.{◌≤◌, ◌<◌, ◌&&◌, not, if◌then◌else◌, List, [], length, Option, None}
-use Rattle.std.proofs.Common.{Some, map, min, take, get_or, nat_lt, slice_index, slice_index_or}
-use Rattle.std.proofs.Common.{is_some, inl, inr, ◌⊎◌}
-use Rattle.std.proofs.lemmas.Bool.{and_parts}
+use Rattle.std.proofs.Common.{◌≤◌, ◌&&◌, not, if◌then◌else◌, List, [], length, Option, None, Some}
+use Rattle.std.proofs.Common.{map, min, take, get_or, nat_lt, slice_index, slice_index_or, is_some}
+use Rattle.std.proofs.Common.{inl, inr}
+use Rattle.std.proofs.lemmas.Bool.{and_parts, cases_lt}
 use Rattle.std.proofs.lemmas.Bool.Decides.{nat_tests}
-use Rattle.std.proofs.lemmas.Bool.{cases_lt}
 use Rattle.std.proofs.lemmas.Option.{same_Some}
 use Rattle.std.proofs.lemmas.List.{get_or-map, get_or-replicate, get_or_past}
 use Rattle.std.proofs.lemmas.List.FromFn.{get_or-range_with_len}
 use Rattle.arrayvec.specs.ArrayVec.{ArrayVec}
 use Rattle.usb_request.specs.{HUB_CLASS}
 use Rattle.usb_descriptor.specs.{UsableEndpoint, max_of_usable, status_endpoint_of, usable_of}
-use Rattle.usb_descriptor.specs.{usable_under}
-use Rattle.usb_descriptor.specs.{default_settings}
+use Rattle.usb_descriptor.specs.{usable_under, default_settings}
 use Rattle.usb_descriptor.proofs.Interface.{length-default_settings, status_endpoint-wide}
 use Rattle.usb_descriptor.proofs.Interface.{usable_under-small}
-use Rattle.usb_device.specs.{EndpointState, end_numbers, served_at, tells_changes, text_of}
+use Rattle.usb_device.specs.{rested, EndpointState, end_numbers, served_at, tells_changes, text_of}
 use Rattle.usb_device.specs.{hub_ports, number_or_one, status_length, status_number, text_with}
-use Rattle.usb_device.specs.{total_of, PollAt}
-use Rattle.usb_device.specs.{SourceAt, State, Hub as HubSpec, IsSpec, has_hub_class}
-use Rattle.usb_device.specs.{hub_fits, in_end}
+use Rattle.usb_device.specs.{total_of, PollAt, SourceAt, State, Hub as HubSpec, IsSpec}
+use Rattle.usb_device.specs.{has_hub_class, hub_fits, in_end}
 use Rattle.usb_tree.proofs.Interface.{and_false}
 use Rattle.usb_transaction.specs.{Target}
 use Rattle.usb_pipe.specs.{PipeState}
@@ -28,12 +25,12 @@ use Rattle.usb_hub.specs.{IsFresh}
 use Rattle.usb_enum.specs.{Accepted, HubFacts, IsAs, texts_of, is_good_hub, gives_hub, target_of}
 use Rattle.usb_enum.specs.{configuration_of, holds_changes, is_hub_device, HostOptions, IsOwn}
 use Rattle.usb_enum.specs.declared.finding.Finding.TheVariants.{Device}
-use Rattle.usb_table.specs.{Function, FitsOut, FitsIn, PipesInSync, new_status, pipe_at}
-use Rattle.usb_table.specs.{IsPlace, lost_at, none_lost}
+use Rattle.usb_table.specs.{Function, PipesInSync, new_status, pipe_at, lost_at, none_lost}
 use Rattle.usb_table.specs.{AreFunctionPipes, IsPipe, first_endpoint, first_number, new_function}
-use Rattle.usb_table.specs.{new_pipe, new_pipes, number_of, row_of_ends, usable_end}
+use Rattle.usb_table.specs.{new_pipe, new_pipes, number_of, row_of_ends, usable_end, end_under}
 use Rattle.usb_enum.proofs.Interface.{AcceptsChosen, HasChosen, accepts, has_chosen}
 use Rattle.usb_pipe.proofs.Interface.{is_some_byte}
+use Rattle.usb_table.proofs.levels.FittingPipes.{FitsWay, state_at, way-none}
 
 -- New pipes stand at the endpoints that a pipe can use
 
@@ -43,48 +40,42 @@ made_end target is_in ends n = new_pipe target is_in n (ends n)
 pub row_of_ends-at : (target : Target) (is_in : Bool) (ends : ℕ → Option UsableEndpoint)
     → ((e : ℕ) → 16 ≤ e → ends e ≡ None) → (e : ℕ)
     → get_or (row_of_ends target is_in ends) e None ≡ new_pipe target is_in e (ends e)
-row_of_ends-at target is_in ends none e = by_size (nat_lt e 16) refl
-  where
-    by_size : (b : Bool) → nat_lt e 16 ≡ b
-        → get_or (row_of_ends target is_in ends) e None ≡ new_pipe target is_in e (ends e)
-    by_size true h =
-        let below : e < 16 = grind (arith, nat_tests, h) in
-        let same : get_or end_numbers e 0 ≡ e =
-        omega (arith, get_or-range_with_len 0 16 e 0 below) in
-        get_or-map (made_end target is_in ends) end_numbers e 0 None below
-        ∙ ap (made_end target is_in ends) same
-    by_size false h =
-        let beyond : 16 ≤ e = grind (arith, nat_tests, h) in
-        get_or_past (map (made_end target is_in ends) end_numbers) e None beyond
-        ∙ sym (ap (new_pipe target is_in e) (none e beyond))
+row_of_ends-at target is_in ends none e = elim (cases_lt e 16) [
+  | inl below ↦
+      let same : get_or end_numbers e 0 ≡ e =
+      omega (arith, get_or-range_with_len 0 16 e 0 below) in
+      get_or-map (made_end target is_in ends) end_numbers e 0 None below
+      ∙ ap (made_end target is_in ends) same
+  | inr beyond ↦ get_or_past (map (made_end target is_in ends) end_numbers) e None beyond
+      ∙ sym (ap (new_pipe target is_in e) (none e beyond))
+]
 
-none_beyond : (device : Accepted) (is_in : Bool) (e : ℕ) → 16 ≤ e
-    → usable_end device is_in e ≡ None
-none_beyond device is_in e beyond = by_end (usable_end device is_in e) refl
+-- an endpoint that a pipe can use has a number below 16
+pub none_at : (settings : List ℕ) (device : Accepted) (is_in : Bool) (e : ℕ) → 16 ≤ e
+    → end_under settings device is_in e ≡ None
+none_at settings device is_in e beyond = by_end (end_under settings device is_in e) refl
   where
-    by_end : (o : Option UsableEndpoint) → usable_end device is_in e ≡ o
-        → usable_end device is_in e ≡ None
+    by_end : (o : Option UsableEndpoint) → end_under settings device is_in e ≡ o
+        → end_under settings device is_in e ≡ None
     by_end None is = is
     by_end (Some end) is =
         let small =
-        (usable_under-small default_settings device.low is_in e (configuration_of device) end is).1
-        in
+        (usable_under-small settings device.low is_in e (configuration_of device) end is).1 in
         absurd (omega (arith, small, beyond))
 
 pub new_at : (device : Accepted) (below_hub is_in : Bool) (e : ℕ)
     → pipe_at is_in e (new_function device below_hub)
     ≡ new_pipe (target_of device below_hub) is_in e (usable_end device is_in e)
 new_at device below_hub true e = row_of_ends-at (target_of device below_hub) true
-    (usable_end device true) (none_beyond device true) e
+    (usable_end device true) (none_at default_settings device true) e
 new_at device below_hub false e = row_of_ends-at (target_of device below_hub) false
-    (usable_end device false) (none_beyond device false) e
+    (usable_end device false) (none_at default_settings device false) e
 
 none_marked : (e : ℕ) → get_or none_lost e None ≡ None
-none_marked e = by_size (cases_lt e 16)
-  where
-    by_size : (e < 16) ⊎ (16 ≤ e) → get_or none_lost e None ≡ None
-    by_size (inl h) = get_or-replicate 16 e None None h
-    by_size (inr h) = get_or_past none_lost e None h
+none_marked e = elim (cases_lt e 16) [
+  | inl h ↦ get_or-replicate 16 e None None h
+  | inr h ↦ get_or_past none_lost e None h
+]
 
 pub new_lost : (device : Accepted) (below_hub is_in : Bool) (e : ℕ)
     → lost_at is_in e (new_function device below_hub) ≡ None
@@ -99,17 +90,48 @@ new_pipe_fits device below_hub is_in e None = tt
 new_pipe_fits device below_hub is_in e (Some end) =
     record { target = refl; number = refl; kind = refl; max = refl; way = refl }
 
+-- an endpoint that has not moved since it began
+pub record IsNewEnd (is_in : Bool) (e : ℕ) (end : UsableEndpoint) (s : State) : Type 0 where
+  pub most : max_of_usable (served_at s.spec s.registers is_in e) ≡ Some end.max
+  pub far : (e == 0) ≡ false
+  pub rests : state_at is_in s e ≡ rested
+  pub quiet : tells_changes s.spec s.registers ≡ false
+
+-- and is as far as the pipe
+pub new_fits : (target : Target) (is_in : Bool) (e : ℕ) (o : Option UsableEndpoint) (s : State)
+    → ((end : UsableEndpoint) → o ≡ Some end → IsNewEnd is_in e end s)
+    → FitsWay is_in (new_pipe target is_in e o) s
+new_fits target is_in e None s new = way-none is_in s
+new_fits target false e (Some end) s new =
+    let x = new end refl in
+    record {
+      endpoint = record { endpoint = x.most; not_zero = x.far };
+      level = λ ready. ap (λ (p : EndpointState). p.toggle) x.rests;
+      halted = λ halts. cc halts;
+    }
+new_fits target true e (Some end) s new =
+    let x = new end refl in (
+      (in_end s e).place,
+      record {
+        endpoint = record {
+          endpoint = x.most;
+          not_zero = x.far;
+          alone = ap (λ b. e == status_number s.spec s.registers && b) x.quiet
+              ∙ and_false (e == status_number s.spec s.registers);
+        };
+        level = λ ready. SourceAt.level refl (ap (λ (p : EndpointState). p.toggle) x.rests);
+        halted = λ halts. cc halts;
+      },
+    )
+
 pub new_function_fits : (device : Accepted) (below_hub : Bool) → is_some device.hub ≡ false
     → AreFunctionPipes device below_hub (new_function device below_hub)
 new_function_fits device below_hub function = record {
   function = function;
   settings = default_settings;
   all = length-default_settings;
-  each = λ is_in e. subst (λ lost. IsPlace device below_hub is_in e (usable_end device is_in e) lost
-      (pipe_at is_in e (new_function device below_hub))) (sym (new_lost device below_hub is_in e))
-      (subst (IsPipe device below_hub is_in e (usable_end device is_in e))
-      (sym (new_at device below_hub is_in e))
-      (new_pipe_fits device below_hub is_in e (usable_end device is_in e)));
+  each = λ is_in e. rw (new_lost device below_hub is_in e, new_at device below_hub is_in e)
+      (new_pipe_fits device below_hub is_in e (usable_end device is_in e));
   first = by_way;
 }
   where
@@ -265,43 +287,20 @@ module _ (options : HostOptions) (tier supply : ℕ) (device : Accepted) (below_
         (configuration_of device) end usable).0 in
         grind (arith, nat_tests, small)
 
-    out_level : (e : ℕ) → FitsOut (pipe_at false e (new_function device below_hub)) s
-    out_level e = subst (λ o. FitsOut o s) (sym (new_at device below_hub false e))
-        (by_end (usable_end device false e) refl)
-      where
-        by_end : (o : Option UsableEndpoint) → usable_end device false e ≡ o
-            → FitsOut (new_pipe (target_of device below_hub) false e o) s
-        by_end None usable = tt
-        by_end (Some end) usable = record {
-          endpoint = record {
-            endpoint = ap max_of_usable (served_is false e ∙ usable);
-            not_zero = not_zero false e end usable;
-          };
-          level = λ ready. ap (λ (p : EndpointState). p.toggle) (fresh.outs e);
-          halted = λ halts. cc halts;
-        }
+    rests : (is_in : Bool) (e : ℕ) → state_at is_in s e ≡ rested
+    rests true e = fresh.ins e
+    rests false e = fresh.outs e
 
-    in_level : (e : ℕ) → FitsIn (pipe_at true e (new_function device below_hub)) s
-    in_level e = subst (λ o. FitsIn o s) (sym (new_at device below_hub true e))
-        (by_end (usable_end device true e) refl)
-      where
-        by_end : (o : Option UsableEndpoint) → usable_end device true e ≡ o
-            → FitsIn (new_pipe (target_of device below_hub) true e o) s
-        by_end None usable = tt
-        by_end (Some end) usable = (
-          (in_end s e).place,
-          record {
-            endpoint = record {
-              endpoint = ap max_of_usable (served_is true e ∙ usable);
-              not_zero = not_zero true e end usable;
-              alone = ap (λ b. e == status_number s.spec s.registers && b) quiet
-                  ∙ and_false (e == status_number s.spec s.registers);
-            };
-            level = λ ready. SourceAt.level refl
-                (ap (λ (p : EndpointState). p.toggle) (fresh.ins e));
-            halted = λ halts. cc halts;
-          },
-        )
+    level : (is_in : Bool) (e : ℕ)
+        → FitsWay is_in (pipe_at is_in e (new_function device below_hub)) s
+    level is_in e = rw (new_at device below_hub is_in e)
+        (new_fits (target_of device below_hub) is_in e (usable_end device is_in e) s
+        (λ end usable. record {
+          most = ap max_of_usable (served_is is_in e ∙ usable);
+          far = not_zero is_in e end usable;
+          rests = rests is_in e;
+          quiet = quiet;
+        }))
 
   by_kind : (b : Bool) → is_some device.hub ≡ b → PipesInSync device
       (if b then new_status device below_hub
@@ -313,8 +312,8 @@ module _ (options : HostOptions) (tier supply : ℕ) (device : Accepted) (below_
     low = sym listed.low;
     quiet = quiet e;
     settings = ap length fresh.settings ∙ length-default_settings;
-    outs = out_level e;
-    ins = in_level e;
+    outs = level e false;
+    ins = level e true;
   }
 
   -- of a device whose finding is its own, and that keeps the rules of devices

@@ -11,13 +11,13 @@ use Rattle.slab.proofs.SlabLemmas.{Updates-with_value}
 use Rattle.usb_port.specs.{path_cmp}
 use Rattle.usb_enum.specs.{Finding}
 use Rattle.usb_enum.specs.declared.finding.Finding.TheVariants.{Device, Refused}
-use Rattle.usb_table.specs.{Absent, Function, Hub, SetOrRefused, TableFault, accepted_device_at}
-use Rattle.usb_table.specs.{interface_asked, pipes_set, said_at, said_in, said_of}
-use Rattle.usb_table.specs.{Pipes, no_pipes, accepted_device_of, Entry, IsPiped, TableSlots}
-use Rattle.usb_table.specs.{PathKeys, AddressKeys, key_of_path, under, entries_of, findings}
-use Rattle.usb_table.specs.{pipings, table_of, AreIndexes, ArePiped, ArePlaced, is_below_hub}
-use Rattle.usb_table.specs.{finding_at, AreAbsent, ArePipesIf, ArePipesOf, pipes_made, pipes_at}
-use Rattle.usb_table.specs.{ArePipesAt, GoesThrough}
+use Rattle.usb_table.specs.{Indexes, Absent, Function, Hub, SetOrRefused, TableFault}
+use Rattle.usb_table.specs.{accepted_device_at, interface_asked, pipes_set, said_at, said_in}
+use Rattle.usb_table.specs.{said_of, Pipes, no_pipes, accepted_device_of, Entry, IsPiped}
+use Rattle.usb_table.specs.{TableSlots, PathKeys, AddressKeys, key_of_path, under, entries_of}
+use Rattle.usb_table.specs.{findings, pipings, table_of, AreIndexes, ArePiped, ArePlaced}
+use Rattle.usb_table.specs.{is_below_hub, finding_at, AreAbsent, ArePipesIf, ArePipesOf, pipes_made}
+use Rattle.usb_table.specs.{pipes_at, ArePipesAt, GoesThrough}
 use Rattle.usb_table.proofs.levels.KeptPipes.{same_keep}
 use Rattle.usb_table.proofs.ThroughPipes.{placed_of}
 use Rattle.usb_table.proofs.entries.Keys.{entries_of-key, entries_of-no_key, findings-standing}
@@ -74,7 +74,7 @@ module _ (standings : TableSlots) (paths : PathKeys) (addresses : AddressKeys)
 
   are_by : (key : Option ℕ) → key_of_path paths path ≡ key
       → AreTo (finding_at path (table_of standings paths).entries)
-  are_by None at = subst AreTo (sym (entries_of-no_key (findings standings) path paths at))
+  are_by None at = rw (entries_of-no_key (findings standings) path paths at)
       (none_absent _ (pipes_none standings path paths at))
   are_by (Some key) at = by_entry (standings key) refl
     where
@@ -82,9 +82,12 @@ module _ (standings : TableSlots) (paths : PathKeys) (addresses : AddressKeys)
           → AreTo (finding_at path (table_of standings paths).entries)
       by_entry None none = let some = are.stands path key at in absurd (cc some)
       by_entry (Some s) stands =
-          subst AreTo (sym (entries_of-key (findings standings) path paths key s.finding at
-          (findings-standing standings key s stands)))
-          (rw (pipes_found standings path paths key s at stands) (piped path key s at stands).1)
+          rw (
+            entries_of-key (findings standings) path paths key s.finding at
+                (findings-standing standings key s stands),
+            pipes_found standings path paths key s at
+                stands,
+          ) (piped path key s at stands).1
 
   pub are_pipes_at : ArePipesAt path (table_of standings paths)
   are_pipes_at = are_by (key_of_path paths path) refl
@@ -140,8 +143,14 @@ pub record CallThrough (path : List ℕ) (standings after : TableSlots) (paths :
   pub was : pipes_at path (table_of standings paths) ≡ before
   pub is : pipes_at path (table_of after paths) ≡ left
 
-module _ (path : List ℕ) (standings after : TableSlots) (paths : PathKeys)
-    (addresses : AddressKeys) (key : ℕ) (s : Entry) (left : Pipes)
+-- the entry under its key is written back, with other pipes
+abbrev pub SlotCall : List ℕ → Slab Entry → Indexes → ℕ → Entry → Pipes → Type 0
+SlotCall path slab indexes key s left =
+    CallThrough path (get slab) (get (with_value slab key (record s { pipes = left })))
+    indexes.by_path.entries indexes.by_address.entries s.pipes left
+
+module _ (path : List ℕ) {standings after : TableSlots} {paths : PathKeys}
+    {addresses : AddressKeys} {key : ℕ} {s : Entry} {left : Pipes}
     (are : AreIndexes (findings standings) paths addresses × ArePiped standings paths)
     (at : key_of_path paths path ≡ Some key) (held : standings key ≡ Some s)
     (changed : after key ≡ Some (record s { pipes = left }))
@@ -164,7 +173,7 @@ module _ (path : List ℕ) (standings after : TableSlots) (paths : PathKeys)
         let there : path ≡ q = are.0.once q path key (h ∙ ap Some e) at in
         subst (IsPiped q) is (
           (are.1 path key s at held).0,
-          subst (λ r. ArePipesOf s.finding (is_below_hub r) left) there fits,
+          rw there at fits,
         )
     | inr ne ↦ are.1 q k x h (sym (others k ne) ∙ stands)
   ]
@@ -173,8 +182,7 @@ module _ (path : List ℕ) (standings after : TableSlots) (paths : PathKeys)
       → key_of_path paths other ≡ Some k → k ≢ key
   other_key other k apart h e =
       let is : other ≡ path = are.0.once path other key at (h ∙ ap Some e) in
-      let yes : is_at (path_cmp path) other ≡ true =
-      subst (λ (r : List ℕ). is_at (path_cmp path) r ≡ true) (sym is) (path_itself path) in
+      let yes : is_at (path_cmp path) other ≡ true = rw is (path_itself path) in
       absurd (cc (yes, apart))
 
   other_pipes : (other : List ℕ) → is_at (path_cmp path) other ≡ false → (k : Option ℕ)
@@ -192,7 +200,7 @@ module _ (path : List ℕ) (standings after : TableSlots) (paths : PathKeys)
   through =
       let found : findings after ≡ findings standings = fun_ext same_finding in
       record {
-        indexes = subst (λ f. AreIndexes f paths addresses) (sym found) are.0;
+        indexes = rw found are.0;
         piped = still_piped;
         goes = record {
           fits = are_pipes_at standings paths addresses are.0 are.1 path;
@@ -205,30 +213,29 @@ module _ (path : List ℕ) (standings after : TableSlots) (paths : PathKeys)
         is = pipes_found after path paths key _ at changed;
       }
 
--- the entry under its key is written back, with pipes to the same device
-pub set_slot : (path : List ℕ) (slab : Slab Entry) (paths : PathKeys)
-    (addresses : AddressKeys) (key : ℕ) (s : Entry) (left : Pipes)
+-- to the same device
+pub set_slot : {path : List ℕ} (slab : Slab Entry) {paths : PathKeys} {addresses : AddressKeys}
+    {key : ℕ} {s : Entry} {left : Pipes}
     → AreIndexes (findings (get slab)) paths addresses × ArePiped (get slab) paths
     → key_of_path paths path ≡ Some key → get slab key ≡ Some s
     → ArePipesOf s.finding (is_below_hub path) left
     → said_of (Some s.finding) left ≡ said_of (Some s.finding) s.pipes
     → CallThrough path (get slab) (get (with_value slab key (record s { pipes = left }))) paths
     addresses s.pipes left
-set_slot path slab paths addresses key s left are at held fits said =
+set_slot {path} slab {key = key} {s} {left} are at held fits said =
     let updates = Updates-with_value slab key (record s { pipes = left }) (ap is_some held) in
-    through path (get slab) _ paths addresses key s left are at held updates.changed updates.others
-    fits said
+    through path are at held updates.changed updates.others fits said
 
--- where the pipes are to the same endpoints
-pub through_slot : (path : List ℕ) (slab : Slab Entry) (paths : PathKeys)
-    (addresses : AddressKeys) (key : ℕ) (s : Entry) (left : Pipes)
+-- to the same endpoints
+pub through_slot : {path : List ℕ} (slab : Slab Entry) {paths : PathKeys} {addresses : AddressKeys}
+    {key : ℕ} {s : Entry} {left : Pipes}
     → AreIndexes (findings (get slab)) paths addresses × ArePiped (get slab) paths
     → key_of_path paths path ≡ Some key → get slab key ≡ Some s
     → pipes_made left ≡ pipes_made s.pipes
     → CallThrough path (get slab) (get (with_value slab key (record s { pipes = left }))) paths
     addresses s.pipes left
-through_slot path slab paths addresses key s left are at held made =
-    set_slot path slab paths addresses key s left are at held
+through_slot {path} slab {key = key} {s} {left} are at held made =
+    set_slot slab are at held
     (same_keep s.finding s.pipes left made (is_below_hub path) (are.1 path key s at held).1)
     (made_said s.finding s.pipes left made)
 
@@ -252,8 +259,8 @@ through_none path standings paths addresses are none = record {
 }
 
 -- the pipes of an entry stand in their places
-pub placed_at : (path : List ℕ) (slab : Slab Entry) (paths : PathKeys) (key : ℕ) (s : Entry)
+pub placed_at : (path : List ℕ) (slab : Slab Entry) (paths : PathKeys) {key : ℕ} {s : Entry}
     → ArePiped (get slab) paths → key_of_path paths path ≡ Some key → get slab key ≡ Some s
     → ArePlaced s.pipes
-placed_at path slab paths key s piped at held =
+placed_at path slab paths {key} {s} piped at held =
     placed_of s.finding (is_below_hub path) s.pipes (piped path key s at held).1

@@ -1,7 +1,6 @@
 -- Rows in which the endpoints of an interface were replaced.
-use Rattle.std.proofs.Common.{◌≡◌, ◌⊎◌, inl, inr, ◌∙◌, refl, sym, ap, arith, Bool, true, false, ℕ}
-use Rattle.std.proofs.Common.{zero, suc, ◌+◌, ◌<◌, ◌≤◌, List, [], ◌∷◌, length, get_or}
-use Rattle.std.proofs.Common.{if◌then◌else◌}
+use Rattle.std.proofs.Common.{◌≡◌, inl, inr, ◌∙◌, refl, sym, ap, arith, Bool, true, false, ℕ, zero}
+use Rattle.std.proofs.Common.{suc, ◌+◌, ◌<◌, ◌≤◌, List, [], ◌∷◌, length, get_or, if◌then◌else◌}
 use Rattle.std.proofs.lemmas.Bool.{cases_lt}
 use Rattle.std.proofs.lemmas.List.{get_or_past}
 use Rattle.usb_descriptor.specs.{names_in}
@@ -52,16 +51,22 @@ module _ {A : Type 0} where
     replaced-named named h =
         within h ∙ ap (λ b. if b then change e (get_or row e none) else get_or row e none) named
 
+    -- and nothing is left there
+    pub replaced-all : ((had : A) → change e had ≡ none) → names_in interface is_in e text ≡ true
+        → get_or (replaced_row text interface is_in change row) e none ≡ none
+    replaced-all empties named = elim (cases_lt e (length row)) [
+      | inl h ↦ replaced-named named h ∙ empties (get_or row e none)
+      | inr h ↦ replaced-past h
+    ]
+
     -- and where it has none
     pub replaced-elsewhere : names_in interface is_in e text ≡ false
         → get_or (replaced_row text interface is_in change row) e none ≡ get_or row e none
-    replaced-elsewhere named = by_size (cases_lt e (length row))
-      where
-        by_size : (e < length row) ⊎ (length row ≤ e)
-            → get_or (replaced_row text interface is_in change row) e none ≡ get_or row e none
-        by_size (inl h) =
-            within h ∙ ap (λ b. if b then change e (get_or row e none) else get_or row e none) named
-        by_size (inr h) = replaced-past h ∙ sym (get_or_past row e none h)
+    replaced-elsewhere named = elim (cases_lt e (length row)) [
+      | inl h ↦
+          within h ∙ ap (λ b. if b then change e (get_or row e none) else get_or row e none) named
+      | inr h ↦ replaced-past h ∙ sym (get_or_past row e none h)
+    ]
 
   pub length-replaced_row : (text : List ℕ) (interface : ℕ) (is_in : Bool) (change : ℕ → A → A)
       (row : List A) → length (replaced_row text interface is_in change row) ≡ length row

@@ -1,8 +1,7 @@
 -- After SET_INTERFACE the pipes are as far as the endpoints at their other ends.
-use Rattle.std.proofs.Common.{◌≡◌, ◌⊎◌, inl, inr, ◌∙◌, refl, sym, ap, subst, arith, Bool, true}
-use Rattle.std.proofs.Common.{false}
-use Rattle.std.proofs.Common.{ℕ, ◌<◌, ◌≤◌, ◌==◌, ◌&&◌, eq-eqb, List, [], length, Option, Some}
-use Rattle.std.proofs.Common.{None, IfSome, if◌then◌else◌}
+use Rattle.std.proofs.Common.{◌≡◌, ◌⊎◌, inl, inr, ◌∙◌, refl, sym, ap, arith, Bool, true, false, ℕ}
+use Rattle.std.proofs.Common.{◌<◌, ◌≤◌, ◌==◌, eq-eqb, List, [], length, Option, Some, None, IfSome}
+use Rattle.std.proofs.Common.{if◌then◌else◌}
 use Rattle.std.proofs.lemmas.Bool.{cases_lt}
 use Rattle.std.proofs.lemmas.Bool.Decides.{nat_tests}
 use Rattle.usb_descriptor.specs.{UsableEndpoint, belongs_to, config_of, default_settings}
@@ -11,21 +10,38 @@ use Rattle.usb_descriptor.specs.{with_setting}
 use Rattle.usb_descriptor.proofs.Interface.{length-default_settings, length-with_setting}
 use Rattle.usb_descriptor.proofs.Interface.{setting_of-with_setting, usable-named, usable-own}
 use Rattle.usb_descriptor.proofs.Interface.{usable_under-small}
-use Rattle.usb_device.specs.{EndpointState, InEnd, OutEnd, SourceAt, State}
-use Rattle.usb_device.specs.{begun_if, in_data, in_end, in_max, is_of_setting, items_in_text}
-use Rattle.usb_device.specs.{out_end, out_max, rested, rested_in, rested_out, served_at, set_to}
-use Rattle.usb_device.specs.{status_number, tells_changes, text_of, with_interface}
+use Rattle.usb_device.specs.{InEnd, OutEnd, State, begun_if, in_data, in_end, in_max, is_of_setting}
+use Rattle.usb_device.specs.{items_in_text, out_end, out_max, rested, rested_in, rested_out}
+use Rattle.usb_device.specs.{served_at, set_to, tells_changes, text_of, with_interface}
 use Rattle.usb_device.proofs.Interface.{in_end-setting, in_max-elsewhere, is_of_setting-elsewhere}
 use Rattle.usb_device.proofs.Interface.{out_end-setting, out_max-elsewhere}
-use Rattle.usb_tree.proofs.Interface.{and_false, or_right}
+use Rattle.usb_tree.proofs.Interface.{or_right}
 use Rattle.usb_pipe.specs.{PipeState}
 use Rattle.usb_hub.specs.{TookSetting, offers_setting}
 use Rattle.usb_enum.specs.{Accepted, configuration_of, target_of}
 use Rattle.usb_table.specs.{AreInPlace, FitsIn, FitsOut, FunctionInSync, FunctionPipes, end_under}
 use Rattle.usb_table.specs.{lost_function, new_pipe, pipe_at, row_at, set_function}
-use Rattle.usb_table.proofs.levels.FittingPipes.{source_at-same}
+use Rattle.usb_table.proofs.levels.FittingPipes.{is_status, same_halts, sink_level, source_level}
+use Rattle.usb_table.proofs.levels.FittingPipes.{FitsWay, state_at, way-none}
 use Rattle.usb_table.proofs.levels.SetPipes.{loss-elsewhere, loss-named, set-elsewhere, set-named}
 use Rattle.usb_table.proofs.levels.SetPipes.{set-past}
+use Rattle.usb_table.proofs.levels.NewPipes.{new_fits}
+
+-- where the pipes of an interface are lost, those to other endpoints count
+lost_way : (device : Accepted) (below_hub : Bool) (interface setting : ℕ) (pipes : FunctionPipes)
+    (v : State) (is_in : Bool)
+    → ((e : ℕ) → names_in interface is_in e (configuration_of device) ≡ false
+    → FitsWay is_in (pipe_at is_in e pipes) v) → (e : ℕ)
+    → FitsWay is_in (pipe_at is_in e (lost_function device interface pipes)) v
+lost_way device below_hub interface setting pipes v is_in fits e =
+    by_name (names_in interface is_in e (configuration_of device)) refl
+  where
+    by_name : (b : Bool) → names_in interface is_in e (configuration_of device) ≡ b
+        → FitsWay is_in (pipe_at is_in e (lost_function device interface pipes)) v
+    by_name true named =
+        rw (loss-named device below_hub interface setting pipes is_in e named) (way-none is_in v)
+    by_name false apart =
+        rw (loss-elsewhere device below_hub interface setting pipes is_in e apart) (fits e apart)
 
 -- the pipes of an interface are lost, and the device is as it is
 pub loss_kept : (device : Accepted) (below_hub : Bool) (interface setting : ℕ)
@@ -36,23 +52,9 @@ loss_kept device below_hub interface setting pipes v f = record {
   low = f.low;
   quiet = f.quiet;
   settings = f.settings;
-  outs = λ e. out_by e (names_in interface false e (configuration_of device)) refl;
-  ins = λ e. in_by e (names_in interface true e (configuration_of device)) refl;
+  outs = lost_way device below_hub interface setting pipes v false (λ e apart. f.outs e);
+  ins = lost_way device below_hub interface setting pipes v true (λ e apart. f.ins e);
 }
-  where
-    out_by : (e : ℕ) (b : Bool) → names_in interface false e (configuration_of device) ≡ b
-        → FitsOut (pipe_at false e (lost_function device interface pipes)) v
-    out_by e true named = subst (λ o. FitsOut o v)
-        (sym (loss-named device below_hub interface setting pipes false e named)) tt
-    out_by e false apart = subst (λ o. FitsOut o v)
-        (sym (loss-elsewhere device below_hub interface setting pipes false e apart)) (f.outs e)
-
-    in_by : (e : ℕ) (b : Bool) → names_in interface true e (configuration_of device) ≡ b
-        → FitsIn (pipe_at true e (lost_function device interface pipes)) v
-    in_by e true named = subst (λ o. FitsIn o v)
-        (sym (loss-named device below_hub interface setting pipes true e named)) tt
-    in_by e false apart = subst (λ o. FitsIn o v)
-        (sym (loss-elsewhere device below_hub interface setting pipes true e apart)) (f.ins e)
 
 module _ (device : Accepted) (below_hub : Bool) (interface setting : ℕ) (pipes : FunctionPipes)
     (placed : AreInPlace pipes) (s v : State) (took : TookSetting interface setting s v)
@@ -68,10 +70,8 @@ module _ (device : Accepted) (below_hub : Bool) (interface setting : ℕ) (pipes
   tells_is : tells_changes v.spec v.registers ≡ tells_changes s.spec s.registers
   tells_is = ap (λ (d : State). tells_changes d.spec d.registers) took.is
 
-  alone_is : (e : ℕ) → (e == status_number v.spec v.registers && tells_changes v.spec v.registers)
-      ≡ (e == status_number s.spec s.registers && tells_changes s.spec s.registers)
-  alone_is e = ap (λ (d : State). e == status_number d.spec d.registers
-      && tells_changes d.spec d.registers) took.is
+  alone_is : (e : ℕ) → is_status v e ≡ is_status s e
+  alone_is e = ap (λ (d : State). is_status d e) took.is
 
   out_is : (e : ℕ) → out_end v e
       ≡ begun_if (is_of_setting s.spec s.registers interface setting false e) rested_out (out_end s
@@ -112,74 +112,47 @@ module _ (device : Accepted) (below_hub : Bool) (interface setting : ℕ) (pipes
       → IfSome o (λ (p : PipeState). (p.is_in ≡ false) × (p.ep ≡ e)) → FitsOut o s → FitsOut o v
   out_beside e apart None place fit = tt
   out_beside e apart (Some pipe) place fit =
-      let there : names_in interface false pipe.ep text ≡ false =
-      ap (λ n. names_in interface false n text) place.1 ∙ apart in
-      let end = ap (λ (x : OutEnd). x.state) (out_stays pipe.ep there) in
-      record {
-        endpoint = record {
-          endpoint = out_most pipe.ep
-              ∙ out_max-elsewhere s interface setting pipe.ep (apart_there false pipe.ep there)
-              ∙ fit.endpoint.endpoint;
-          not_zero = fit.endpoint.not_zero;
-        };
-        level = λ ready. ap (λ (x : EndpointState). x.toggle) end ∙ fit.level ready;
-        halted = λ halts. ap (λ (x : EndpointState). x.halted) end ∙ fit.halted halts;
-      }
+      let there : names_in interface false pipe.ep text ≡ false = rw place.1 apart in
+      sink_level pipe s v (out_most pipe.ep
+      ∙ out_max-elsewhere s interface setting pipe.ep (apart_there false pipe.ep there))
+      (same_halts _ _ (ap (λ (x : OutEnd). x.state) (out_stays pipe.ep there))) fit
 
   in_beside : (e : ℕ) → names_in interface true e text ≡ false → (o : Option PipeState)
       → IfSome o (λ (p : PipeState). (p.is_in ≡ true) × (p.ep ≡ e)) → FitsIn o s → FitsIn o v
   in_beside e apart None place fit = tt
   in_beside e apart (Some pipe) place (got, fit) =
-      let there : names_in interface true pipe.ep text ≡ false =
-      ap (λ n. names_in interface true n text) place.1 ∙ apart in
-      let end = ap (λ (x : InEnd). x.state) (in_stays pipe.ep there) in (
+      let there : names_in interface true pipe.ep text ≡ false = rw place.1 apart in
+      let end = in_stays pipe.ep there in (
         got,
-        record {
-          endpoint = record {
-            endpoint = in_most pipe.ep
-                ∙ in_max-elsewhere s interface setting pipe.ep (apart_there true pipe.ep there)
-                ∙ fit.endpoint.endpoint;
-            not_zero = fit.endpoint.not_zero;
-            alone = alone_is pipe.ep ∙ fit.endpoint.alone;
-          };
-          level = λ ready. source_at-same pipe.ep pipe.max got pipe.toggle s v (data_is pipe.ep)
-              (ap (λ (x : InEnd). x.place) (in_stays pipe.ep there))
-              (ap (λ (x : EndpointState). x.toggle) end) (fit.level ready);
-          halted = λ halts. ap (λ (x : EndpointState). x.halted) end ∙ fit.halted halts;
-        },
+        source_level pipe got s v (in_most pipe.ep
+            ∙ in_max-elsewhere s interface setting pipe.ep (apart_there true pipe.ep there))
+            (alone_is pipe.ep) (data_is pipe.ep) (ap (λ (x : InEnd). x.place) end)
+            (same_halts _ _ (ap (λ (x : InEnd). x.state) end)) fit,
       )
+
+  way_beside : (is_in : Bool) (e : ℕ) → names_in interface is_in e text ≡ false
+      → FitsWay is_in (pipe_at is_in e pipes) v
+  way_beside false e apart = out_beside e apart (pipe_at false e pipes) (placed false e) (f.outs e)
+  way_beside true e apart = in_beside e apart (pipe_at true e pipes) (placed true e) (f.ins e)
+
+  -- what the host knows of the device is so then
+  level_by : (left : FunctionPipes) → ((is_in : Bool) (e : ℕ)
+      → FitsWay is_in (pipe_at is_in e left) v) → FunctionInSync device left v
+  level_by left fits = record {
+    text = text_is ∙ f.text;
+    low = ap (λ (d : State). d.spec.low) took.is ∙ f.low;
+    quiet = tells_is ∙ f.quiet;
+    settings = ap (λ (d : State). length d.registers.settings) took.is
+        ∙ length-with_setting interface setting s.registers.settings ∙ f.settings;
+    outs = fits false;
+    ins = fits true;
+  }
 
   -- The interface's pipes are lost
 
   pub loss_level : FunctionInSync device (lost_function device interface pipes) v
-  loss_level = record {
-    text = text_is ∙ f.text;
-    low = ap (λ (d : State). d.spec.low) took.is ∙ f.low;
-    quiet = tells_is ∙ f.quiet;
-    settings = settings_are;
-    outs = λ e. out_by e (names_in interface false e text) refl;
-    ins = λ e. in_by e (names_in interface true e text) refl;
-  }
-    where
-      settings_are : length v.registers.settings ≡ 256
-      settings_are = ap (λ (d : State). length d.registers.settings) took.is
-          ∙ length-with_setting interface setting s.registers.settings ∙ f.settings
-
-      out_by : (e : ℕ) (b : Bool) → names_in interface false e text ≡ b
-          → FitsOut (pipe_at false e (lost_function device interface pipes)) v
-      out_by e true named = subst (λ o. FitsOut o v)
-          (sym (loss-named device below_hub interface setting pipes false e named)) tt
-      out_by e false apart = subst (λ o. FitsOut o v)
-          (sym (loss-elsewhere device below_hub interface setting pipes false e apart))
-          (out_beside e apart (pipe_at false e pipes) (placed false e) (f.outs e))
-
-      in_by : (e : ℕ) (b : Bool) → names_in interface true e text ≡ b
-          → FitsIn (pipe_at true e (lost_function device interface pipes)) v
-      in_by e true named = subst (λ o. FitsIn o v)
-          (sym (loss-named device below_hub interface setting pipes true e named)) tt
-      in_by e false apart = subst (λ o. FitsIn o v)
-          (sym (loss-elsewhere device below_hub interface setting pipes true e apart))
-          (in_beside e apart (pipe_at true e pipes) (placed true e) (f.ins e))
+  loss_level = level_by (lost_function device interface pipes)
+      (λ is_in. lost_way device below_hub interface setting pipes v is_in (way_beside is_in))
 
   -- Or they are new, where its setting is known
 
@@ -237,80 +210,46 @@ module _ (device : Accepted) (below_hub : Bool) (interface setting : ℕ) (pipes
             device.low is_in e text end is).0 in
             grind (arith, nat_tests, small)
 
-    new_out : (e : ℕ) → names_in interface false e text ≡ true → (o : Option UsableEndpoint)
-        → new_end false e ≡ o → FitsOut (new_pipe (target_of device below_hub) false e o) v
-    new_out e named None is = tt
-    new_out e named (Some end) is =
-        let rests : (out_end v e).state ≡ rested =
-        ap (λ (x : OutEnd). x.state) (out_is e
-        ∙ ap (λ b. begun_if b rested_out (out_end s e)) (begun false e named end is)) in
-        record {
-          endpoint = record {
-            endpoint = out_most e ∙ most false e named end is;
-            not_zero = far false e named end is;
-          };
-          level = λ ready. ap (λ (x : EndpointState). x.toggle) rests;
-          halted = λ halts. cc halts;
-        }
+    rests : (is_in : Bool) (e : ℕ)
+        → is_of_setting s.spec s.registers interface setting is_in e ≡ true
+        → state_at is_in v e ≡ rested
+    rests false e begins = ap (λ (x : OutEnd). x.state) (out_is e
+        ∙ ap (λ b. begun_if b rested_out (out_end s e)) begins)
+    rests true e begins = ap (λ (x : InEnd). x.state) (in_is e
+        ∙ ap (λ b. begun_if b rested_in (in_end s e)) begins)
 
-    new_in : (e : ℕ) → names_in interface true e text ≡ true → (o : Option UsableEndpoint)
-        → new_end true e ≡ o → FitsIn (new_pipe (target_of device below_hub) true e o) v
-    new_in e named None is = tt
-    new_in e named (Some end) is =
-        let rests : (in_end v e).state ≡ rested =
-        ap (λ (x : InEnd). x.state) (in_is e
-        ∙ ap (λ b. begun_if b rested_in (in_end s e)) (begun true e named end is)) in (
-          (in_end v e).place,
-          record {
-            endpoint = record {
-              endpoint = in_most e ∙ most true e named end is;
-              not_zero = far true e named end is;
-              alone = ap (λ b. e == status_number v.spec v.registers && b) (tells_is ∙ f.quiet)
-                  ∙ and_false (e == status_number v.spec v.registers);
-            };
-            level = λ ready. SourceAt.level refl (ap (λ (x : EndpointState). x.toggle) rests);
-            halted = λ halts. cc halts;
-          },
-        )
+    new_way : (is_in : Bool) (e : ℕ) → names_in interface is_in e text ≡ true
+        → FitsWay is_in (new_pipe (target_of device below_hub) is_in e (new_end is_in e)) v
+    new_way is_in e named = new_fits (target_of device below_hub) is_in e (new_end is_in e) v
+        (λ end is. record {
+          most = ap (λ (d : State). max_of_usable (served_at d.spec d.registers is_in e)) took.is
+              ∙ most is_in e named end is;
+          far = far is_in e named end is;
+          rests = rests is_in e (begun is_in e named end is);
+          quiet = tells_is ∙ f.quiet;
+        })
+
+    set_way : (is_in : Bool) (e : ℕ)
+        → FitsWay is_in (pipe_at is_in e (set_function device below_hub interface setting pipes)) v
+    set_way is_in e = by_name (names_in interface is_in e text) refl
+      where
+        by_size : names_in interface is_in e text ≡ true
+            → (e < length (row_at is_in pipes)) ⊎ (length (row_at is_in pipes) ≤ e)
+            → FitsWay is_in
+            (pipe_at is_in e (set_function device below_hub interface setting pipes)) v
+        by_size named (inl h) =
+            rw (set-named device below_hub interface setting pipes is_in e named h)
+            (new_way is_in e named)
+        by_size named (inr h) =
+            rw (set-past device below_hub interface setting pipes is_in e named h)
+            (way-none is_in v)
+
+        by_name : (b : Bool) → names_in interface is_in e text ≡ b → FitsWay is_in
+            (pipe_at is_in e (set_function device below_hub interface setting pipes)) v
+        by_name true named = by_size named (cases_lt e (length (row_at is_in pipes)))
+        by_name false apart =
+            rw (set-elsewhere device below_hub interface setting pipes is_in e apart)
+            (way_beside is_in e apart)
 
     pub set_level : FunctionInSync device (set_function device below_hub interface setting pipes) v
-    set_level = record {
-      text = text_is ∙ f.text;
-      low = ap (λ (d : State). d.spec.low) took.is ∙ f.low;
-      quiet = tells_is ∙ f.quiet;
-      settings = loss_level.settings;
-      outs = λ e. out_by e (names_in interface false e text) refl;
-      ins = λ e. in_by e (names_in interface true e text) refl;
-    }
-      where
-        out_new : (e : ℕ) → names_in interface false e text ≡ true
-            → (e < length (row_at false pipes)) ⊎ (length (row_at false pipes) ≤ e)
-            → FitsOut (pipe_at false e (set_function device below_hub interface setting pipes)) v
-        out_new e named (inl h) = subst (λ o. FitsOut o v)
-            (sym (set-named device below_hub interface setting pipes false e named h))
-            (new_out e named (new_end false e) refl)
-        out_new e named (inr h) = subst (λ o. FitsOut o v)
-            (sym (set-past device below_hub interface setting pipes false e named h)) tt
-
-        out_by : (e : ℕ) (b : Bool) → names_in interface false e text ≡ b
-            → FitsOut (pipe_at false e (set_function device below_hub interface setting pipes)) v
-        out_by e true named = out_new e named (cases_lt e (length (row_at false pipes)))
-        out_by e false apart = subst (λ o. FitsOut o v)
-            (sym (set-elsewhere device below_hub interface setting pipes false e apart))
-            (out_beside e apart (pipe_at false e pipes) (placed false e) (f.outs e))
-
-        in_new : (e : ℕ) → names_in interface true e text ≡ true
-            → (e < length (row_at true pipes)) ⊎ (length (row_at true pipes) ≤ e)
-            → FitsIn (pipe_at true e (set_function device below_hub interface setting pipes)) v
-        in_new e named (inl h) = subst (λ o. FitsIn o v)
-            (sym (set-named device below_hub interface setting pipes true e named h))
-            (new_in e named (new_end true e) refl)
-        in_new e named (inr h) = subst (λ o. FitsIn o v)
-            (sym (set-past device below_hub interface setting pipes true e named h)) tt
-
-        in_by : (e : ℕ) (b : Bool) → names_in interface true e text ≡ b
-            → FitsIn (pipe_at true e (set_function device below_hub interface setting pipes)) v
-        in_by e true named = in_new e named (cases_lt e (length (row_at true pipes)))
-        in_by e false apart = subst (λ o. FitsIn o v)
-            (sym (set-elsewhere device below_hub interface setting pipes true e apart))
-            (in_beside e apart (pipe_at true e pipes) (placed true e) (f.ins e))
+    set_level = level_by (set_function device below_hub interface setting pipes) set_way

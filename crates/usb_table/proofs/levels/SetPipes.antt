@@ -1,39 +1,23 @@
 -- What SET_INTERFACE makes of the pipes to a function.
-use Rattle.std.proofs.Common.{◌≡◌, ◌⊎◌, inl, inr, ◌∙◌, refl, sym, ap, subst, arith, Bool, true}
-use Rattle.std.proofs.Common.{false}
-use Rattle.std.proofs.Common.{ℕ, ◌<◌, ◌≤◌, List, length, get_or, Option, Some, None}
+use Rattle.std.proofs.Common.{◌≡◌, ◌⊎◌, inl, inr, ◌∙◌, refl, sym, ap, arith, Bool, true, false, ℕ}
+use Rattle.std.proofs.Common.{◌<◌, ◌≤◌, List, length, get_or, Option, Some, None}
 use Rattle.std.proofs.lemmas.Bool.{cases_lt}
 use Rattle.std.proofs.Math.Path.{fun_ext}
 use Rattle.usb_transaction.specs.{Target}
-use Rattle.usb_descriptor.specs.{EndpointTable, IsTableOf, end_at, usable_under}
-use Rattle.usb_descriptor.specs.{EndpointKind, UsableEndpoint, default_settings, names_in}
-use Rattle.usb_descriptor.specs.{settable_in, with_setting}
+use Rattle.usb_descriptor.specs.{EndpointTable, IsTableOf, end_at, usable_under, EndpointKind}
+use Rattle.usb_descriptor.specs.{UsableEndpoint, default_settings, names_in, settable_in}
+use Rattle.usb_descriptor.specs.{with_setting}
 use Rattle.usb_descriptor.proofs.Interface.{length-default_settings, length-with_setting}
 use Rattle.usb_descriptor.proofs.Interface.{setting_of-with_setting, usable-elsewhere, usable-named}
-use Rattle.usb_descriptor.proofs.Interface.{usable_under-small}
 use Rattle.usb_pipe.specs.{PipeState}
 use Rattle.usb_enum.specs.{Accepted, configuration_of, target_of}
 use Rattle.usb_table.specs.{AreFunctionPipes, AreWhole, FunctionPipes, IsPlace, cleared_row}
 use Rattle.usb_table.specs.{end_under, first_endpoint, first_number, number_of, lost_at}
-use Rattle.usb_table.specs.{lost_function, lost_row, mark_of}
-use Rattle.usb_table.specs.{marked_row, new_pipe, pipe_at, replaced_row, row_at, row_of_ends}
-use Rattle.usb_table.specs.{set_function, set_pipe, set_row}
-use Rattle.usb_table.proofs.levels.NewPipes.{new_pipe_fits, row_of_ends-at}
+use Rattle.usb_table.specs.{lost_function, lost_row, mark_of, marked_row, new_pipe, pipe_at}
+use Rattle.usb_table.specs.{replaced_row, row_at, row_of_ends, set_function, set_pipe, set_row}
+use Rattle.usb_table.proofs.levels.NewPipes.{new_pipe_fits, row_of_ends-at, none_at}
 use Rattle.usb_table.proofs.levels.ReplacedRows.{length-replaced_row, replaced-elsewhere}
-use Rattle.usb_table.proofs.levels.ReplacedRows.{replaced-named, replaced-past}
-
--- an endpoint that a pipe can use has a number below 16
-pub none_at : (settings : List ℕ) (device : Accepted) (is_in : Bool) (e : ℕ) → 16 ≤ e
-    → end_under settings device is_in e ≡ None
-none_at settings device is_in e beyond = by_end (end_under settings device is_in e) refl
-  where
-    by_end : (o : Option UsableEndpoint) → end_under settings device is_in e ≡ o
-        → end_under settings device is_in e ≡ None
-    by_end None is = is
-    by_end (Some end) is =
-        let small =
-        (usable_under-small settings device.low is_in e (configuration_of device) end is).1 in
-        absurd (omega (arith, small, beyond))
+use Rattle.usb_table.proofs.levels.ReplacedRows.{replaced-named, replaced-past, replaced-all}
 
 -- What is made of endpoints that were found
 
@@ -105,13 +89,17 @@ module _ (device : Accepted) (below_hub : Bool) (interface setting : ℕ) (pipes
     loss_marks-at false = refl
 
     module _ (is_in : Bool) (e : ℕ) where
+      -- what stands at an endpoint of the interface then: a new pipe, or a mark of the one that did
+      abbrev put : ℕ → Option PipeState → Option PipeState
+      put k had = set_pipe device below_hub interface setting is_in k
+
+      abbrev mark : ℕ → Option EndpointKind → Option EndpointKind
+      mark k kind = mark_of (get_or (row_at is_in pipes) k None) kind
+
       module _ (apart : names_in interface is_in e text ≡ false) where
         pub set-elsewhere : pipe_at is_in e after_set ≡ pipe_at is_in e pipes
         set-elsewhere = ap (λ row. get_or row e None) (set_row-at is_in)
-            ∙ replaced-elsewhere text interface is_in
-            (λ k had. set_pipe device below_hub interface setting is_in k) None (row_at is_in pipes)
-            e
-            apart
+            ∙ replaced-elsewhere text interface is_in put None (row_at is_in pipes) e apart
 
         set_mark-elsewhere : lost_at is_in e after_set ≡ lost_at is_in e pipes
         set_mark-elsewhere = ap (λ row. get_or row e None) (set_marks-at is_in)
@@ -125,55 +113,36 @@ module _ (device : Accepted) (below_hub : Bool) (interface setting : ℕ) (pipes
 
         loss_mark-elsewhere : lost_at is_in e after_loss ≡ lost_at is_in e pipes
         loss_mark-elsewhere = ap (λ row. get_or row e None) (loss_marks-at is_in)
-            ∙ replaced-elsewhere text interface is_in
-            (λ k mark. mark_of (get_or (row_at is_in pipes) k None) mark) None
-            (lost_row is_in pipes) e
-            apart
+            ∙ replaced-elsewhere text interface is_in mark None (lost_row is_in pipes) e apart
 
       module _ (named : names_in interface is_in e text ≡ true) where
         pub set-named : e < length (row_at is_in pipes)
             → pipe_at is_in e after_set ≡ set_pipe device below_hub interface setting is_in e
         set-named h = ap (λ row. get_or row e None) (set_row-at is_in)
-            ∙ replaced-named text interface is_in
-            (λ k had. set_pipe device below_hub interface setting is_in k) None (row_at is_in pipes)
-            e
-            named h
+            ∙ replaced-named text interface is_in put None (row_at is_in pipes) e named h
 
         pub set-past : length (row_at is_in pipes) ≤ e → pipe_at is_in e after_set ≡ None
         set-past h = ap (λ row. get_or row e None) (set_row-at is_in)
-            ∙ replaced-past text interface is_in
-            (λ k had. set_pipe device below_hub interface setting is_in k) None (row_at is_in pipes)
-            e h
+            ∙ replaced-past text interface is_in put None (row_at is_in pipes) e h
 
         set_mark-named : lost_at is_in e after_set ≡ None
         set_mark-named = ap (λ row. get_or row e None) (set_marks-at is_in)
-            ∙ by_size (cases_lt e (length (lost_row is_in pipes)))
-          where
-            by_size : (e < length (lost_row is_in pipes)) ⊎ (length (lost_row is_in pipes) ≤ e)
-                → get_or (cleared_row text interface is_in (lost_row is_in pipes)) e None ≡ None
-            by_size (inl h) = replaced-named text interface is_in (λ k had. None) None
-                (lost_row is_in pipes) e named h
-            by_size (inr h) = replaced-past text interface is_in (λ k had. None) None
-                (lost_row is_in pipes) e h
+            ∙ replaced-all text interface is_in (λ k had. None) None (lost_row is_in pipes) e
+            (λ had. refl) named
 
         pub loss-named : pipe_at is_in e after_loss ≡ None
         loss-named = ap (λ row. get_or row e None) (loss_row-at is_in)
-            ∙ by_size (cases_lt e (length (row_at is_in pipes)))
-          where
-            by_size : (e < length (row_at is_in pipes)) ⊎ (length (row_at is_in pipes) ≤ e)
-                → get_or (cleared_row text interface is_in (row_at is_in pipes)) e None ≡ None
-            by_size (inl h) = replaced-named text interface is_in (λ k had. None) None
-                (row_at is_in pipes) e named h
-            by_size (inr h) = replaced-past text interface is_in (λ k had. None) None
-                (row_at is_in pipes) e h
+            ∙ replaced-all text interface is_in (λ k had. None) None (row_at is_in pipes) e
+            (λ had. refl) named
 
         loss_mark-named : e < length (lost_row is_in pipes) → lost_at is_in e after_loss
             ≡ mark_of (pipe_at is_in e pipes) (lost_at is_in e pipes)
         loss_mark-named h = ap (λ row. get_or row e None) (loss_marks-at is_in)
-            ∙ replaced-named text interface is_in
-            (λ k mark. mark_of (get_or (row_at is_in pipes) k None) mark) None
-            (lost_row is_in pipes) e
-            named h
+            ∙ replaced-named text interface is_in mark None (lost_row is_in pipes) e named h
+
+      loss_mark-past : length (lost_row is_in pipes) ≤ e → lost_at is_in e after_loss ≡ None
+      loss_mark-past h = ap (λ row. get_or row e None) (loss_marks-at is_in)
+          ∙ replaced-past text interface is_in mark None (lost_row is_in pipes) e h
 
     -- They are those to a function
 
@@ -201,7 +170,7 @@ module _ (device : Accepted) (below_hub : Bool) (interface setting : ℕ) (pipes
 
         -- what is nowhere said to stand
         past : 16 ≤ e → Place (end_under now device is_in e) None None
-        past h = subst (λ end. Place end None None) (sym (none_at now device is_in e h)) tt
+        past h = rw (none_at now device is_in e h) tt
 
         set_place : length (row_at is_in pipes) ≡ 16 → Place (end_under now device is_in e)
             (lost_at is_in e after_set) (pipe_at is_in e after_set)
@@ -210,31 +179,24 @@ module _ (device : Accepted) (below_hub : Bool) (interface setting : ℕ) (pipes
             by_size : names_in interface is_in e text ≡ true
                 → (e < length (row_at is_in pipes)) ⊎ (length (row_at is_in pipes) ≤ e)
                 → Place (end_under now device is_in e) None (pipe_at is_in e after_set)
-            by_size named (inl h) =
-                subst (Place (end_under now device is_in e) None) (sym (set-named is_in e named h))
-                (subst (λ end. Place end None (set_pipe device below_hub interface setting is_in e))
-                (end-named is_in e named)
+            by_size named (inl h) = rw (set-named is_in e named h, ← end-named is_in e named)
                 (new_pipe_fits device below_hub is_in e
-                (end_under (with_setting interface setting default_settings) device is_in e)))
-            by_size named (inr h) = subst (Place (end_under now device is_in e) None)
-                (sym (set-past is_in e named h)) (past (omega (arith, size, h)))
+                (end_under (with_setting interface setting default_settings) device is_in e))
+            by_size named (inr h) =
+                rw (set-past is_in e named h) (past (omega (arith, size, h)))
 
             by_name : (b : Bool) → names_in interface is_in e text ≡ b
                 → Place (end_under now device is_in e) (lost_at is_in e after_set)
                 (pipe_at is_in e after_set)
-            by_name true named = subst (λ mark. Place (end_under now device is_in e) mark
-                (pipe_at is_in e after_set)) (sym (set_mark-named is_in e named))
+            by_name true named = rw (set_mark-named is_in e named)
                 (by_size named (cases_lt e (length (row_at is_in pipes))))
             by_name false named =
-                subst (λ mark. Place (end_under now device is_in e) mark
-                (pipe_at is_in e after_set))
-                (sym (set_mark-elsewhere is_in e named))
-                (subst (Place (end_under now device is_in e) (lost_at is_in e pipes))
-                (sym (set-elsewhere is_in e named))
-                (subst (λ end. Place end (lost_at is_in e pipes) (pipe_at is_in e pipes))
-                (sym (usable-elsewhere interface setting are.settings device.low is_in e text
-                named))
-                (are.each is_in e)))
+                rw (
+                  set_mark-elsewhere is_in e named,
+                  set-elsewhere is_in e named,
+                  usable-elsewhere interface setting are.settings device.low is_in e text named,
+                )
+                (are.each is_in e)
 
         -- no pipe where none was or where it is lost
         marked : (pipe : Option PipeState) (mark : Option EndpointKind)
@@ -245,8 +207,7 @@ module _ (device : Accepted) (below_hub : Bool) (interface setting : ℕ) (pipes
         marked (Some pipe) mark is = refl
 
         old_past : 16 ≤ e → Place (end_under are.settings device is_in e) None None
-        old_past h =
-            subst (λ end. Place end None None) (sym (none_at are.settings device is_in e h)) tt
+        old_past h = rw (none_at are.settings device is_in e h) tt
 
         loss_place : length (lost_row is_in pipes) ≡ 16
             → Place (end_under are.settings device is_in e) (lost_at is_in e after_loss)
@@ -256,28 +217,19 @@ module _ (device : Accepted) (below_hub : Bool) (interface setting : ℕ) (pipes
             by_size : names_in interface is_in e text ≡ true
                 → (e < length (lost_row is_in pipes)) ⊎ (length (lost_row is_in pipes) ≤ e)
                 → Place (end_under are.settings device is_in e) (lost_at is_in e after_loss) None
-            by_size named (inl h) =
-                subst (λ mark. Place (end_under are.settings device is_in e) mark None)
-                (sym (loss_mark-named is_in e named h))
+            by_size named (inl h) = rw (loss_mark-named is_in e named h)
                 (marked (pipe_at is_in e pipes) (lost_at is_in e pipes) (are.each is_in e))
             by_size named (inr h) =
-                subst (λ mark. Place (end_under are.settings device is_in e) mark None)
-                (sym (ap (λ row. get_or row e None) (loss_marks-at is_in)
-                ∙ replaced-past text interface is_in
-                (λ k mark. mark_of (get_or (row_at is_in pipes) k None) mark) None
-                (lost_row is_in pipes) e h)) (old_past (omega (arith, size, h)))
+                rw (loss_mark-past is_in e h) (old_past (omega (arith, size, h)))
 
             by_name : (b : Bool) → names_in interface is_in e text ≡ b
                 → Place (end_under are.settings device is_in e) (lost_at is_in e after_loss)
                 (pipe_at is_in e after_loss)
-            by_name true named = subst (Place (end_under are.settings device is_in e)
-                (lost_at is_in e after_loss)) (sym (loss-named is_in e named))
+            by_name true named = rw (loss-named is_in e named)
                 (by_size named (cases_lt e (length (lost_row is_in pipes))))
             by_name false named =
-                subst (λ mark. Place (end_under are.settings device is_in e) mark
-                (pipe_at is_in e after_loss)) (sym (loss_mark-elsewhere is_in e named))
-                (subst (Place (end_under are.settings device is_in e) (lost_at is_in e pipes))
-                (sym (loss-elsewhere is_in e named)) (are.each is_in e))
+                rw (loss_mark-elsewhere is_in e named, loss-elsewhere is_in e named)
+                (are.each is_in e)
 
       set_size : AreWhole after_set → (is_in : Bool) → length (row_at is_in pipes) ≡ 16
       set_size whole true = sym (length-replaced_row text interface true

@@ -1,9 +1,7 @@
 -- Pipes of a function that stand in their places, and those that are picked among them.
 use Rattle.std.proofs.Common.{◌≡◌, ◌≢◌, ◌∙◌, refl, sym, ap, subst, arith, Bool, true, false, ℕ}
-use Rattle.std.proofs.Common.{zero}
-use Rattle.std.proofs.Common.{suc, ◌==◌, ◌≤◌, ◌<◌, ◌%◌, not, nat_le, List, [], ◌∷◌, length}
-use Rattle.std.proofs.Common.{get_or}
-use Rattle.std.proofs.Common.{slice_set, Option, Some, None, IfSome, if◌then◌else◌}
+use Rattle.std.proofs.Common.{zero, suc, ◌==◌, ◌≤◌, ◌<◌, ◌%◌, not, nat_le, List, [], ◌∷◌, length}
+use Rattle.std.proofs.Common.{get_or, slice_set, Option, Some, None, IfSome, if◌then◌else◌}
 use Rattle.std.specs.Option.{option_map}
 use Rattle.usb_request.specs.{DIRECTION_IN}
 use Rattle.usb_descriptor.specs.{EndpointKind, UsableEndpoint}
@@ -15,15 +13,11 @@ use Rattle.usb_transaction.specs.{Target}
 use Rattle.usb_pipe.specs.{PipeState, pipe_made}
 use Rattle.usb_enum.specs.{Accepted, configuration_of}
 use Rattle.usb_table.specs.{AreFunctionPipes, AreInPlace, At, EndpointChoice, FirstBulk}
-use Rattle.usb_table.specs.{FunctionPipes}
-use Rattle.usb_table.specs.{end_under, first_lost, first_unclear, IsPlace, lost_at, lost_if}
-use Rattle.usb_table.specs.{moves_bulk, unclear}
-use Rattle.usb_table.specs.{IsEndPipe, first_number, first_pipe, function_made, gives_bytes}
-use Rattle.usb_table.specs.{is_bulk_kind}
-use Rattle.usb_table.specs.{gives_reports, only_if, pipe_at, pipe_if, pipe_to, polls_through}
-use Rattle.usb_table.specs.{receives_through, row_made, sends_through, takes_bytes}
-use Rattle.usb_table.specs.{way_to}
-use Rattle.usb_table.specs.{with_pipe, with_rest}
+use Rattle.usb_table.specs.{FunctionPipes, end_under, first_lost, first_unclear, IsPlace, lost_at}
+use Rattle.usb_table.specs.{lost_if, moves_bulk, unclear, IsEndPipe, first_number, first_pipe}
+use Rattle.usb_table.specs.{function_made, gives_bytes, is_bulk_kind, gives_reports, only_if}
+use Rattle.usb_table.specs.{pipe_at, pipe_if, pipe_to, polls_through, receives_through, row_made}
+use Rattle.usb_table.specs.{sends_through, takes_bytes, way_to, with_pipe, with_rest}
 
 -- Rows
 
@@ -70,8 +64,9 @@ module _ (pipe : PipeState) (pipes : FunctionPipes) where
       else record pipes { outs = with_at None pipe.ep (Some pipe) pipes.outs }
 
   -- it stands there
-  pub at_with : pipe_at pipe.is_in pipe.ep (with_pipe pipe pipes) ≡ Some pipe
-  at_with = by_way pipe.is_in
+  pub at_with : (is_in : Bool) (e : ℕ) → pipe.is_in ≡ is_in → pipe.ep ≡ e
+      → pipe_at is_in e (with_pipe pipe pipes) ≡ Some pipe
+  at_with is_in e way number = rw (← way, ← number) (by_way pipe.is_in)
     where
       by_way : (b : Bool) → pipe_at b pipe.ep (with_way b) ≡ Some pipe
       by_way true = at_same None pipe.ep (Some pipe) pipes.ins
@@ -152,8 +147,7 @@ pub made_with : (pipe left : PipeState) (pipes : FunctionPipes)
     → pipe_at pipe.is_in pipe.ep pipes ≡ Some pipe → pipe_made left ≡ pipe_made pipe
     → function_made (with_pipe left pipes) ≡ function_made pipes
 made_with pipe left pipes at same =
-    with_made left pipes pipe (ap (λ b. pipe_at b left.ep pipes) (same_way pipe left same)
-    ∙ ap (λ n. pipe_at pipe.is_in n pipes) (same_number pipe left same) ∙ at) same
+    with_made left pipes pipe (rw (same_way pipe left same, same_number pipe left same) at) same
 
 -- of pipes as they were made each is as it was made
 at_row : (is_in : Bool) (e : ℕ) (pipes : FunctionPipes)
@@ -207,11 +201,8 @@ at_picks is_in e pipes pipe placed at =
     let place = place_of pipes placed is_in e pipe at in
     record {
       at = ap (λ b. pipe_at b pipe.ep pipes) place.0 ∙ ap (λ n. pipe_at is_in n pipes) place.1 ∙ at;
-      again = λ left same.
-          let way = same_way pipe left same ∙ place.0 in
-          let number = same_number pipe left same ∙ place.1 in
-          sym (ap (λ b. pipe_at b left.ep (with_pipe left pipes)) way
-          ∙ ap (λ n. pipe_at is_in n (with_pipe left pipes)) number) ∙ at_with left pipes;
+      again = λ left same. at_with left pipes is_in e (same_way pipe left same ∙ place.0)
+          (same_number pipe left same ∙ place.1);
     }
 
 pub to_picks : (a : ℕ) → Picks (pipe_to a)
@@ -259,28 +250,20 @@ only_picks test still pick picks pipes pipe placed h =
           ∙ ap (λ b. if b then Some left else None) (still pipe left same ∙ one.1);
     }
 
-bulk_still : (pipe left : PipeState) → pipe_made left ≡ pipe_made pipe
-    → moves_bulk left ≡ moves_bulk pipe
-bulk_still pipe left same = ap moves_bulk same
-
 pub first_picks : (is_in : Bool) → Picks (first_pipe is_in)
-first_picks is_in = only_picks moves_bulk bulk_still (at_first is_in) (number_picks is_in)
-
-takes_still : (pipe left : PipeState) → pipe_made left ≡ pipe_made pipe
-    → takes_bytes left ≡ takes_bytes pipe
-takes_still pipe left same = ap takes_bytes same
-
-gives_still : (pipe left : PipeState) → pipe_made left ≡ pipe_made pipe
-    → gives_bytes left ≡ gives_bytes pipe
-gives_still pipe left same = ap gives_bytes same
+first_picks is_in =
+    only_picks moves_bulk (λ pipe left same. ap moves_bulk same) (at_first is_in)
+    (number_picks is_in)
 
 pub sends_picks : (choice : EndpointChoice) → Picks (sends_through choice)
 sends_picks FirstBulk = first_picks false
-sends_picks (At a) = only_picks takes_bytes takes_still (pipe_to a) (to_picks a)
+sends_picks (At a) =
+    only_picks takes_bytes (λ pipe left same. ap takes_bytes same) (pipe_to a) (to_picks a)
 
 pub receives_picks : (choice : EndpointChoice) → Picks (receives_through choice)
 receives_picks FirstBulk = first_picks true
-receives_picks (At a) = only_picks gives_bytes gives_still (pipe_to a) (to_picks a)
+receives_picks (At a) =
+    only_picks gives_bytes (λ pipe left same. ap gives_bytes same) (pipe_to a) (to_picks a)
 
 pub polls_picks : (a : ℕ) → Picks (polls_through a)
 polls_picks a = only_picks gives_reports (λ pipe left same. ap gives_reports same) (pipe_to a)
@@ -371,7 +354,7 @@ module _ {device : Accepted} {below_hub : Bool} {pipes : FunctionPipes} (pipe : 
       (configuration_of device) of.end of.usable).0 in omega (arith, small)
 
   pub some_bytes : 1 ≤ pipe.max
-  some_bytes = subst (λ n. 1 ≤ n) (sym of.is.max)
+  some_bytes = rw of.is.max
       (usable_under-small of.are.settings device.low pipe.is_in pipe.ep (configuration_of device)
       of.end of.usable).2
 
@@ -459,24 +442,12 @@ unclear_beside is_in other (Some left) pipes way apart =
 
 -- The pipe to an address, by its direction
 
-pub way_is : (is_in : Bool) (a : ℕ) (pipes : FunctionPipes) (pipe : PipeState)
-    → pipe_to a pipes ≡ Some pipe → pipe.is_in ≡ is_in → way_to is_in a pipes ≡ Some pipe
-way_is true a pipes pipe at way =
-    ap (only_if (λ (p : PipeState). p.is_in)) at ∙ ap (λ b. if b then Some pipe else None) way
-way_is false a pipes pipe at way = ap (only_if takes_bytes) at
-    ∙ ap (λ b. if not b then Some pipe else None) way
+-- one of a direction (true: IN), and none of the other
+abbrev pub one_way : Bool → Option PipeState → Bool → Option PipeState
+one_way is_in pipe true = if is_in then pipe else None
+one_way is_in pipe false = if not is_in then pipe else None
 
-pub way_not : (is_in : Bool) (a : ℕ) (pipes : FunctionPipes) (pipe : PipeState)
-    → pipe_to a pipes ≡ Some pipe → (pipe.is_in ≡ is_in → ⊥) → way_to is_in a pipes ≡ None
-way_not true a pipes pipe at apart = by_way pipe.is_in refl
-  where
-    by_way : (b : Bool) → pipe.is_in ≡ b → way_to true a pipes ≡ None
-    by_way true way = absurd (apart way)
-    by_way false way =
-        ap (only_if (λ (p : PipeState). p.is_in)) at ∙ ap (λ b. if b then Some pipe else None) way
-way_not false a pipes pipe at apart = by_way pipe.is_in refl
-  where
-    by_way : (b : Bool) → pipe.is_in ≡ b → way_to false a pipes ≡ None
-    by_way false way = absurd (apart way)
-    by_way true way = ap (only_if takes_bytes) at
-        ∙ ap (λ b. if not b then Some pipe else None) way
+pub way_to-one : (is_in : Bool) (a : ℕ) (pipes : FunctionPipes) (pipe : PipeState)
+    → pipe_to a pipes ≡ Some pipe → way_to is_in a pipes ≡ one_way pipe.is_in (Some pipe) is_in
+way_to-one true a pipes pipe at = ap (only_if (λ (p : PipeState). p.is_in)) at
+way_to-one false a pipes pipe at = ap (only_if takes_bytes) at

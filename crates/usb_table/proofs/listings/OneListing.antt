@@ -1,7 +1,6 @@
 -- What is plugged has one right listing, but for addresses.
-use Rattle.std.proofs.Common.{◌≡◌, inl, inr, ◌≤◌, ◌<◌, ◌+◌, ℕ, zero, suc, List, length}
-use Rattle.std.proofs.Common.{Option, None, Some, refl, ap, sym, subst, ◌∙◌, arith, IsSome}
-use Rattle.std.proofs.Common.{IsSomeAnd}
+use Rattle.std.proofs.Common.{◌≡◌, inl, inr, ◌≤◌, ◌<◌, ◌+◌, ℕ, zero, suc, List, length, Option}
+use Rattle.std.proofs.Common.{None, Some, refl, ap, sym, ◌∙◌, arith, IsSome, IsSomeAnd}
 use Rattle.usb_port.specs.{parent_of, port_on_hub}
 use Rattle.usb_device.specs.{Spec}
 use Rattle.usb_enum.specs.{Finding, HostOptions, HubFacts, IsFindingOf, IsRight}
@@ -77,7 +76,7 @@ same_hub a b path hub like at = pick (finding_at path a) refl at
 is_some_and-moved : (o u : Option HubFacts) (P : HubFacts → Type 0)
     → ((hub : HubFacts) → o ≡ Some hub → u ≡ Some hub) → IsSomeAnd o P → IsSomeAnd u P
 is_some_and-moved None u P on h = absurd h
-is_some_and-moved (Some hub) u P on h = subst (λ x. IsSomeAnd x P) (sym (on hub refl)) h
+is_some_and-moved (Some hub) u P on h = rw (on hub refl) h
 
 -- what is listed alike at shorter paths has the same ports
 port_moved : (roots : ℕ) (a b : Entries) (path : List ℕ)
@@ -96,42 +95,41 @@ port_moved roots a b path like h = record {
         (λ facts. (1 ≤ port_on_hub path) × (port_on_hub path ≤ facts.ports))
         (λ hub at. same_hub a b p hub (like p (parent_shorter path p e)) at) h
 
-same_here : (options : HostOptions) (roots : ℕ) (tree : SpecTree) (a b : Entries)
-    → Lists options roots tree a → Lists options roots tree b
-    → NoneWaits a → NoneWaits b → (path : List ℕ) (f : Finding) → finding_at path a ≡ Some f
-    → (IsListedPort roots a path → IsListedPort roots b path)
-    → IsSomeAnd (finding_at path b) (IsFoundLike f)
-same_here options roots tree a b x y m n path f at move =
-    pick (tree path) refl (x.nothing_else path f at).1
-  where
-    port : IsListedPort roots a path
-    port = (x.nothing_else path f at).0
+-- of two right listings
 
-    both : (spec : Spec) (u : Option Finding)
-        → IsSomeAnd (Some f) (IsFindingOf spec options (tier_of path) (supply_at tree path))
-        → IsSomeAnd u (IsFindingOf spec options (tier_of path) (supply_at tree path))
-        → IsSomeAnd u (IsFoundLike f)
-    both spec None g h = h
-    both spec (Some e) g h = found_like spec options (tier_of path) (supply_at tree path) f e g h
+module _ (options : HostOptions) (roots : ℕ) (tree : SpecTree) (a b : Entries)
+    (x : Lists options roots tree a) (y : Lists options roots tree b) (m : NoneWaits a)
+    (n : NoneWaits b) where
+  same_here : (path : List ℕ) (f : Finding) → finding_at path a ≡ Some f
+      → (IsListedPort roots a path → IsListedPort roots b path)
+      → IsSomeAnd (finding_at path b) (IsFoundLike f)
+  same_here path f found move = pick (tree path) refl (x.nothing_else path f found).1
+    where
+      port : IsListedPort roots a path
+      port = (x.nothing_else path f found).0
 
-    pick : (o : Option Spec) → tree path ≡ o → IsSome o
-        → IsSomeAnd (finding_at path b) (IsFoundLike f)
-    pick None t some = absurd cc
-    pick (Some spec) t some =
-        both spec (finding_at path b)
-        (subst (λ o. IsSomeAnd o (IsFindingOf spec options (tier_of path) (supply_at tree path))) at
-        (listed_finding options roots tree a x m path spec port t))
-        (listed_finding options roots tree b y n path spec (move port) t)
+      both : (spec : Spec) (u : Option Finding)
+          → IsSomeAnd (Some f) (IsFindingOf spec options (tier_of path) (supply_at tree path))
+          → IsSomeAnd u (IsFindingOf spec options (tier_of path) (supply_at tree path))
+          → IsSomeAnd u (IsFoundLike f)
+      both spec None g h = h
+      both spec (Some e) g h =
+          found_like spec options (tier_of path) (supply_at tree path) f e g h
 
-listed_alike : (options : HostOptions) (roots : ℕ) (tree : SpecTree) (a b : Entries)
-    → Lists options roots tree a → Lists options roots tree b → NoneWaits a → NoneWaits b
-    → (n : ℕ) (path : List ℕ) → length path < n → (f : Finding) → finding_at path a ≡ Some f
-    → IsSomeAnd (finding_at path b) (IsFoundLike f)
-listed_alike options roots tree a b x y m n zero path l f at = absurd (omega (arith, l))
-listed_alike options roots tree a b x y m n (suc k) path l f at =
-    same_here options roots tree a b x y m n path f at
-    (port_moved roots a b path (λ p q. listed_alike options roots tree a b x y m n k p
-    (omega (arith, l, q))))
+      pick : (o : Option Spec) → tree path ≡ o → IsSome o
+          → IsSomeAnd (finding_at path b) (IsFoundLike f)
+      pick None t some = absurd cc
+      pick (Some spec) t some =
+          both spec (finding_at path b)
+          (rw found at (listed_finding options roots tree a x m path spec port t))
+          (listed_finding options roots tree b y n path spec (move port) t)
+
+  listed_alike : (k : ℕ) (path : List ℕ) → length path < k → (f : Finding)
+      → finding_at path a ≡ Some f → IsSomeAnd (finding_at path b) (IsFoundLike f)
+  listed_alike zero path l f at = absurd (omega (arith, l))
+  listed_alike (suc k) path l f at =
+      same_here path f at
+      (port_moved roots a b path (λ p q. listed_alike k p (omega (arith, l, q))))
 
 pub one_listing : (options : HostOptions) (roots : ℕ) (tree : SpecTree) (a b : Entries)
     → Lists options roots tree a → Lists options roots tree b → NoneWaits a → NoneWaits b

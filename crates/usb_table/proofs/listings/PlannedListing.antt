@@ -11,8 +11,7 @@ lists_moved : (options : HostOptions) (m n : ℕ) (a b : SpecTree) (entries : En
     → ((path : List ℕ) → a path ≡ b path) → Lists options m a entries
     → Lists options n b entries
 lists_moved options m n a b entries e same x =
-    subst (λ k. Lists options k b entries) e (subst (λ (t : SpecTree). Lists options m t entries)
-    (λ i path. same path i) x)
+    rw (← e) (subst (λ (t : SpecTree). Lists options m t entries) (λ i path. same path i) x)
 
 pub lists_of_plan : (plan : PlanData) → IsPlan plan → AtPorts plan.events → (w : World)
     → Course AnyStep (opening plan) w → (options : HostOptions) (entries : Entries)

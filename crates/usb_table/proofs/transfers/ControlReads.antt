@@ -1,18 +1,16 @@
 -- What a read of the device at a path tells of the table.
 use Rattle.std.specs.Result.{IsErr, IsErrAnd}
-use Rattle.std.proofs.Common.{◌≡◌, ◌==◌, subst, ap, ℕ, List, Bool, true, false, Option}
-use Rattle.std.proofs.Common.{Result, Ok}
-use Rattle.std.proofs.Common.{Err, is_some}
+use Rattle.std.proofs.Common.{◌≡◌, ◌==◌, ap, ℕ, List, Bool, true, false, Option, Result, Ok, Err}
+use Rattle.std.proofs.Common.{is_some}
 use Rattle.std.specs.Global.{Vec}
 use Rattle.usb_request.specs.{IsToHost, Setup}
 use Rattle.usb_world.specs.{World}
 use Rattle.usb_bus.specs.{StepRun}
 use Rattle.usb_transaction.specs.{Target}
 use Rattle.usb_pipe.specs.{PipeFault}
-use Rattle.usb_enum.specs.{Accepted}
-use Rattle.usb_table.specs.{accepted_device_at, ArePipesAt, ArePipesIf, ArePipesTo, ControlledAt}
-use Rattle.usb_table.specs.{control_most, control_target, is_below_hub, of_pipe, pipes_at, ReadIf}
-use Rattle.usb_table.specs.{ReadLeftIf, ReadMade, Table, table_answer, TableFault, TableReads}
+use Rattle.usb_table.specs.{accepted_device_at, ArePipesAt, ArePipesTo, ControlledAt, control_most}
+use Rattle.usb_table.specs.{control_target, is_below_hub, of_pipe, pipes_at, ReadIf, ReadLeftIf}
+use Rattle.usb_table.specs.{ReadMade, Table, table_answer, TableFault, TableReads}
 use Rattle.usb_table.proofs.transfers.FreeRequests.{read_is_free}
 use Rattle.usb_table.proofs.transfers.PlainRequests.{none_is_plain, read_is_plain}
 use Rattle.usb_table.proofs.transfers.PlainTransfers.{asked_of, IsAsked, made_controls}
@@ -29,8 +27,7 @@ pub asked_pipes : (path : List ℕ) (table : Table) (t : Target)
     → (x : IsAsked (is_below_hub path) (accepted_device_at path table.entries) t)
     → ArePipesTo x.device (is_below_hub path) (pipes_at path table)
 asked_pipes path table t fits x =
-    subst (λ (d : Option Accepted). ArePipesIf d (is_below_hub path) (pipes_at path table)) x.is
-    fits
+    rw x.is at fits
 
 module _ (path : List ℕ) (request : Setup) (host : IsToHost request) (table : Table)
     (fits : ArePipesAt path table) {old : World} {text : Option (List ℕ)}

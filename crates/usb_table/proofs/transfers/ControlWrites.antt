@@ -1,12 +1,11 @@
 -- What a write to the device at a path tells of the table.
-use Rattle.std.proofs.Common.{◌≡◌, ◌==◌, refl, subst, sym, ℕ, List, Bool, true, false, Option, None}
-use Rattle.std.proofs.Common.{Some}
-use Rattle.std.proofs.Common.{Result, Ok, Err, is_some}
+use Rattle.std.proofs.Common.{subst, sym, ◌≡◌, ◌==◌, refl, ℕ, List, Bool, true, false, Option, None}
+use Rattle.std.proofs.Common.{Some, Result, Ok, Err, is_some}
 use Rattle.usb_request.specs.{IsToDevice, Setup, is_reserved}
 use Rattle.usb_world.specs.{World}
 use Rattle.usb_bus.specs.{StepRun}
 use Rattle.usb_transaction.specs.{Target}
-use Rattle.usb_pipe.specs.{ControlWrite, PipeFault, WriteLeaves}
+use Rattle.usb_pipe.specs.{ControlWrite, WriteLeaves, PipeFault}
 use Rattle.usb_enum.specs.{Accepted}
 use Rattle.usb_table.specs.{accepted_device_at, ArePipesAt, ControlledAt, control_most}
 use Rattle.usb_table.specs.{is_below_hub, Table, table_answer, TableFault, TableWrites}
@@ -15,7 +14,7 @@ use Rattle.usb_table.specs.{without_bytes, write_target}
 use Rattle.usb_table.proofs.transfers.ControlReads.{asked_pipes}
 use Rattle.usb_table.proofs.transfers.FreeRequests.{IsFree, unreserved_is_free}
 use Rattle.usb_table.proofs.transfers.PlainRequests.{none_is_plain, put_is_plain}
-use Rattle.usb_table.proofs.transfers.PlainTransfers.{IsAsked, IsPlain, made_controls}
+use Rattle.usb_table.proofs.transfers.PlainTransfers.{IsPlain, IsAsked, made_controls}
 
 -- a device is asked what the host alone need not send
 pub record IsWritten (below_hub : Bool) (request : Setup) (found : Option Accepted) (t : Target)

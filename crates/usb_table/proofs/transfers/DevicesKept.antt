@@ -1,17 +1,17 @@
 -- Transfers through pipes leave each device with its description and registers, ask nothing of
 -- ports, and add nothing to what is left to do.
 use Rattle.std.proofs.Common.{◌≡◌, ◌≢◌, ◌⊎◌, inl, inr, ℕ, ◌==◌, true, false, List, Option, None}
-use Rattle.std.proofs.Common.{Some, Result, Ok, Err, refl, ap, sym, subst, ◌∙◌, Bool, MatchResult}
+use Rattle.std.proofs.Common.{Some, Result, Ok, Err, refl, ap, sym, subst, ◌∙◌, Bool}
 use Rattle.std.specs.Global.{Vec}
 use Rattle.std.proofs.lemmas.Bool.{cases_eq}
 use Rattle.arrayvec.specs.ArrayVec.{ArrayVec}
 use Rattle.usb_packet.specs.{Toggle, One}
 use Rattle.usb_port.specs.{PortState}
 use Rattle.usb_request.specs.{PORT_OUT, SET_FEATURE, bytes_of, clear_endpoint_halt, Setup}
-use Rattle.usb_device.specs.{ServedEndpoint, BulkOut, BulkIn, Changes}
-use Rattle.usb_device.specs.{OnlyControl, Is, Outcome, stalled, unhalts, on_endpoint}
-use Rattle.usb_device.specs.{outcome, State, begun_again, begun, accepted, Spec, Registers}
-use Rattle.usb_device.specs.{first_stage, ending, Location, reach_on, state_on}
+use Rattle.usb_device.specs.{ServedEndpoint, BulkOut, BulkIn, Changes, OnlyControl, Is, Outcome}
+use Rattle.usb_device.specs.{stalled, unhalts, on_endpoint, outcome, State, begun_again, begun}
+use Rattle.usb_device.specs.{accepted, Spec, Registers, first_stage, ending, Location, reach_on}
+use Rattle.usb_device.specs.{state_on}
 use Rattle.usb_world.specs.{Attempt, BusFault, is_setup, EachWas, DidIn, DidOut, IsMade, IsIn}
 use Rattle.usb_world.specs.{IsOut, asks_no_port, LeavesPortAlone, Step, attempt, after}
 use Rattle.usb_world.specs.{with_attempt, Course, here, step, World, HasFault}
@@ -24,14 +24,12 @@ use Rattle.usb_tree.proofs.Interface.{neither, unequal}
 use Rattle.usb_backlog.specs.{Few, KeepsAll, PortMark}
 use Rattle.usb_backlog.proofs.Interface.{KeepsStep, all_none, data_allows, keeps-attempt}
 use Rattle.usb_backlog.proofs.Interface.{keeps-chain}
-use Rattle.usb_transaction.specs.{AttemptsMade, IsOnly, GivenUp, heard_as, set_up_as, in_attempt}
-use Rattle.usb_transaction.specs.{setup_attempt}
+use Rattle.usb_transaction.specs.{IsOnly, GivenUp, heard_as, set_up_as, in_attempt, setup_attempt}
 use Rattle.usb_transaction.specs.{Target}
 use Rattle.usb_transaction.proofs.Interface.{trail_settled, trail_unshared, transacted_unshared}
-use Rattle.usb_pipe.specs.{PipeFault, PipePolls, PollsOnce, TransferAttempts, PipeState, Sends}
-use Rattle.usb_pipe.specs.{Receives, Clears, Cleared, polled_pipe}
-use Rattle.usb_pipe.specs.{halt_address, FaultAfter, packet_target, Interrupt, Polls, SendsAt}
-use Rattle.usb_pipe.specs.{WriteLeaves, Writes}
+use Rattle.usb_pipe.specs.{PipeFault, PipePolls, TransferAttempts, PipeState, Sends, Receives}
+use Rattle.usb_pipe.specs.{Clears, Cleared, polled_pipe, halt_address, packet_target, Interrupt}
+use Rattle.usb_pipe.specs.{Polls, SendsAt, WriteLeaves, Writes}
 use Rattle.usb_pipe.specs.declared.fault.PipeFault.TheVariants as pipe_fault
 use Rattle.usb_pipe.proofs.Interface.{given_registers, harmless, poll_attempts, receive_attempts}
 use Rattle.usb_pipe.proofs.Interface.{send_attempts}
@@ -235,7 +233,7 @@ polls_spare pipe far old result left new settled x =
 spared_if : {old new : World} → IsSettled old.roots ⊎ (new ≡ old)
     → (IsSettled old.roots → Spared old new) → Spared old new
 spared_if {old} (inl settled) spared = spared settled
-spared_if {old} (inr same) spared = subst (Spared old) (sym same) (spared_none old)
+spared_if {old} (inr same) spared = rw same (spared_none old)
 
 -- What each leaves, with the addresses
 
@@ -250,8 +248,7 @@ only_transfers old new addresses x = record {
 }
 
 pub same_spares : (old new : World) → new ≡ old → OnlyTransfers old new
-same_spares old new e = subst (OnlyTransfers old) (sym e)
-    (only_transfers old old (keeps_none old) (spared_none old))
+same_spares old new e = rw e (only_transfers old old (keeps_none old) (spared_none old))
 
 pub polls_only : (pipe : Interrupt) → pipe.ep ≢ 0 → (old : World)
     (result : Result (Option (ArrayVec ℕ)) PipeFault) (left : Interrupt) (new : World)
@@ -319,15 +316,6 @@ module _ (wanted : ℕ) (pipe : PipeState) (far : pipe.ep ≢ 0) (old : World)
 module _ (pipe : PipeState) (far : pipe.ep ≢ 0) (old : World)
     (answer : Result (Option (ArrayVec ℕ)) PipeFault) (left : PipeState) (new : World)
     (x : PipePolls pipe old answer left new) where
-  polled_only : PollsOnce pipe old answer left new → OnlyTransfers old new
-  polled_only y = polls_only (polled_pipe pipe) far old answer (polled_pipe left) new y.settled
-      y.polls
-
-  polled_told : PollsOnce pipe old answer left new → (fault : BusFault)
-      → answer ≡ Err (pipe_fault.Bus fault) → HasFault fault new
-  polled_told y fault e = ((poll_attempts (polled_pipe pipe) answer (polled_pipe left) old new
-      y.polls).cut fault e).refused.ends
-
   pub packet_keeps : PipeKeeps old answer new
   packet_keeps = elim (broken_or_not pipe.condition) [
     | inl broken ↦
@@ -336,10 +324,14 @@ module _ (pipe : PipeState) (far : pipe.ep ≢ 0) (old : World)
           worlds = same_spares old new idle.world_kept;
           told = λ fault e. absurd (cc (sym idle.answer ∙ e));
         }
-    | inr works ↦ record {
-      worlds = polled_only (x.asked works);
-      told = polled_told (x.asked works);
-    }
+    | inr works ↦
+        let y = x.asked works in
+        let a = poll_attempts (polled_pipe pipe) answer (polled_pipe left) old new y.polls in
+        record {
+          worlds = polls_only (polled_pipe pipe) far old answer (polled_pipe left) new y.settled
+              y.polls;
+          told = λ fault e. (a.cut fault e).refused.ends;
+        }
   ]
 
 -- CLEAR_FEATURE(ENDPOINT_HALT)
@@ -444,8 +436,7 @@ module _ (is_sent : Bool) (pipe : PipeState) (old : World)
   clears_told : (fault : BusFault) → answer ≡ Err (pipe_fault.Bus fault) → HasFault fault new
   clears_told fault e = elim (sent_or_not is_sent) [
     | inl not ↦ let is = (x.ready not).answer in absurd (cc (sym is ∙ e))
-    | inr sent ↦ subst (λ (r : Result (Unit {0}) PipeFault). MatchResult r
-        (λ done. AttemptsMade 2 old new) (λ why. FaultAfter 1 old why new)) e (x.sent sent).ends
+    | inr sent ↦ rw e at (x.sent sent).ends
   ]
 
   clears_only : OnlyTransfers old new

@@ -1,24 +1,21 @@
 -- What a request asks of a device that changes no address, no configuration, no toggle and no port.
 use Rattle.std.proofs.Common.{◌≡◌, ◌⊎◌, inl, inr, refl, ◌∙◌, ap, ℕ, ◌/◌, ◌==◌, ◌≤◌, nat_lt, Bool}
-use Rattle.std.proofs.Common.{true}
-use Rattle.std.proofs.Common.{not, sym, false, arith, ◌&&◌, ◌||◌, if◌then◌else◌, List, Option, None}
-use Rattle.std.proofs.Common.{Some}
+use Rattle.std.proofs.Common.{true, not, sym, false, arith, ◌&&◌, ◌||◌, if◌then◌else◌, List, Option}
+use Rattle.std.proofs.Common.{None, Some}
 use Rattle.std.proofs.lemmas.Bool.{lt-ltb}
 use Rattle.std.proofs.lemmas.Bool.Decides.{nat_tests}
 use Rattle.usb_tree.proofs.Interface.{neither}
 use Rattle.usb_request.specs.{CLEAR_FEATURE, SET_FEATURE, SET_ADDRESS, SET_CONFIGURATION}
-use Rattle.usb_request.specs.{DEVICE_OUT, ENDPOINT_OUT, PORT_OUT}
-use Rattle.usb_request.specs.{ENDPOINT_HALT, DEVICE_IN, HUB_IN, PORT_IN, GET_DESCRIPTOR, GET_STATUS}
-use Rattle.usb_request.specs.{GET_CONFIGURATION, CONFIGURATION, DEVICE, STRING, HUB}
-use Rattle.usb_request.specs.{IsToDevice, IsToHost, Setup, changes_kept, descriptor_value}
-use Rattle.usb_request.specs.{ENDPOINT_IN, GET_INTERFACE, INTERFACE_IN}
+use Rattle.usb_request.specs.{DEVICE_OUT, ENDPOINT_OUT, PORT_OUT, ENDPOINT_HALT, DEVICE_IN, HUB_IN}
+use Rattle.usb_request.specs.{PORT_IN, GET_DESCRIPTOR, GET_STATUS, GET_CONFIGURATION, CONFIGURATION}
+use Rattle.usb_request.specs.{DEVICE, STRING, HUB, IsToDevice, IsToHost, Setup, changes_kept}
+use Rattle.usb_request.specs.{descriptor_value, ENDPOINT_IN, GET_INTERFACE, INTERFACE_IN}
 use Rattle.usb_request.specs.{DIRECTION_IN, INTERFACE_OUT, SET_INTERFACE, is_coded, is_reserved}
 use Rattle.usb_device.specs.{Is, Outcome, Registers, Spec, stalled, halts, unhalts, tells_port}
-use Rattle.usb_device.specs.Request.{answers}
 use Rattle.usb_device.specs.{outcome, on_endpoint, endpoint_of, ServedEndpoint, told_port}
-use Rattle.usb_device.specs.{asked_descriptor, asked_hub_descriptor, answers_taken}
-use Rattle.usb_device.specs.{takes, tells_halt, told_halt, asked_endpoint_status, is_endpoint_0}
-use Rattle.usb_device.specs.{items_at}
+use Rattle.usb_device.specs.{asked_descriptor, asked_hub_descriptor, answers_taken, takes}
+use Rattle.usb_device.specs.{tells_halt, told_halt, asked_endpoint_status, is_endpoint_0, items_at}
+use Rattle.usb_device.specs.Request.{answers}
 use Rattle.usb_descriptor.specs.{has_interface}
 use Rattle.usb_device.proofs.Interface.{asked_own-any}
 use Rattle.usb_world.specs.{asks_no_port, is_harmless}

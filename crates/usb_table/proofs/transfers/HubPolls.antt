@@ -15,16 +15,16 @@ use Rattle.usb_bus.specs.{StepRun}
 use Rattle.usb_transaction.specs.{AttemptsMade, transaction_bound, Target, Answerer, is_at}
 use Rattle.usb_transaction.specs.{AttemptLog, NoThreeDamaged, Listens}
 use Rattle.usb_transaction.proofs.Interface.{trail_settled}
-use Rattle.usb_pipe.specs.{PipeFault, FaultAfter, Interrupt, Polls, IsNoBusFault, PollLeaves}
-use Rattle.usb_pipe.specs.{PollTells, ToldOf, PollingFailure, interrupt_made}
+use Rattle.usb_pipe.specs.{PipeFault, FaultAfter, Interrupt, IsNoBusFault, PollLeaves, PollTells}
+use Rattle.usb_pipe.specs.{ToldOf, PollingFailure, interrupt_made}
 use Rattle.usb_pipe.specs.declared.fault.PipeFault.TheVariants as why
 use Rattle.usb_pipe.proofs.Interface.{poll_tells, polling_why, who_polls}
 use Rattle.usb_hub.specs.{NoHubFailed}
 use Rattle.usb_enum.specs.{Accepted}
 use Rattle.usb_enum.proofs.Interface.{each_joint}
 use Rattle.usb_table.specs.{Pipes, Hub, Function, Absent, accepted_device_at, is_below_hub}
-use Rattle.usb_table.specs.{StatusPipeInSync, PipesInSync, InSyncAt, IsHeld, KeepsInSync, BitsOf}
-use Rattle.usb_table.specs.{HubTold, IsListening, KeepsPolled, TablePolls, SparesBulk, IsStatusPipe}
+use Rattle.usb_table.specs.{StatusPipeInSync, InSyncAt, IsHeld, KeepsInSync, BitsOf, HubTold}
+use Rattle.usb_table.specs.{IsListening, KeepsPolled, TablePolls, SparesBulk, IsStatusPipe}
 use Rattle.usb_table.specs.{ArePipesIf, ArePipesTo, Table, pipes_at, GoesThrough, NotPolled}
 use Rattle.usb_table.specs.{OnlyTransfers, PipesPolled, PollTook, PolledThrough}
 use Rattle.usb_table.proofs.levels.FittingPipes.{PipesMove, poll_moves}
@@ -73,12 +73,10 @@ module _ (path : List ℕ) (device : Accepted) (pipe rest : Interrupt) (old new 
   moves : EachMoves device device.address (IsOk result) (Hub pipe) (Hub rest) before after
   moves unshared =
       subst (λ a. EachWas (PipesMove device a (IsOk result) (Hub pipe) (Hub rest)) before after)
-      addressed
-      (each_joint (PollLeaves pipe before result rest after) RanAs
+      addressed (each_joint (PollLeaves pipe before result rest after) RanAs
       (PipesMove device pipe.target.addr (IsOk result) (Hub pipe) (Hub rest))
       (λ j s v. poll_moves device pipe rest before after result j s v made) before after
-      (leaves unshared)
-      (ran unshared))
+      (leaves unshared) (ran unshared))
 
   hub_levels : KeepsInSync path (IsOk result) old before new after
   hub_levels = moved_levels path device (IsOk result) (Hub pipe) (Hub rest) old new before after
@@ -88,15 +86,20 @@ module _ (path : List ℕ) (device : Accepted) (pipe rest : Interrupt) (old new 
   unshared = single path device (IsOk result) (Hub pipe) (Hub rest) old new before after stands goes
       was left keeps.addresses moves
 
-  -- what is so of the hub before
-  fits : IsHeld old before → InSyncAt path old before → (s : State) → reach before.roots path ≡ true
-      → state_there before.roots path ≡ Some s → StatusPipeInSync pipe s
-      × (is_at s pipe.target ≡ true)
-  fits held level s on there = (
-    subst (λ (q : Pipes). PipesInSync device q s) was (level.level device s stands on there),
-    eq-eqb (address_of s) pipe.target.addr (held_address old before path device s held stands on
-        there ∙ sym addressed),
-  )
+  -- the pipe is level with it, and it has the pipe's address
+  abbrev Fitted : State → Type 0
+  Fitted s = StatusPipeInSync pipe s × (is_at s pipe.target ≡ true)
+
+  -- so it is of the hub before
+  fits : {R : Relation} → IsHeld old before → InSyncAt path old before → (j : Location)
+      (v : State) → path ≡ path_to j → (w : Was R before j v) → Fitted w.before
+  fits held level j v is w =
+      let stood = stood_at path before j v is w in (
+        rw was at (level.level device w.before stands stood.0 stood.1),
+        eq-eqb (address_of w.before) pipe.target.addr
+            (held_address old before path device w.before held stands stood.0 stood.1
+            ∙ sym addressed),
+      )
 
   -- the bits that were told
   bits_of : (j : Location) (bits : ℕ) → path ≡ path_to j → ToldOf pipe before after j bits
@@ -129,12 +132,6 @@ module _ (path : List ℕ) (device : Accepted) (pipe rest : Interrupt) (old new 
       → state_on before.roots j ≡ Some s → is_at s pipe.target ≡ true → path ≡ path_to j
   there held = stands_there path old before held device stands pipe.target.addr addressed
 
-  fits_was : {R : Relation} → IsHeld old before → InSyncAt path old before → (j : Location)
-      (v : State) → path ≡ path_to j → (w : Was R before j v) → StatusPipeInSync pipe w.before
-      × (is_at w.before pipe.target ≡ true)
-  fits_was held level j v is w = let stood = stood_at path before j v is w in
-      fits held level w.before stood.0 stood.1
-
   hub_told : IsHeld old before → InSyncAt path old before → (got : Option (ArrayVec ℕ))
       → result ≡ Ok got → HubTold path before result after
   hub_told held level got e = record {
@@ -145,7 +142,7 @@ module _ (path : List ℕ) (device : Accepted) (pipe rest : Interrupt) (old new 
     where
       who : Answerer pipe.target before after
       who = who_polls pipe got rest before after x.settled
-          (subst (λ r. Polls pipe before r rest after) e x.polls) (unshared held)
+          (rw e at x.polls) (unshared held)
 
       is : path ≡ path_to who.spot
       is = there held who.spot who.before who.was_on who.stood who.at
@@ -153,8 +150,8 @@ module _ (path : List ℕ) (device : Accepted) (pipe rest : Interrupt) (old new 
       was_so : Was (PollLeaves pipe before result rest after) before who.spot who.now
       was_so = leaves (unshared held) who.spot who.now who.on who.stands
 
-      fitted : StatusPipeInSync pipe was_so.before × (is_at was_so.before pipe.target ≡ true)
-      fitted = fits_was held level who.spot who.now is was_so
+      fitted : Fitted was_so.before
+      fitted = fits held level who.spot who.now is was_so
 
       told : PollTells (ToldOf pipe before after who.spot) result
       told = was_so.so.tells fitted.1 fitted.0.to fitted.0.level
@@ -188,7 +185,7 @@ module _ (path : List ℕ) (device : Accepted) (pipe rest : Interrupt) (old new 
       → (b : Bool) → is_at x.before pipe.target ≡ b → SparesBulk j x.before v
   spared_by held level j v x false e = spares-same j x.before v (x.so.others e)
   spared_by held level j v x true e =
-      let fitted = fits_was held level j v (there held j x.before x.on x.stands e) x in
+      let fitted = fits held level j v (there held j x.before x.on x.stands e) x in
       spares-changes j x.before v (x.so.frame fitted.0.to)
 
   hub_spares : IsHeld old before → InSyncAt path old before → EachWas SparesBulk before after
@@ -208,8 +205,8 @@ module _ (path : List ℕ) (device : Accepted) (pipe rest : Interrupt) (old new 
     before_it : Was RanAs before heard.spot heard.state
     before_it = ran (unshared held) heard.spot heard.state heard.on heard.stands
 
-    fitted : StatusPipeInSync pipe before_it.before × (is_at before_it.before pipe.target ≡ true)
-    fitted = fits_was held level heard.spot heard.state heard.is before_it
+    fitted : Fitted before_it.before
+    fitted = fits held level heard.spot heard.state heard.is before_it
 
     abbrev hears_by : Bool → Bool → Bool → Spec → Bool
     hears_by low pre deep d = if low then d.low && (not deep || pre) else not d.low
@@ -234,7 +231,7 @@ module _ (path : List ℕ) (device : Accepted) (pipe rest : Interrupt) (old new 
         cause : Was (PollingFailure pipe result) before heard.spot heard.state
         cause =
             polling_why pipe result rest before after x.settled three x.polls
-            (subst (IsNoBusFault {A = Option (ArrayVec ℕ)}) (sym e) sound) (unshared held)
+            (rw e sound) (unshared held)
             heard.spot heard.state heard.on heard.stands
 
         answered_at : PollingFailure pipe result heard.spot before_it.before heard.state
@@ -264,7 +261,7 @@ module _ (path : List ℕ) (device : Accepted) (pipe rest : Interrupt) (old new 
     levels = hub_levels;
     told = λ held level d e hub ok. let g = ok_got result ok in hub_told held level g.0 g.1;
     why = λ held level three d e hub heard. hub_served held level three
-        (subst (λ y. IsListening path y after) (sym (same_one d e)) heard);
+        (rw (same_one d e) heard);
     spares = hub_spares;
   }
 
@@ -302,7 +299,7 @@ module _ (path : List ℕ) (old new : Table) (before after : World)
       → PipesPolled (pipes_at path old) before result (pipes_at path new) after
       → KeepsPolled path old before result new after
   polled_by None e none x =
-      let y = subst (λ p. PipesPolled p before result (pipes_at path new) after) none.1 x in
+      let y = rw none.1 at x in
       none_polled (λ d f hub. absurd (cc (sym e ∙ f))) (y.0, y.1 ∙ sym none.1, y.2)
   polled_by (Some device) e are x =
       polled_to device (pipes_at path old) (pipes_at path new) e refl refl are x

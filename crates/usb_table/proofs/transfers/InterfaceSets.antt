@@ -1,7 +1,7 @@
 -- SET_INTERFACE to the device at a path: what it leaves of all devices and pipes.
-use Rattle.std.proofs.Common.{◌≡◌, ◌∙◌, refl, sym, ap, subst, inl, inr, Bool, true, false, ℕ}
-use Rattle.std.proofs.Common.{◌<◌, ◌&&◌, not, if◌then◌else◌, List, Option, Some, None, Result, Ok}
-use Rattle.std.proofs.Common.{Err, is_some}
+use Rattle.std.proofs.Common.{◌≡◌, ◌∙◌, refl, sym, ap, inl, inr, Bool, true, false, ℕ, ◌<◌, ◌&&◌}
+use Rattle.std.proofs.Common.{not, if◌then◌else◌, List, Option, Some, None, Result, Ok, Err}
+use Rattle.std.proofs.Common.{is_some}
 use Rattle.std.proofs.lemmas.Bool.{and_parts}
 use Rattle.usb_request.specs.{PORT_OUT, SET_FEATURE, set_interface}
 use Rattle.usb_descriptor.specs.{settable_in}
@@ -17,11 +17,10 @@ use Rattle.usb_hub.specs.{Commanded, InterfaceAsked}
 use Rattle.usb_enum.specs.{Accepted, configuration_of, target_of}
 use Rattle.usb_enum.proofs.Interface.{ends_without_fault}
 use Rattle.usb_table.specs.{Absent, AreFunctionPipes, ArePipesIf, ArePipesTo, Function}
-use Rattle.usb_table.specs.{FunctionInSync}
-use Rattle.usb_table.specs.{FunctionPipes, GoesThrough, Hub, InterfaceSent, InterfaceSentIf}
-use Rattle.usb_table.specs.{InterfaceSet, InterfaceSetIf, NoDevice, NoInterface, NotTried, OnlySets}
-use Rattle.usb_table.specs.{Pipes, SameDevice, SameSettings, SettingLeft, Table, TableFault}
-use Rattle.usb_table.specs.{TableSetsInterface, TransferFault, accepted_device_at}
+use Rattle.usb_table.specs.{FunctionInSync, FunctionPipes, GoesThrough, Hub, InterfaceSent}
+use Rattle.usb_table.specs.{InterfaceSentIf, InterfaceSet, NoDevice, NoInterface, NotTried}
+use Rattle.usb_table.specs.{OnlySets, Pipes, SameDevice, SameSettings, SettingLeft, Table}
+use Rattle.usb_table.specs.{TableFault, TableSetsInterface, TransferFault, accepted_device_at}
 use Rattle.usb_table.specs.{function_set, interface_asked, interface_target, is_below_hub, pipes_at}
 use Rattle.usb_table.specs.{pipes_set}
 use Rattle.usb_table.proofs.TransferLeaves.{told_answer}
@@ -32,6 +31,7 @@ use Rattle.usb_table.proofs.levels.StandingPipes.{in_place}
 use Rattle.usb_table.proofs.transfers.DevicesKept.{same_spares}
 use Rattle.usb_table.proofs.transfers.PathTransfers.{changes_there}
 use Rattle.usb_table.proofs.transfers.PlainRequests.{bus_told}
+use Rattle.usb_table.proofs.levels.MovedPipes.{EachMoves}
 
 -- Each device
 
@@ -148,8 +148,7 @@ module _ (path : List ℕ) (interface setting : ℕ) (byte : interface < 256) (o
   refused fault asks x = record {
     went = went;
     told = rw x.0 tt;
-    did = subst (λ r. InterfaceSetIf path interface setting old r before result new after)
-        (sym asks) x;
+    did = rw asks x;
     keeps = still_levels OnlySets path (after.fault ≡ None) old new before after goes x.1 x.2
         (same_sets before after x.2);
   }
@@ -162,21 +161,17 @@ module _ (path : List ℕ) (interface setting : ℕ) (byte : interface < 256) (o
       (asks : target ≡ Ok (target_of device (is_below_hub path)))
       (x : InterfaceSent (target_of device (is_below_hub path)) interface setting set
       (pipes_at path old) before result (pipes_at path new) after) where
-    left_is : pipes_at path new ≡ Function
-        (function_set device (is_below_hub path) interface setting x.answer pipes)
-    left_is = x.left_is
-        ∙ ap (λ f. pipes_set f (is_below_hub path) interface setting x.answer (pipes_at path old))
-        found
-        ∙ ap (pipes_set (Some device) (is_below_hub path) interface setting x.answer) was
+    abbrev left : FunctionPipes
+    left = function_set device (is_below_hub path) interface setting x.answer pipes
 
-    moves : after.shared ≡ false → EachWas (PipesMove device device.address (after.fault ≡ None)
-        (Function pipes)
-        (Function (function_set device (is_below_hub path) interface setting x.answer pipes)))
+    left_is : pipes_at path new ≡ Function left
+    left_is = rw (found, was) at x.left_is
+
+    moves : EachMoves device device.address (after.fault ≡ None) (Function pipes) (Function left)
         before after
-    moves single = each_wider
-        (InterfaceAsked (target_of device (is_below_hub path)) interface setting x.answer)
-        (PipesMove device device.address (after.fault ≡ None) (Function pipes)
-        (Function (function_set device (is_below_hub path) interface setting x.answer pipes)))
+    moves single =
+        each_wider
+        (InterfaceAsked (target_of device (is_below_hub path)) interface setting x.answer) _
         (set_moves device (is_below_hub path) interface setting pipes are byte has
         (after.fault ≡ None) x.answer) before after (x.each single)
 
@@ -200,8 +195,7 @@ module _ (path : List ℕ) (interface setting : ℕ) (byte : interface < 256) (o
       went = went;
       told = told_answer x.answer result after x.told
           (bus_told 2 x.answer before after x.is.ends);
-      did = subst (λ r. InterfaceSetIf path interface setting old r before result new after)
-          (sym asks) made;
+      did = rw asks made;
       keeps = moved_levels path device (after.fault ≡ None) (Function pipes) _ old new before after
           found goes was left_is x.addresses moves OnlySets
           (sets_only interface setting (target_of device (is_below_hub path)) x.answer before after

@@ -1,49 +1,39 @@
 -- Control transfers of a driver's own are plain: reads, and what has no data.
-use Rattle.std.proofs.Common.{◌≡◌, ◌∙◌, refl, ap, subst, ℕ, true, false, Bool, List}
-use Rattle.std.proofs.Common.{None}
-use Rattle.std.proofs.Common.{Option, Some, Result, Ok, Err, is_ok, is_some, OnOk, ◌≢◌}
-use Rattle.std.proofs.Common.{get_or, length, ◌+◌}
+use Rattle.std.proofs.Common.{◌≡◌, ◌∙◌, refl, ap, subst, ℕ, true, false, Bool, List, None, Option}
+use Rattle.std.proofs.Common.{Some, Result, Ok, Err, is_ok, is_some, OnOk, ◌≢◌, get_or, length, ◌+◌}
 use Rattle.std.specs.Int.{div_ceil}
 use Rattle.std.specs.Global.{Vec}
 use Rattle.usb_request.specs.{IsToHost, Setup}
 use Rattle.usb_port.specs.{PortState}
-use Rattle.usb_device.specs.{accepted, begun, BulkIn, BulkOut, Changes, EndpointState}
-use Rattle.usb_device.specs.{ending, first_stage, OnlyControl, OnlyStage, Outcome}
-use Rattle.usb_device.specs.{outcome, State, Stage, answers_taken, takes, tells_halt}
-use Rattle.usb_device.specs.{halted, halts, in_end, Location, no_in, no_out, NothingMoved, out_end}
-use Rattle.usb_device.specs.{stalled, tells_port}
+use Rattle.usb_device.specs.{accepted, begun, BulkIn, BulkOut, Changes, ending, first_stage}
+use Rattle.usb_device.specs.{OnlyControl, OnlyStage, Outcome, outcome, State, Stage, answers_taken}
+use Rattle.usb_device.specs.{takes, tells_halt, halted, halts, in_end, Location, no_in, no_out}
+use Rattle.usb_device.specs.{NothingMoved, out_end, stalled, tells_port}
 use Rattle.usb_device.specs.Request.{answers}
 use Rattle.usb_device.proofs.Interface.{at_each}
 use Rattle.usb_world.specs.{BusFault, HasFault, is_harmless, World}
 use Rattle.usb_transaction.specs.{Answerer, Target}
 use Rattle.usb_transaction.proofs.Interface.{spared_all}
-use Rattle.usb_pipe.specs.{DataWrite, DataWriteLeaves}
-use Rattle.usb_pipe.specs.{PipeState, ControlRead, ControlWrite, FaultAfter, InPipeInSync}
-use Rattle.usb_pipe.specs.{IsNoBusFault}
-use Rattle.usb_pipe.specs.{PipeFault}
-use Rattle.usb_pipe.specs.{ReadLeaves, WriteLeaves}
+use Rattle.usb_pipe.specs.{DataWrite, DataWriteLeaves, PipeState, ControlRead, ControlWrite}
+use Rattle.usb_pipe.specs.{InPipeInSync, IsNoBusFault, PipeFault, ReadLeaves, WriteLeaves}
 use Rattle.usb_pipe.specs.declared.fault.PipeFault.TheVariants as pipe_fault
 use Rattle.usb_pipe.proofs.Interface.{first_stage-address, given_registers, host_harmless}
 use Rattle.usb_address.proofs.Interface.{put_keeps, read_keeps, reads_other, same_setup}
 use Rattle.usb_address.proofs.Interface.{write_keeps}
 use Rattle.usb_hub.specs.{EndsAfter}
 use Rattle.usb_hub.proofs.Interface.{put_backlog, put_rests, reads_backlog, reads_rests}
-use Rattle.usb_hub.proofs.Interface.{write_backlog, write_rests}
-use Rattle.usb_hub.proofs.Interface.{write_so}
+use Rattle.usb_hub.proofs.Interface.{write_backlog, write_rests, write_so}
 use Rattle.usb_enum.specs.{Accepted}
 use Rattle.usb_enum.proofs.Interface.{ends_without_fault}
 use Rattle.usb_table.specs.{Absent, ArePipesTo, FitsIn, FitsOut, Function, Hub, is_below_hub}
 use Rattle.usb_table.specs.{pipe_at, Pipes, pipes_at, PipesInSync, SameSettings, Table}
 use Rattle.usb_table.specs.{without_bytes}
-use Rattle.usb_table.proofs.levels.FittingPipes.{root, same_all, same_in_max, same_low}
-use Rattle.usb_table.proofs.levels.FittingPipes.{same_alone, same_out_max}
-use Rattle.usb_table.proofs.levels.FittingPipes.{same_tells, same_text}
-use Rattle.usb_table.proofs.levels.FittingPipes.{still_level, still_source_at, still_status}
-use Rattle.usb_table.proofs.levels.FittingPipes.{written_level}
+use Rattle.usb_table.proofs.levels.FittingPipes.{root, still_level, still_status, written_level}
+use Rattle.usb_table.proofs.levels.FittingPipes.{MayHalt, function_level, same_halts, set_sink}
+use Rattle.usb_table.proofs.levels.FittingPipes.{set_source}
 use Rattle.usb_table.proofs.transfers.FreeRequests.{IsAllowed, IsFree, free_asks_no_port}
 use Rattle.usb_table.proofs.transfers.FreeRequests.{free_is_harmless, outcome_fine}
-use Rattle.usb_table.proofs.transfers.HaltClears.{in_moved, moved_then, out_moved}
-use Rattle.usb_table.proofs.transfers.HaltClears.{same_rows-moved}
+use Rattle.usb_table.proofs.transfers.HaltClears.{in_moved, moved_then, out_moved, same_rows-moved}
 use Rattle.usb_table.proofs.transfers.PlainTransfers.{IsPlain}
 
 pub bus_told : {A : Type 0} (k : ℕ) (answer : Result A PipeFault) (old new : World)
@@ -52,7 +42,7 @@ pub bus_told : {A : Type 0} (k : ℕ) (answer : Result A PipeFault) (old new : W
 bus_told k (Ok done) old new ends fault e = absurd (cc e)
 bus_told k (Err why) old new ends fault e =
     let same : why ≡ pipe_fault.Bus fault = cc e in
-    subst (λ w. FaultAfter 1 old w new) same ends
+    rw same at ends
 
 -- Reads
 
@@ -82,23 +72,12 @@ read_is_plain path table t request old answer new host x = record {
 
 -- A device that accepted what is allowed
 
--- an endpoint keeps its toggle, and its halt
-abbrev pub MayHalt : EndpointState → EndpointState → Type 0
-MayHalt before after = (after.toggle ≡ before.toggle) × (before.halted ≡ true
-    → after.halted ≡ true)
-
 -- settings and toggles are as they were, and no byte moved
 pub record KeepsEnds (s v : State) : Type 0 where
   pub settings : SameSettings root s v
   pub moved : NothingMoved s v
   pub out : (e : ℕ) → MayHalt (out_end s e).state (out_end v e).state
   pub into : (e : ℕ) → MayHalt (in_end s e).state (in_end v e).state
-
-same_halts : (before after : EndpointState) → after ≡ before → MayHalt before after
-same_halts before after e = (
-  ap (λ (x : EndpointState). x.toggle) e,
-  λ h. ap (λ (x : EndpointState). x.halted) e ∙ h,
-)
 
 -- no endpoint but endpoint 0 and a hub's endpoint 1 changed
 pub same_rows-kept : (s v : State) → SameSettings root s v → v.outs ≡ s.outs → v.ins ≡ s.ins
@@ -110,15 +89,11 @@ same_rows-kept s v same outs ins = record {
   into = λ e. same_halts _ _ (ap (λ row. (get_or row e no_in).state) ins);
 }
 
-record KeepsChanges (s v : State) : Type 0 where
-  changes : v.changes ≡ s.changes
-  held : v.held ≡ s.held
-
 module _ (s : State) (row : List PortState) (n : ℕ) where
   ends_kept : (stage : Stage) → KeepsEnds s (record s { naks = s.spec.naks; stage = stage })
   ends_kept stage = same_rows-kept s _ (refl, refl) refl refl
 
-  pub began_ends : (to_hub : Bool) (o : Outcome) → IsAllowed to_hub o → KeepsEnds s (begun s row n
+  began_ends : (to_hub : Bool) (o : Outcome) → IsAllowed to_hub o → KeepsEnds s (begun s row n
       o)
   began_ends to_hub (halts (BulkOut a)) fine = record {
     settings = (refl, refl);
@@ -143,17 +118,18 @@ module _ (s : State) (row : List PortState) (n : ℕ) where
   began_ends to_hub (tells_halt endpoint) fine = ends_kept _
   began_ends to_hub _ fine = absurd fine
 
-  began_changes : (o : Outcome) → IsAllowed true o → KeepsChanges s (begun s row n o)
-  began_changes stalled fine = record { changes = refl; held = refl }
-  began_changes (answers bytes) fine = record { changes = refl; held = refl }
-  began_changes (tells_port i) fine = record { changes = refl; held = refl }
-  began_changes answers_taken fine = record { changes = refl; held = refl }
-  began_changes (takes kept) fine = record { changes = refl; held = refl }
-  began_changes (tells_halt endpoint) fine = record { changes = refl; held = refl }
-  began_changes (halts which) fine = absurd (cc fine)
-  began_changes _ fine = absurd fine
+  -- a device that begins what is allowed of a hub too changes only its control transfer
+  pub began_stage : (o : Outcome) → IsAllowed true o → OnlyStage s (begun s row n o)
+  began_stage stalled fine = refl
+  began_stage (answers bytes) fine = refl
+  began_stage (tells_port i) fine = refl
+  began_stage answers_taken fine = refl
+  began_stage (takes kept) fine = refl
+  began_stage (tells_halt endpoint) fine = refl
+  began_stage (halts which) fine = absurd (cc fine)
+  began_stage _ fine = absurd fine
 
-  pub allowed_address : (to_hub : Bool) (o : Outcome) (address : Option ℕ) → IsAllowed to_hub o
+  allowed_address : (to_hub : Bool) (o : Outcome) (address : Option ℕ) → IsAllowed to_hub o
       → first_stage row s n o ≡ ending address → address ≡ None
   allowed_address to_hub o None fine e = refl
   allowed_address to_hub o (Some a) fine e =
@@ -161,7 +137,7 @@ module _ (s : State) (row : List PortState) (n : ℕ) where
 
 -- behind it, where nothing but its own transfer moved
 
-pub ends_on : (s u v : State) → KeepsEnds s u → OnlyControl u v → v.registers ≡ u.registers
+ends_on : (s u v : State) → KeepsEnds s u → OnlyControl u v → v.registers ≡ u.registers
     → KeepsEnds s v
 ends_on s u v x frame same =
     let outs : v.outs ≡ u.outs = ap (λ (d : State). d.outs) frame in
@@ -174,64 +150,42 @@ ends_on s u v x frame same =
       into = λ e. ((y.into e).0 ∙ (x.into e).0, λ h. (y.into e).1 ((x.into e).1 h));
     }
 
-changes_on : (s u v : State) → KeepsChanges s u → OnlyControl u v → KeepsChanges s v
-changes_on s u v x frame = record {
-  changes = ap (λ (d : State). d.changes) frame ∙ x.changes;
-  held = ap (λ (d : State). d.held) frame ∙ x.held;
-}
+-- it was asked what is allowed, and accepted it or had no part in it
+module _ {to_hub : Bool} (t : Target) (request : Setup) (free : IsFree to_hub request)
+    (old new : World) (j : Location) (s v : State) where
+  fine : IsAllowed to_hub (outcome s.spec s.registers request)
+  fine = outcome_fine to_hub s.spec s.registers request free
+
+  pub accepted_ends : (row : List PortState) → OnlyControl (accepted s row request) v
+      → v.registers ≡ (accepted s row request).registers → KeepsEnds s v
+  accepted_ends row frame same =
+      ends_on s (accepted s row request) v (began_ends s row request.length to_hub _ fine) frame
+      same
+
+  pub free_so : (Q : Type 0) → ((row : List PortState) → OnlyControl (accepted s row request) v
+      → v.registers ≡ (accepted s row request).registers → Q)
+      → (OnlyControl s v → v.registers ≡ s.registers → Q) → (result : Result (Unit {0}) PipeFault)
+      → WriteLeaves t request result old new j s v → Q
+  free_so Q accepts rests =
+      write_so t request old new j s v Q accepts
+      (λ row address is frame given. accepts row frame
+      (given_registers address (accepted s row request) v
+      (allowed_address s row request.length to_hub _ address fine is) given)) rests
 
 -- The pipes to it
 
 out_kept : (out : Option PipeState) (s v : State) → KeepsEnds s v → FitsOut out s → FitsOut out v
 out_kept None s v x f = tt
-out_kept (Some pipe) s v x f = record {
-  endpoint = record {
-    endpoint = same_out_max pipe.ep s v x.settings ∙ f.endpoint.endpoint;
-    not_zero = f.endpoint.not_zero;
-  };
-  level = λ ready. (x.out pipe.ep).0 ∙ f.level ready;
-  halted = λ halts. (x.out pipe.ep).1 (f.halted halts);
-}
+out_kept (Some pipe) s v x f = set_sink pipe s v x.settings (x.out pipe.ep) f
 
 pub into_kept : (pipe : PipeState) (got : ℕ) (s v : State) → KeepsEnds s v → InPipeInSync pipe got s
     → InPipeInSync pipe got v
-into_kept pipe got s v x f = record {
-  endpoint = record {
-    endpoint = same_in_max pipe.ep s v x.settings ∙ f.endpoint.endpoint;
-    not_zero = f.endpoint.not_zero;
-    alone = same_alone pipe.ep s v x.settings ∙ f.endpoint.alone;
-  };
-  level = λ ready. still_source_at pipe.ep pipe.max got pipe.toggle s v x.settings
-      (x.moved.given pipe.ep).0 (x.into pipe.ep).0 (f.level ready);
-  halted = λ halts. (x.into pipe.ep).1 (f.halted halts);
-}
+into_kept pipe got s v x =
+    set_source pipe got s v x.settings (x.moved.given pipe.ep).0 (x.into pipe.ep)
 
 in_kept : (into : Option PipeState) (s v : State) → KeepsEnds s v → FitsIn into s → FitsIn into v
 in_kept None s v x f = tt
 in_kept (Some pipe) s v x (got, f) = (got, into_kept pipe got s v x f)
-
-pub allowed_level : (of device : Accepted) (below_hub : Bool) (pipes : Pipes)
-    → ArePipesTo device below_hub pipes → (s : State) (row : List PortState) (n : ℕ) (o : Outcome)
-    → IsAllowed (is_some device.hub) o → (v : State) → OnlyControl (begun s row n o) v
-    → v.registers ≡ (begun s row n o).registers → PipesInSync of pipes s → PipesInSync of pipes v
-allowed_level of device below_hub (Hub pipe) are s row n o fine v frame same f =
-    let fine_hub : IsAllowed true o = subst (λ b. IsAllowed b o) are.0 fine in
-    let ends = ends_on s (begun s row n o) v (began_ends s row n (is_some device.hub) o fine) frame
-    same in
-    let kept = changes_on s (begun s row n o) v (began_changes s row n o fine_hub) frame in
-    still_status pipe s v ends.settings kept.changes kept.held f
-allowed_level of device below_hub (Function pipes) are s row n o fine v frame same f =
-    let ends = ends_on s (begun s row n o) v (began_ends s row n (is_some device.hub) o fine) frame
-    same in
-    record {
-      text = same_text s v ends.settings ∙ f.text;
-      low = same_low s v ends.settings ∙ f.low;
-      quiet = same_tells s v ends.settings ∙ f.quiet;
-      settings = same_all s v ends.settings ∙ f.settings;
-      outs = λ e. out_kept (pipe_at false e pipes) s v ends (f.outs e);
-      ins = λ e. in_kept (pipe_at true e pipes) s v ends (f.ins e);
-    }
-allowed_level of device below_hub (Absent said) are s row n o fine v frame same f = absurd are
 
 -- What has no data
 
@@ -242,8 +196,25 @@ module _ {A : Type 0} (path : List ℕ) (table : Table) (t : Target) (request : 
   abbrev Left : Location → State → State → Type 0
   Left = WriteLeaves t request (without_bytes answer) old new
 
-  fine_at : (s : State) → IsAllowed (is_some device.hub) (outcome s.spec s.registers request)
-  fine_at s = outcome_fine (is_some device.hub) s.spec s.registers request free
+  accepted_level : (of : Accepted) (j : Location) (s v : State) (pipes : Pipes)
+      → ArePipesTo device (is_below_hub path) pipes → (row : List PortState)
+      → OnlyControl (accepted s row request) v
+      → v.registers ≡ (accepted s row request).registers → PipesInSync of pipes s
+      → PipesInSync of pipes v
+  accepted_level of j s v (Hub pipe) are row frame same f =
+      let ends = accepted_ends t request free old new j s v row frame same in
+      let stage = began_stage s row request.length (outcome s.spec s.registers request)
+      (subst (λ b. IsAllowed b (outcome s.spec s.registers request)) are.0
+      (fine t request free old new j s v)) in
+      still_status pipe s v ends.settings
+      (ap (λ (d : State). d.changes) frame ∙ ap (λ (d : State). d.changes) stage)
+      (ap (λ (d : State). d.held) frame ∙ ap (λ (d : State). d.held) stage) f
+  accepted_level of j s v (Function pipes) are row frame same f =
+      let ends = accepted_ends t request free old new j s v row frame same in
+      function_level pipes s v ends.settings f
+      (λ e. out_kept (pipe_at false e pipes) s v ends (f.outs e))
+      (λ e. in_kept (pipe_at true e pipes) s v ends (f.ins e))
+  accepted_level of j s v (Absent said) are row frame same f = absurd are
 
   only_stage : (s v : State) → OnlyControl s v → v.registers ≡ s.registers → OnlyStage s v
   only_stage s v f e = f ∙ ap {A = _} {B = State} (λ g. record s {
@@ -255,28 +226,16 @@ module _ {A : Type 0} (path : List ℕ) (table : Table) (t : Target) (request : 
 
   none_settings : (j : Location) (s v : State) → Left j s v → SameSettings j s v
   none_settings j s v =
-      write_so t request old new j s v (SameSettings j s v)
-      (λ row frame same. (ends_on s (accepted s row request) v (began_ends s row request.length
-      (is_some device.hub) (outcome s.spec s.registers request) (fine_at s)) frame same).settings)
-      (λ row address is frame given. (ends_on s (accepted s row request) v (began_ends s row
-      request.length (is_some device.hub) (outcome s.spec s.registers request) (fine_at s)) frame
-      (given_registers address (accepted s row request) v (allowed_address s row request.length
-      (is_some device.hub) (outcome s.spec s.registers request) address (fine_at s) is)
-      given)).settings)
+      free_so t request free old new j s v (SameSettings j s v)
+      (λ row frame same. (accepted_ends t request free old new j s v row frame same).settings)
       (λ frame same. (ap (λ (d : State). d.spec) frame, same)) (without_bytes answer)
 
   none_level : (of : Accepted) (j : Location) (s v : State) → Left j s v
       → PipesInSync of (pipes_at path table) s → PipesInSync of (pipes_at path table) v
   none_level of j s v =
-      write_so t request old new j s v
+      free_so t request free old new j s v
       (PipesInSync of (pipes_at path table) s → PipesInSync of (pipes_at path table) v)
-      (λ row frame same. allowed_level of device (is_below_hub path) (pipes_at path table) are s row
-      request.length (outcome s.spec s.registers request) (fine_at s) v frame same)
-      (λ row address is frame given. allowed_level of device (is_below_hub path)
-      (pipes_at path table) are s row request.length (outcome s.spec s.registers request)
-      (fine_at s) v frame
-      (given_registers address (accepted s row request) v (allowed_address s row request.length
-      (is_some device.hub) (outcome s.spec s.registers request) address (fine_at s) is) given))
+      (accepted_level of j s v (pipes_at path table) are)
       (λ frame same. still_level of (pipes_at path table) s v (only_stage s v frame same))
       (without_bytes answer)
 

@@ -1,8 +1,7 @@
 -- A control transfer to the device at a path that changes no description, no register and no
 -- toggle: what it leaves of all devices and pipes.
-use Rattle.std.proofs.Common.{◌≡◌, ◌∙◌, refl, sym, ap, subst, arith, true, false, ℕ, ◌==◌, List}
-use Rattle.std.proofs.Common.{None}
-use Rattle.std.proofs.Common.{Option, Some, Result, Ok, Err, is_ok, Bool}
+use Rattle.std.proofs.Common.{◌≡◌, ◌∙◌, refl, ap, arith, true, false, ℕ, ◌==◌, List, None, Option}
+use Rattle.std.proofs.Common.{Some, Result, Ok, Err, is_ok, Bool}
 use Rattle.usb_request.specs.{Setup}
 use Rattle.usb_device.specs.{Location, Registers, State}
 use Rattle.usb_world.specs.{BusFault, EachWas, HasFault, Relation, World}
@@ -17,16 +16,15 @@ use Rattle.usb_address.specs.{KeepsAddresses}
 use Rattle.usb_backlog.specs.{KeepsAll}
 use Rattle.usb_hub.specs.{TouchesNoPort}
 use Rattle.usb_enum.specs.{Accepted, target_of}
-use Rattle.usb_table.specs.{accepted_device_at, ArePipesAt, ControlledAt, control_most}
-use Rattle.usb_table.specs.{GoesThrough, is_below_hub, KeepsMoved, OnlyTransfers, pipes_at}
-use Rattle.usb_table.specs.{PipesInSync, SameSettings, Table, TableFault, target_asked, Transfer}
-use Rattle.usb_table.specs.{TransferFault, TransferIf, TransferIs, TransferLeaves, TransferMade}
-use Rattle.usb_table.specs.{table_answer}
+use Rattle.usb_table.specs.{accepted_device_at, ArePipesAt, ControlledAt, control_most, GoesThrough}
+use Rattle.usb_table.specs.{is_below_hub, KeepsMoved, OnlyTransfers, pipes_at, PipesInSync}
+use Rattle.usb_table.specs.{SameSettings, Table, TableFault, target_asked, Transfer, TransferFault}
+use Rattle.usb_table.specs.{TransferIs, TransferLeaves, TransferMade, table_answer}
 use Rattle.usb_table.proofs.TransferLeaves.{told_through}
-use Rattle.usb_table.proofs.levels.FittingPipes.{PipesMove}
 use Rattle.usb_table.proofs.levels.Levels.{moved_levels, still_levels}
 use Rattle.usb_table.proofs.transfers.DevicesKept.{same_spares}
 use Rattle.usb_table.proofs.transfers.PathTransfers.{answers_there, leaves_there}
+use Rattle.usb_table.proofs.levels.MovedPipes.{EachMoves}
 
 -- whose endpoint 0 is asked
 pub record IsAsked (below_hub : Bool) (found : Option Accepted) (t : Target) : Type 0 where
@@ -83,13 +81,10 @@ module _ {A : Type 0} (Leaves : TransferLeaves A) (path : List ℕ) (request : S
     backlog = λ still. x.backlog (x.sound still);
   }
 
-  plain_moves : new.shared ≡ false → EachWas (PipesMove asked.device asked.device.address
-      (new.fault ≡ None)
-      (pipes_at path table) (pipes_at path table)) old new
+  plain_moves : EachMoves asked.device asked.device.address (new.fault ≡ None)
+      (pipes_at path table) (pipes_at path table) old new
   plain_moves single =
-      each_wider (Leaves t answer old new) (PipesMove asked.device asked.device.address
-      (new.fault ≡ None)
-      (pipes_at path table) (pipes_at path table))
+      each_wider (Leaves t answer old new) _
       (λ j s v y. record {
         others = λ far. x.others j s v y (ap (λ n. address_of s == n) addressed ∙ far);
         same = ap (λ (g : Registers). g.address) (x.settings j s v y).1;
@@ -125,8 +120,7 @@ module _ {A : Type 0} (Leaves : TransferLeaves A) (path : List ℕ) (request : S
     went = went;
     told = told_through old answer result new e
         (record { worlds = plain_worlds; told = x.told });
-    did = subst (λ r. TransferIf Is Leaves path table r old result new) (sym asks)
-        (plain_made Is result is e);
+    did = rw asks (plain_made Is result is e);
     keeps = plain_keeps;
   }
 
@@ -141,7 +135,7 @@ refused_controls Is Leaves path target request table fits {old} {result = result
     same went = record {
       went = went_wider 0 (control_most request.length) went (omega arith);
       told = rw e tt;
-      did = subst (λ r. TransferIf Is Leaves path table r old result new) (sym asks) (e, same);
+      did = rw asks (e, same);
       keeps = still_levels OnlyTransfers path _ table table old new (goes_nowhere path table fits)
           refl same
           (same_spares old new same);

@@ -1,22 +1,17 @@
 -- A request that writes moves nothing through bulk endpoints.
-use Rattle.std.proofs.Common.{◌≡◌, ap, ℕ, ◌==◌, List, Bool, true, false, Result, Ok}
-use Rattle.std.proofs.Common.{is_some}
+use Rattle.std.proofs.Common.{◌≡◌, ap, ℕ, ◌==◌, List, Bool, true, false, Result, Ok, is_some}
 use Rattle.usb_request.specs.{IsToDevice, Setup}
-use Rattle.usb_port.specs.{PortState}
-use Rattle.usb_device.specs.{accepted, Location, OnlyControl, out_end, outcome, State}
+use Rattle.usb_device.specs.{Location, out_end, State}
 use Rattle.usb_world.specs.{World}
 use Rattle.usb_transaction.specs.{Target}
 use Rattle.usb_pipe.specs.{PipeState, InPipeInSync, PipeFault}
-use Rattle.usb_pipe.proofs.Interface.{given_registers}
-use Rattle.usb_hub.proofs.Interface.{write_so}
 use Rattle.usb_table.specs.{accepted_device_at, is_below_hub, SameSettings, Table, WriteLeft}
 use Rattle.usb_table.specs.{WriteLeftIf, write_target}
 use Rattle.usb_table.proofs.levels.FittingPipes.{root}
 use Rattle.usb_table.proofs.transfers.ControlWrites.{IsWritten, written_of}
-use Rattle.usb_table.proofs.transfers.FreeRequests.{IsAllowed, IsFree, outcome_fine}
-use Rattle.usb_table.proofs.transfers.FreeRequests.{unreserved_is_free}
-use Rattle.usb_table.proofs.transfers.PlainRequests.{began_ends, ends_on, into_kept, KeepsEnds}
-use Rattle.usb_table.proofs.transfers.PlainRequests.{allowed_address, same_rows-kept}
+use Rattle.usb_table.proofs.transfers.FreeRequests.{IsFree, unreserved_is_free}
+use Rattle.usb_table.proofs.transfers.PlainRequests.{into_kept, KeepsEnds, same_rows-kept}
+use Rattle.usb_table.proofs.transfers.PlainRequests.{accepted_ends, free_so}
 
 -- it has taken and given what it had, and a pipe that had got what stands before some place has
 -- got the same
@@ -35,23 +30,13 @@ still_ends s v kept = record {
 module _ (t : Target) (request : Setup) (to_hub : Bool) (free : IsFree to_hub request)
     (bytes : List ℕ) (answer : Result (Unit {0}) PipeFault) (old new : World) (j : Location)
     (s v : State) (same : SameSettings j s v) where
-  fine : IsAllowed to_hub (outcome s.spec s.registers request)
-  fine = outcome_fine to_hub s.spec s.registers request free
-
-  accepted_still : (row : List PortState) → OnlyControl (accepted s row request) v
-      → v.registers ≡ (accepted s row request).registers → StillEnds s v
-  accepted_still row frame kept = still_ends s v
-      (ends_on s (accepted s row request) v (began_ends s row request.length to_hub
-      (outcome s.spec s.registers request) fine) frame kept)
-
   rows_still : v.outs ≡ s.outs → v.ins ≡ s.ins → StillEnds s v
   rows_still outs ins = still_ends s v (same_rows-kept s v same outs ins)
 
   left_still : (b : Bool) → WriteLeftIf b request bytes t answer old new j s v → StillEnds s v
-  left_still true left = write_so t request old new j s v (StillEnds s v) accepted_still
-      (λ row address is frame given. accepted_still row frame
-      (given_registers address (accepted s row request) v (allowed_address s row request.length
-      to_hub (outcome s.spec s.registers request) address fine is) given))
+  left_still true left = free_so t request free old new j s v (StillEnds s v)
+      (λ row frame kept.
+      still_ends s v (accepted_ends t request free old new j s v row frame kept))
       (λ frame kept.
       rows_still (ap (λ (d : State). d.outs) frame) (ap (λ (d : State). d.ins) frame)) answer left
   left_still false left =

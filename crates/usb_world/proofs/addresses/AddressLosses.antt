@@ -8,7 +8,7 @@ use Rattle.usb_device.specs.{full, row_of, place_at, has_loss}
 use Rattle.usb_world.specs.{Damage, Attempt, harm_to, mark_of, marked, marked_some, IsAttempt}
 use Rattle.usb_world.specs.{lost_in, token_of, payload_of, token_out, reply_in, readable, way_to}
 use Rattle.usb_world.specs.{token_way, reply_way, IsIn}
-use Rattle.usb_tree.specs.{after_sent, heard_by, deep_at, IfOut, IsTokenFor, IsAckOut, IsSettled}
+use Rattle.usb_tree.specs.{after_sent, heard_by, deep_at, IfOut, IsAckOut, IsSettled}
 use Rattle.usb_world.proofs.courses.StepInvariants.{rests}
 use Rattle.usb_world.proofs.packets.AttemptPackets.{ack_calls, sent_out}
 use Rattle.usb_world.proofs.packets.AwaitedAcks.{IsNoControlIn, data_no_control_in}
@@ -16,13 +16,12 @@ use Rattle.usb_world.proofs.packets.AwaitedAcks.{ack_no_control_in, no_loss_sent
 use Rattle.usb_world.proofs.packets.AwaitedAcks.{acked_loss, ack_received}
 use Rattle.usb_world.proofs.packets.AwaitedAcks.{whole_sent as whole_packet}
 use Rattle.usb_world.proofs.courses.Courses.{goes}
-use Rattle.usb_world.proofs.holders.OneDevice.{SentToOne, sent_to_one, settled_memory, token_calls}
-use Rattle.usb_world.proofs.holders.OneDevice.{other_address}
+use Rattle.usb_world.proofs.holders.OneDevice.{SentToOne, sent_to_one, sent_place, alone_holder}
+use Rattle.usb_world.proofs.holders.OneDevice.{step_in}
 use Rattle.usb_world.proofs.holders.OneHolder.{holder_holds, ports_by, sent_stands, token_comes}
 use Rattle.usb_world.proofs.holders.OneHolder.{no_payload, none_is, through_spec, way_same, Holder}
 use Rattle.usb_world.proofs.attempts.Outcomes.{brings, acks}
 use Rattle.usb_world.proofs.ways.Routes.{loss_by, plugged_on, plugged_place, others_loss}
-use Rattle.usb_world.proofs.packets.PacketPlaces.{place_after_sent}
 
 -- Attempts that are no IN of endpoint 0
 
@@ -89,26 +88,26 @@ module _ (a : Attempt) (d : Option Damage) (k : Ports) (h : Holder a.addr k) (in
   below_now = ports_by deep b (token_out a d) s below
 
   first : SentToOne (token_out a d) k h.spot
-  first =
-      sent_to_one (token_out a d) k h.spot h.on (λ i e v w at. settled_memory k i e v h.settled at)
-      (λ q eq i e v w at on. token_calls a.addr q.content v
-      (subst (IfOut (IsTokenFor a.addr)) eq (goes a d k).token)
-      (other_address a.addr k j p (holder_holds a.addr k h) i e v w at on))
+  first = sent_to_one (token_out a d) k h.spot (alone_holder a.addr (token_out a d)
+      (goes a d k).token k h.spot h.settled (holder_holds a.addr k h))
 
   stands_now : place_at now j p ≡ Some (full b asked.1 below_now)
   stands_now =
-      first.place ∙ ap (option_map (place_after_sent (token_out a d) deep)) h.stands
+      sent_place first ∙ ap (option_map (step_in (token_out a d) deep)) h.stands
       ∙ ap (λ x. Some x) (sent_stands deep b (token_out a d) s below)
       ∙ ap (λ r. Some (full b r.1 below_now)) (token_comes a d deep s (row_of below))
 
   ack_left : (o : Option Sent) → IfOut IsAckOut o
       → has_loss (after_sent o now) ≡ awaits_address (heard_by o deep asked.1 (row_of below_now)).1
   ack_left o is =
-      let z : SentToOne o now h.spot = sent_to_one o now h.spot first.on first.forgot
-      (λ q eq i e v w at on. ack_calls q.content v (subst (IfOut IsAckOut) eq is)) in
+      let z : SentToOne o now h.spot = sent_to_one o now h.spot (record {
+        on = first.on;
+        forgot = first.forgot;
+        uncalled = λ q eq i e v w at on. ack_calls q.content v (subst (IfOut IsAckOut) eq is);
+      }) in
       others_loss (after_sent o now) j p z.on z.forgot
       ∙ ap loss_by (sym (plugged_place (after_sent o now) j p)
-      ∙ ap plugged_on (z.place ∙ ap (option_map (place_after_sent o deep)) stands_now
+      ∙ ap plugged_on (sent_place z ∙ ap (option_map (step_in o deep)) stands_now
       ∙ ap (λ x. Some x) (sent_stands deep b o asked.1 below_now)))
 
   pub holder_loss : s.spec.silent ≡ false → lost_in a d k ≡ (is_some (reply_in a d k) &&

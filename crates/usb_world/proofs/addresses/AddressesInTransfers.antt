@@ -1,30 +1,30 @@
 -- IN and OUT change no address, where no device at theirs takes another.
 use Rattle.std.proofs.Common.{◌≡◌, ℕ, suc, ◌==◌, ◌&&◌, if◌then◌else◌, inl, inr, Bool, true, false}
-use Rattle.std.proofs.Common.{List, ◌∷◌, Option, None, Some, option_map, refl, ap, sym, subst, ◌∙◌}
+use Rattle.std.proofs.Common.{List, ◌∷◌, Option, None, Some, option_map, refl, ap, subst, ◌∙◌}
 use Rattle.std.proofs.Common.{arith}
 use Rattle.usb_packet.specs.{Token, OutTok, InTok}
 use Rattle.usb_port.specs.{PortState}
 use Rattle.usb_device.specs.{Content, Whole, Broken, Sent, Leaves, RememberedPacket, State, Reply}
-use Rattle.usb_device.specs.{received, unread, forgotten, answered, unless_busy, in_row}
-use Rattle.usb_device.specs.{in_other_row, token_row, after_memory, awaits_control}
-use Rattle.usb_device.specs.{ends_with_address, awaits_address, asks, Ports, row_of, reach_at}
-use Rattle.usb_device.specs.{state_at, place_at, hears, reply_to, answer_of, asked_by, effect_of}
-use Rattle.usb_device.specs.{Place}
+use Rattle.usb_device.specs.{received, unread, forgotten, unless_busy, in_row, in_other_row}
+use Rattle.usb_device.specs.{token_row, after_memory, awaits_control, ends_with_address}
+use Rattle.usb_device.specs.{awaits_address, asks, Ports, row_of, reach_at, state_at, place_at}
+use Rattle.usb_device.specs.{hears, reply_to, answer_of, asked_by, effect_of, Place}
 use Rattle.usb_device.specs.declared.transfer.RememberedPacket.TheVariants.{Nothing, SetupSeen}
 use Rattle.usb_device.proofs.Interface.{keeps-received}
 use Rattle.usb_world.specs.{Damage, Attempt, marked, token_of, token_out, payload_out, reply_out}
 use Rattle.usb_world.specs.{ports_in, World, at_attempt, damage_in, with_attempt, Step, attempt}
 use Rattle.usb_world.specs.{after, Course, HoldsMapped, Injective, is_setup, NoneTakes, MovesData}
 use Rattle.usb_world.specs.{GivesNoAddress}
-use Rattle.usb_tree.specs.{address_of, resets_at, reset_if, after_sent, deep_at, sent_resets}
-use Rattle.usb_tree.specs.{attempt_resets, IsDataOut, IfOut, IsSettled}
+use Rattle.usb_tree.specs.{address_of, reset_if, after_sent, deep_at, sent_resets, attempt_resets}
+use Rattle.usb_tree.specs.{IsDataOut, IfOut, IsSettled}
 use Rattle.usb_tree.proofs.Interface.{resets_if, false_true, equal_same, kept_address}
 use Rattle.usb_tree.proofs.Interface.{forgotten_address}
 use Rattle.usb_world.proofs.packets.AwaitedAcks.{none_awaited_answer, data_no_control_in}
-use Rattle.usb_world.proofs.packets.PacketEffects.{packet_state, heard_state}
+use Rattle.usb_world.proofs.packets.AwaitedAcks.{rest_awaits}
+use Rattle.usb_world.proofs.packets.PacketEffects.{packet_state, heard_state, stands, state_stands}
 use Rattle.usb_world.proofs.packets.AttemptPackets.{forgotten_state, calm_sent}
 use Rattle.usb_world.proofs.packets.AttemptPackets.{token_out as token_calm_out, ack_out}
-use Rattle.usb_world.proofs.holders.OneDevice.{stands, state_stands, settled_memory}
+use Rattle.usb_world.proofs.holders.OneDevice.{settled_memory}
 use Rattle.usb_world.proofs.holders.OneHolderAttempts.{ready_settled}
 use Rattle.usb_world.proofs.courses.StepInvariants.{settled_after}
 use Rattle.usb_world.proofs.courses.Courses.{made_reach, goes}
@@ -54,12 +54,13 @@ sent_if : (P Q : State → Type 0) (o : Option Sent) (k : Ports) (j : ℕ) (p : 
     → Q (answer_of q d s a).1) → If P (state_at k j p) → If Q (state_at (after_sent o k) j p)
 sent_if P Q None k j p r f g h = grind arith
 sent_if P Q (Some q) k j p r f g h =
-    subst (If Q) (sym (packet_state q false k j p))
-    (unreset_if Q (resets_at q false k j p)
-    (heard_state q (deep_at false p) (reach_at k j p) (place_at k j p)) r
-    (heard_if P Q q (deep_at false p) (reach_at k j p) (place_at k j p) f
-    (λ s a on x. g q (deep_at false p) s a refl on x)
-    (subst (If P) (sym (state_stands k j p)) h)))
+    grind (
+      arith,
+      heard_if P Q q (deep_at false p) (reach_at k j p) (place_at k j p),
+      packet_state q false k j p,
+      state_stands k j p,
+      unreset_if Q,
+    )
 
 -- The token of IN or OUT
 
@@ -83,8 +84,7 @@ module _ (d : State) (rests : saw_setup d.memory ≡ false) where
   stays_other row e = (grind arith, grind arith)
 
   stays_token : (row : List PortState) (e : ℕ) → AddressStays d (token_row d row InTok e).1
-  stays_token row e = stays_if d (e == 0) (unless_busy d (in_row d d.stage)) (in_other_row d row e)
-      stays_zero (stays_other row e)
+  stays_token row e = stays_if d (e == 0) _ _ stays_zero (stays_other row e)
 
 -- the device waits for no setup data; and for no ACK that gives it an address, where its status
 -- stage gives none or the
@@ -110,19 +110,14 @@ IsInOrOut n (Whole p) = ⊥
 token_reply : (n : ℕ) (c : Content) → IsInOrOut n c → (s : State) (row : List PortState)
     → s.memory ≡ Nothing → AddressAfterData n s (reply_to c s row).1
 unfolding received unread IsInOrOut awaits_address
-token_reply n (Whole (Token InTok a e)) h s row m = heard s.spec.silent
-  where
-    own : (x : Bool) → (a == s.registers.address) ≡ x
-        → AddressAfterData n s (if x then token_row (forgotten s) row InTok e
-        else (None, forgotten s)).1
-    own true g = stayed_asked n s (token_row (forgotten s) row InTok e).1
-        (stays_token (forgotten s) refl row e) (sym (equal_same a s.registers.address g) ∙ h)
-    own false g = rested_asked n s (forgotten s) refl
-
-    heard : (x : Bool) → AddressAfterData n s (if x then (None, s) else answered (forgotten s) row
-        s.memory (Token InTok a e)).1
-    heard true = rested_asked n s s m
-    heard false = own (a == s.registers.address) refl
+token_reply n (Whole (Token InTok a e)) h s row m =
+    grind (
+      arith,
+      equal_same a s.registers.address,
+      rested_asked,
+      stayed_asked n s (token_row (forgotten s) row InTok e).1,
+      stays_token (forgotten s) refl row e,
+    )
 token_reply n (Whole (Token OutTok a e)) h s row m = grind (arith, rested_asked)
 token_reply n Broken h s row m = grind (arith, rested_asked)
 token_reply n (Whole p) h s row m = elim h [ ]
@@ -130,12 +125,11 @@ token_reply n (Whole p) h s row m = elim h [ ]
 token_answer : (n : ℕ) (q : Sent) → IsInOrOut n q.content → (deep : Bool) (s : State) (a : Ports)
     → s.memory ≡ Nothing → AddressAfterData n s (answer_of q deep s a).1
 unfolding answer_of
-token_answer n q c deep s a m = heard (hears q deep s)
-  where
-    heard : (x : Bool) → AddressAfterData n s
-        (if x then reply_to q.content s (row_of a) else (None, s)).1
-    heard true = token_reply n q.content c s (row_of a) m
-    heard false = rested_asked n s s m
+token_answer n q c deep s a m = elim (hears q deep s)
+    as (λ x. AddressAfterData n s (if x then reply_to q.content s (row_of a) else (None, s)).1) [
+      | true ↦ token_reply n q.content c s (row_of a) m
+      | false ↦ rested_asked n s s m
+    ]
 
 -- The host's data
 
@@ -150,10 +144,6 @@ WaitsNone s = saw_setup s.memory ≡ false
 
 abbrev IsCalmed : State → Type 0
 IsCalmed s = WaitsNone s × AwaitsNoAddress s
-
-forgot_awaits : (s : State) → Forgot s → AwaitsNoAddress s
-unfolding awaits_address
-forgot_awaits s m = ap (λ y. awaits_control y && ends_with_address s.stage) m
 
 -- a device that waits for no setup data asks nothing of its ports
 data_asks : (c : Content) → IsDataOut c → (s : State) → saw_setup s.memory ≡ false
@@ -245,7 +235,7 @@ module _ (a : Attempt) (d : Option Damage) (k : Ports) (settled : IsSettled k)
     calmed : If IsCalmed (state_at asked_ports j p)
     calmed =
         sent_if Takes IsCalmed (token_out a d) k j p (token_calm j p)
-        (λ s t. (ap saw_setup t.0, forgot_awaits s t.0))
+        (λ s t. (ap saw_setup t.0, rest_awaits s t.0))
         (λ q deep s below e on t.
         let x : AddressAfterData a.addr s (answer_of q deep s below).1 =
         token_answer a.addr q (of_out (IsInOrOut a.addr) (token_out a d) q
@@ -269,17 +259,15 @@ module _ (a : Attempt) (d : Option Damage) (k : Ports) (settled : IsSettled k)
         ≡ option_map address_of (state_at k j p)
     unfolding ports_in
     ports_address =
-        ap (option_map address_of) (forgotten_state
-        (after_sent (reply_out a d k) (after_sent (payload_out a d) asked_ports)) j p)
-        ∙ forgotten_address (state_at (after_sent (reply_out a d k)
-        (after_sent (payload_out a d) asked_ports)) j p)
-        ∙ kept_sent (reply_out a d k) (after_sent (payload_out a d) asked_ports) j p
+        ap (option_map address_of) (forgotten_state _ j p)
+        ∙ forgotten_address _
+        ∙ kept_sent (reply_out a d k) _ j p
         (calm_sent (reply_out a d k) (ack_out (reply_out a d k) (goes a d k).reply)
-        (after_sent (payload_out a d) asked_ports) j p) awaits_none
+        _ j p) awaits_none
         ∙ kept_sent (payload_out a d) asked_ports j p (data_calm j p)
-        (calmed_awaits (state_at asked_ports j p) calmed)
+        (calmed_awaits _ calmed)
         ∙ kept_sent (token_out a d) k j p (token_calm j p)
-        (at_rest AwaitsNoAddress j p (λ s e m. forgot_awaits s m))
+        (at_rest AwaitsNoAddress j p (λ s e m. rest_awaits s m))
 
 -- Worlds
 
@@ -299,13 +287,6 @@ pub data_own : (f : List ℕ → Option ℕ) (a : Attempt) (w : World) → is_se
 data_own f a w kind none settled own =
     after-attempt_by (HoldsMapped f) a w (λ _. (own, own))
     (λ _. made_own f a (at_attempt w) kind none (ready_settled w settled) (ready_own f w own))
-
-pub data_keeps : (f : List ℕ → Option ℕ) → Injective f → (a : Attempt) (w : World)
-    → is_setup a.kind ≡ false → NoneTakes a.addr (at_attempt w).roots → IsSettled w.roots
-    → HoldsMapped f w → w.shared ≡ false → HoldsMapped f (after (attempt a) w)
-    × ((after (attempt a) w).shared ≡ false)
-data_keeps f inj a w kind none settled own h =
-    (data_own f a w kind none settled own, step_unshared f inj (attempt a) w own h)
 
 -- Courses
 

@@ -1,19 +1,17 @@
 -- Which courses keep each device at its own address, and set no mark.
-use Rattle.std.proofs.Common.{arith, ◌≡◌, ℕ, zero, suc, ◌==◌, ◌&&◌, ◌||◌, if◌then◌else◌, ◌⊎◌, inl}
-use Rattle.std.proofs.Common.{inr, Bool, true, false, List, [], ◌∷◌, ◌++◌, Option, None, Some}
-use Rattle.std.proofs.Common.{option_map, refl, ap, sym, ◌∙◌}
+use Rattle.usb_tree.proofs.Interface.{and_none, false_true, decided, neither_of, twice_two}
+use Rattle.usb_tree.proofs.Interface.{kept_address, forgotten_address}
+use Rattle.std.proofs.Common.{◌||◌, arith, ◌≡◌, ℕ, zero, suc, ◌&&◌, inl, inr, Bool, true, false}
+use Rattle.std.proofs.Common.{List, [], ◌∷◌, ◌++◌, Option, None, Some, option_map, refl, ap, sym}
+use Rattle.std.proofs.Common.{◌∙◌}
 use Rattle.usb_packet.specs.{Packet, Token, Payload, Toggle, Zero, TokenKind, SetupTok}
 use Rattle.arrayvec.specs.ArrayVec.{ArrayVec}
 use Rattle.usb_port.specs.{PortState, PortCall}
-use Rattle.usb_device.specs.{Answer, Content, Whole, Broken, Sent, is_ack, State, Reply, received}
-use Rattle.usb_device.specs.{unread, Ports, ended, vacant, taken, called, changed, reach}
-use Rattle.usb_device.specs.{state_at, path_to, state_on, reply_to, answer_of, listed}
-use Rattle.usb_device.specs.{held_addresses, repeats, state_there, Place, answers}
-use Rattle.usb_device.specs.{Stage, Write, WriteData, data_row, is_busy, judged}
-use Rattle.usb_device.specs.{max_packet, nak_row, out_end_row, out_max, out_row, unless_busy, write_row}
-use Rattle.usb_device.specs.{writing, RememberedPacket, payload_row, forgotten, answered}
+use Rattle.usb_device.specs.{Answer, Content, Whole, Broken, Sent, is_ack, State, received, unread}
+use Rattle.usb_device.specs.{Ports, ended, vacant, taken, called, changed, reach, state_at, path_to}
+use Rattle.usb_device.specs.{reply_to, answer_of, listed, held_addresses, repeats, state_there}
+use Rattle.usb_device.specs.{Place, answers, RememberedPacket, payload_row}
 use Rattle.usb_device.specs.declared.transfer.RememberedPacket.TheVariants.{SetupSeen, OutSeen}
-use Rattle.usb_device.specs.declared.answer.Answer.TheVariants as answer
 use Rattle.usb_device.proofs.Interface.{keeps-received}
 use Rattle.usb_world.specs.{Damage, Attempt, BusFault, Mark, marked, marked_some, token_of}
 use Rattle.usb_world.specs.{payload_of, reply_of, sent_as, token_out, payload_out, reply_out}
@@ -21,16 +19,14 @@ use Rattle.usb_world.specs.{heard_all, ports_in, World, after_event, at_attempt,
 use Rattle.usb_world.specs.{with_attempt, event_taken, Step, attempt, root_call, event, after}
 use Rattle.usb_world.specs.{is_made, made_resets, root_resets, resets, address_at, HoldsMapped}
 use Rattle.usb_world.specs.{Injective, is_quiet, QuietStep, quiet_data}
-use Rattle.usb_tree.specs.{address_of, Two, call_resets, after_sent, answers_to, after_attempt}
-use Rattle.usb_tree.specs.{sent_resets, attempt_resets}
-use Rattle.usb_tree.proofs.Interface.{false_true, both, and_of, decided, neither_of, twice_two}
-use Rattle.usb_tree.proofs.Interface.{kept_address, forgotten_address}
+use Rattle.usb_tree.specs.{address_of, after_sent, answers_to, after_attempt, sent_resets}
+use Rattle.usb_tree.specs.{attempt_resets}
 use Rattle.usb_world.proofs.events.PlugEvents.{happened_there}
 use Rattle.usb_world.proofs.ports.PortCalls.{call_state}
-use Rattle.usb_world.proofs.packets.PacketEffects.{packet_state, heard_state}
+use Rattle.usb_world.proofs.packets.PacketEffects.{packet_state, heard_state, stands, state_stands}
 use Rattle.usb_world.proofs.packets.AttemptPackets.{forgotten_state, calm_sent}
 use Rattle.usb_world.proofs.packets.AttemptPackets.{token_out as token_calm_out}
-use Rattle.usb_world.proofs.holders.OneDevice.{stands, state_stands}
+use Rattle.usb_world.proofs.holders.OneHolder.{gives_no_data, if_no_data, data_no_data}
 use Rattle.usb_world.proofs.courses.Courses.{happened_reach, made_reach, root_reach, goes}
 use Rattle.usb_world.proofs.packets.HarmlessRequests.{harmless_resets, IsHarmlessOut}
 use Rattle.usb_world.proofs.courses.LiftedSteps.{OverEvents, OverSteps, Keeps, keeps_events}
@@ -76,22 +72,14 @@ attempt_address t d ct cd k j p f h =
 
 pub own_not_twice : (f : List ℕ → Option ℕ) → Injective f → (w : World) → HoldsMapped f w
     → repeats (held_addresses w.roots) ≡ false
-own_not_twice f inj w own = split (decided (repeats (held_addresses w.roots)))
-  where
-    at_of : (h : Option ℕ) (x : Option ℕ) (n : ℕ) → h ≡ x → h ≡ Some n → x ≡ Some n
-    at_of h x n e g = sym e ∙ g
-
-    found : (t : Two w.roots) → false ≡ true
-    found t = sym t.differ ∙ inj (path_to t.one.spot) (path_to t.other.spot) t.n
-        (at_of (option_map address_of (state_on w.roots t.one.spot)) (f (path_to t.one.spot)) t.n
-        (own (path_to t.one.spot) t.one.on) t.one.at)
-        (at_of (option_map address_of (state_on w.roots t.other.spot)) (f (path_to t.other.spot))
-        t.n (own (path_to t.other.spot) t.other.on) t.other.at)
-
-    split : (repeats (held_addresses w.roots) ≡ true) ⊎ (repeats (held_addresses w.roots) ≡ false)
-        → repeats (held_addresses w.roots) ≡ false
-    split (inl y) = false_true (found (twice_two w.roots y))
-    split (inr y) = y
+own_not_twice f inj w own = elim (decided (repeats (held_addresses w.roots))) [
+  | inl y ↦
+      let t : _ = twice_two w.roots y in
+      let one : _ = sym (own (path_to t.one.spot) t.one.on) ∙ t.one.at in
+      let other : _ = sym (own (path_to t.other.spot) t.other.on) ∙ t.other.at in
+      false_true (sym t.differ ∙ inj (path_to t.one.spot) (path_to t.other.spot) t.n one other)
+  | inr y ↦ y
+]
 
 -- Events
 
@@ -123,18 +111,10 @@ root_address : (c : PortCall) (n : ℕ) (k : Ports) (p : List ℕ) → root_rese
     → address_at (changed (called c) k (n ∷ [])) p ≡ address_at k p
 root_address c n k (zero ∷ p) h = refl
 root_address c (suc i) k (suc j ∷ p) h = ap (option_map address_of) (call_state c k i j p)
-    ∙ kept_address (call_resets c k i j p) (state_at k j p) h
+    ∙ kept_address _ (state_at k j p) h
 root_address c n k p h = refl
 
 -- To setup data, and to data, no device answers by data; so the host sends no ACK
-
-abbrev has_no_data : Option Answer → Bool
-has_no_data (Some (answer.Data t b)) = false
-has_no_data o = true
-
-no_data_if : (b : Bool) (x y : Reply) → has_no_data x.0 ≡ true → has_no_data y.0 ≡ true
-    → has_no_data (if b then x else y).0 ≡ true
-no_data_if b x y h g = grind arith
 
 -- what goes out in an attempt that sends setup data
 IsSetupOut : Content → Type 0
@@ -143,57 +123,38 @@ IsSetupOut (Whole (Payload t b)) = Unit {0}
 IsSetupOut Broken = Unit {0}
 IsSetupOut (Whole p) = ⊥
 
-no_data_written : (s : State) (w : Write) (bytes : List ℕ) (x : WriteData)
-    → has_no_data (write_row s w bytes x).0 ≡ true
-no_data_written s w bytes x = grind arith
-
-no_data_out : (s : State) (stage : Stage) (t : Toggle) (bytes : List ℕ)
-    → has_no_data (out_row s stage t bytes).0 ≡ true
-no_data_out s (writing w) t bytes = no_data_written s w bytes (judged (max_packet s.spec) w t bytes)
-no_data_out s stage t bytes = grind arith
-
-no_data_after : (s : State) (e : ℕ) (t : Toggle) (bytes : List ℕ)
-    → has_no_data (data_row s e t bytes).0 ≡ true
-no_data_after s e t bytes =
-    no_data_if (e == 0) (unless_busy s (out_row s s.stage t bytes))
-    (out_end_row s e (out_max s e) t bytes)
-    (no_data_if (is_busy s) (nak_row s) (out_row s s.stage t bytes) refl
-    (no_data_out s s.stage t bytes)) (grind arith)
-
 no_data_payload : (s : State) (row : List PortState) (m : RememberedPacket) (t : Toggle)
-    (bytes : List ℕ) → has_no_data (payload_row s row m t bytes).0 ≡ true
+    (bytes : List ℕ) → gives_no_data (payload_row s row m t bytes).0 ≡ true
 no_data_payload s row SetupSeen Zero bytes = grind arith
-no_data_payload s row (OutSeen e) t bytes = no_data_after s e t bytes
+no_data_payload s row (OutSeen e) t bytes = data_no_data s e t bytes
 no_data_payload s row m t bytes = refl
 
 no_data_content : (c : Content) (s : State) (row : List PortState) → IsSetupOut c
-    → has_no_data (reply_to c s row).0 ≡ true
+    → gives_no_data (reply_to c s row).0 ≡ true
 unfolding received IsSetupOut
 no_data_content (Whole (Token SetupTok a e)) s row h = grind arith
-no_data_content (Whole (Payload t b)) s row h = no_data_if s.spec.silent (None, s)
-    (answered (forgotten s) row s.memory (Payload t b)) refl
-    (no_data_payload (forgotten s) row s.memory t b.items)
+no_data_content (Whole (Payload t b)) s row h =
+    grind (arith, if_no_data, no_data_payload)
 no_data_content Broken s row h = refl
 no_data_content c s row h = elim h [ ]
 
 no_data_answer : (q : Sent) → IsSetupOut q.content → (deep : Bool) (s : State) (a : Ports)
-    → has_no_data (answer_of q deep s a).0 ≡ true
+    → gives_no_data (answer_of q deep s a).0 ≡ true
 unfolding answer_of
-no_data_answer q c deep s a = grind (arith, no_data_content, no_data_if)
+no_data_answer q c deep s a = grind (arith, no_data_content, if_no_data)
 
 all_without_data : List Answer → Bool
 all_without_data [] = true
-all_without_data (x ∷ xs) = has_no_data (Some x) && all_without_data xs
+all_without_data (x ∷ xs) = gives_no_data (Some x) && all_without_data xs
 
 no_data_append : (xs ys : List Answer) → all_without_data xs ≡ true → all_without_data ys ≡ true
     → all_without_data (xs ++ ys) ≡ true
 unfolding all_without_data
 no_data_append [] ys h g = g
 no_data_append (x ∷ xs) ys h g =
-    let on : _ = both (has_no_data (Some x)) (all_without_data xs) h in
-    and_of (has_no_data (Some x)) _ on.0 (no_data_append xs ys on.1 g)
+    grind (arith, no_data_append xs ys)
 
-no_data_listed : (o : Option Answer) (xs : List Answer) → has_no_data o ≡ true
+no_data_listed : (o : Option Answer) (xs : List Answer) → gives_no_data o ≡ true
     → all_without_data xs ≡ true → all_without_data (listed o xs) ≡ true
 unfolding all_without_data
 no_data_listed o xs h g = grind arith
@@ -265,14 +226,16 @@ made_address : (a : Attempt) (w : World) → SetupGoes a (damage_in w) → (p : 
     → address_at (with_attempt a w).roots p ≡ address_at w.roots p
 unfolding with_attempt ports_in
 made_address a w g (suc j ∷ p) =
-    ap (λ r. option_map address_of (state_at
-    (after_attempt (token_out a (damage_in w)) (payload_out a (damage_in w)) r w.roots) j
-    p)) (reply_out-setup a (damage_in w) w.roots g)
-    ∙ attempt_address (token_out a (damage_in w)) (payload_out a (damage_in w)) g.token_no_ack
-    g.payload_no_ack w.roots j p
-    (calm_sent (token_out a (damage_in w)) (token_calm_out a.addr (token_out a (damage_in w))
-    (goes a (damage_in w) w.roots).token) w.roots j p)
-    (g.harmless (after_sent (token_out a (damage_in w)) w.roots) j p)
+    grind (
+      arith,
+      attempt_address (token_out a (damage_in w)) (payload_out a (damage_in w)) g.token_no_ack
+          g.payload_no_ack w.roots j p,
+      calm_sent (token_out a (damage_in w)),
+      g.harmless,
+      goes a (damage_in w) w.roots,
+      reply_out-setup a (damage_in w) w.roots g,
+      token_calm_out a.addr (token_out a (damage_in w)),
+    )
 made_address a w g p = refl
 
 quiet_sends : (a : Attempt) (d : Option Damage) → quiet_data a.kind a.payload ≡ true → SetupGoes a d
@@ -282,18 +245,11 @@ quiet_sends a d h = setup_sends a d a.kind a.payload refl refl h
 
 pub quiet_resets : (s : Step) (w : World) (p : List ℕ) → is_quiet s ≡ true → resets s w p ≡ false
 unfolding resets
-quiet_resets (attempt a) w p h = made (is_made w.fault w) (by_path p)
+quiet_resets (attempt a) w p h = and_none (is_made w.fault w) _ (by_path p)
   where
-    made : (x : Bool) → made_resets a (at_attempt w) p ≡ false
-        → (x && made_resets a (at_attempt w) p) ≡ false
-    made true h = h
-    made false h = refl
-
     by_path : (p : List ℕ) → made_resets a (at_attempt w) p ≡ false
-    by_path [] = refl
-    by_path (zero ∷ p) = refl
-    by_path (suc j ∷ p) = (quiet_sends a (damage_in (at_attempt w)) h).harmless
-        (after_sent (token_out a (damage_in (at_attempt w))) (at_attempt w).roots) j p
+    by_path (suc j ∷ p) = (quiet_sends a _ h).harmless _ j p
+    by_path p = refl
 quiet_resets (root_call c n) w p h = grind arith
 quiet_resets s w p h = refl
 
@@ -329,7 +285,7 @@ pub ready_unshared : (f : List ℕ → Option ℕ) → Injective f → (w : Worl
     → w.shared ≡ false → ((at_attempt w).shared || repeats (held_addresses (at_attempt w).roots))
     ≡ false
 ready_unshared f inj w own h =
-    neither_of (at_attempt w).shared (repeats (held_addresses (at_attempt w).roots))
+    neither_of (at_attempt w).shared _
     (ready_shared w ∙ h) (own_not_twice f inj (at_attempt w) (ready_own f w own))
 
 pub step_unshared : (f : List ℕ → Option ℕ) → Injective f → (s : Step) (w : World) → HoldsMapped f w

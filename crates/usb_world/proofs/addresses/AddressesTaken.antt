@@ -1,17 +1,16 @@
 -- The device that ends its status stage takes its address at the host's ACK.
-use Rattle.std.proofs.Common.{◌≡◌, ℕ, suc, ◌==◌, ◌&&◌, not, if◌then◌else◌, Bool, true, false, List}
-use Rattle.std.proofs.Common.{◌∷◌, Option, Some, option_map, refl, ap, ap₂, sym, ◌∙◌, arith}
+use Rattle.std.proofs.Common.{inl, inr, ◌≡◌, ℕ, suc, ◌==◌, ◌&&◌, not, if◌then◌else◌, Bool, true}
+use Rattle.std.proofs.Common.{false, List, ◌∷◌, Option, Some, option_map, refl, ap, ap₂, sym, ◌∙◌}
+use Rattle.std.proofs.Common.{arith}
+use Rattle.usb_tree.proofs.Interface.{decided, false_true, is_twice-one_path, self_number}
+use Rattle.usb_tree.proofs.Interface.{self_path}
 use Rattle.usb_port.specs.{PortState}
-use Rattle.usb_device.specs.declared.answer.Answer.TheVariants as answer
 use Rattle.usb_device.specs.{ending, State, Reply, is_busy, ends_with_address, Way, is_whole}
 use Rattle.usb_device.specs.{in_law, in_stage_law, in_other_law, in_end_law, source_law, held_law}
-use Rattle.usb_device.specs.{changes_law, heard, in_max, status_number, tells_changes}
-use Rattle.usb_device.specs.{Ports, row_of, reach_at, state_at}
+use Rattle.usb_device.specs.{heard, in_max, Ports, row_of, reach_at, state_at}
 use Rattle.usb_world.specs.{Attempt, World, at_attempt, damage_in, with_attempt, attempt, after}
-use Rattle.usb_world.specs.{HoldsMapped, token_way, answer_way, reply_way, IsIn, HolderIn, is_setup}
-use Rattle.usb_world.specs.{after_taking, ends_status}
+use Rattle.usb_world.specs.{HoldsMapped, IsIn, HolderIn, is_setup, after_taking, ends_status}
 use Rattle.usb_tree.specs.{address_of, same_number, same_path, deep_at}
-use Rattle.usb_tree.proofs.Interface.{false_true, is_twice-one_path, self_number, self_path}
 use Rattle.usb_world.proofs.courses.Courses.{made_reach}
 use Rattle.usb_world.proofs.holders.OneHolder.{holder_holds, Holder}
 use Rattle.usb_world.proofs.holders.OneHolderAttempts.{made_is, holder_in, in_in, silent_in}
@@ -39,10 +38,7 @@ module _ (s : State) (max : ℕ) (x y : Way) where
   held_keeps row h = grind arith
 
   other_keeps : (row : List PortState) (e : ℕ) → AddressKept s (in_other_law s row e max x y)
-  other_keeps row e = kept_if s
-      (e == status_number s.spec s.registers && tells_changes s.spec s.registers)
-      (changes_law s row max x y) (in_end_law s e (in_max s e) max x y)
-      (kept_if s s.changes.halted (heard x (Some answer.Stall), s) (held_law s row s.held max x y)
+  other_keeps row e = kept_if s _ _ _ (kept_if s s.changes.halted (heard x _, s) _
       refl (held_keeps row s.held)) (end_law_keeps e (in_max s e))
 
   stage_address : (n : ℕ) → s.stage ≡ ending (Some n)
@@ -82,29 +78,12 @@ module _ (a : Attempt) (w : World) (h : HolderIn a w) (into : IsIn a) (n : ℕ)
   own_state = h.at
 
   there : option_map address_of (state_at (after (attempt a) w).roots j p) ≡ Some taken
-  there = pick (s.spec.silent) refl
-    where
-      pick : (x : Bool) → s.spec.silent ≡ x
-          → option_map address_of (state_at (after (attempt a) w).roots j p) ≡ Some taken
-      pick true e =
-          ap (option_map address_of) (silent_in a w h e).state
-          ∙ ap (λ x. Some (if not x &&
-          (is_whole (token_way a (damage_in (at_attempt w)) (deep_at false p) s) &&
-          (a.ep == 0 && (not (is_busy s) &&
-          (is_whole (answer_way a (damage_in (at_attempt w)) k) &&
-          is_whole (reply_way a (damage_in (at_attempt w)) k (deep_at false p) s)))))
-          then n else address_of s)) (sym e)
-      pick false e =
-          ap (option_map address_of) (in_in a w h e into).state
-          ∙ ap (λ x. Some x) (in_address s a.max (answer_way a (damage_in (at_attempt w)) k)
-          (reply_way a (damage_in (at_attempt w)) k (deep_at false p) s) (row_of below) a.ep
-          (token_way a (damage_in (at_attempt w)) (deep_at false p) s) n stage)
-          ∙ ap (λ x. Some (if not x &&
-          (is_whole (token_way a (damage_in (at_attempt w)) (deep_at false p) s) &&
-          (a.ep == 0 && (not (is_busy s) &&
-          (is_whole (answer_way a (damage_in (at_attempt w)) k) &&
-          is_whole (reply_way a (damage_in (at_attempt w)) k (deep_at false p) s)))))
-          then n else address_of s)) (sym e)
+  there = elim (decided s.spec.silent) [
+    | inl e ↦ ap (option_map address_of) (silent_in a w h e).state ∙ rw e refl
+    | inr e ↦
+        ap (option_map address_of) (in_in a w h e into).state
+        ∙ ap (λ x. Some x) (in_address s a.max _ _ (row_of below) a.ep _ n stage) ∙ rw e refl
+  ]
 
   -- another device takes none
   others : (i : ℕ) (e : List ℕ) → (same_number j i && same_path p e) ≡ false → (t : State)
@@ -130,9 +109,9 @@ module _ (a : Attempt) (w : World) (h : HolderIn a w) (into : IsIn a) (n : ℕ)
     unfolding with_attempt
     kept_there i e d on =
         ap (λ v. option_map address_of (state_at v.roots i e)) (made_is a w h.made)
-        ∙ ports_address a (damage_in (at_attempt w)) k one.settled kind i e (others i e d)
+        ∙ ports_address a _ k one.settled kind i e (others i e d)
         ∙ ready_own f w own (suc i ∷ e) (made_reach a (at_attempt w) (suc i ∷ e)
-        (data_calm a (damage_in (at_attempt w)) k one.settled kind i e)
+        (data_calm a _ k one.settled kind i e)
         (ap (λ v. reach_at v.roots i e) (sym (made_is a w h.made)) ∙ on))
         ∙ ap (λ x. if x then Some taken else f (suc i ∷ e)) (sym d)
 
@@ -144,7 +123,7 @@ module _ (a : Attempt) (w : World) (h : HolderIn a w) (into : IsIn a) (n : ℕ)
     own_as x c q on = own_after q on ∙ c q
 
     pub seen : ends ≡ true → HoldsMapped (after_taking f (suc j ∷ p) n) (after (attempt a) w)
-    seen y = own_as (after_taking f (suc j ∷ p) n)
+    seen y = own_as _
         (λ q. ap (λ x. if same_path (suc j ∷ p) q then Some (if x then n else address_of s) else f
         q) y)
 
@@ -152,12 +131,8 @@ module _ (a : Attempt) (w : World) (h : HolderIn a w) (into : IsIn a) (n : ℕ)
     unseen y = own_as f same
       where
         same : (q : List ℕ) → g q ≡ f q
-        same q = pick (same_path (suc j ∷ p) q) refl
-          where
-            pick : (x : Bool) → same_path (suc j ∷ p) q ≡ x
-                → (if x then Some (if ends then n else address_of s) else f q) ≡ f q
-            pick false e = refl
-            pick true e =
-                ap (λ x. Some (if x then n else address_of s)) y ∙ ap (λ x. Some x) own_state
-                ∙ sym (holder_holds a.addr k one).at ∙ ready_own f w own (suc j ∷ p) one.on
-                ∙ ap f (sym (same_is (suc j ∷ p) q e))
+        same q = elim (decided (same_path (suc j ∷ p) q)) [
+          | inl e ↦ rw (e, y) (ap (λ x. Some x) own_state ∙ sym (holder_holds a.addr k one).at
+              ∙ ready_own f w own (suc j ∷ p) one.on ∙ ap f (sym (same_is (suc j ∷ p) q e)))
+          | inr e ↦ rw e refl
+        ]

@@ -89,9 +89,8 @@ pub set_up_counts : (a : Attempt) {t : Toggle} (bytes : List ℕ) → a.kind ≡
 unfolding token_of
 set_up_counts a bytes kind payload h w m =
     none_counted a w m (subst (λ t. IsNoControlIn (Token t a.addr a.ep)) (sym kind) tt)
-    (allowed_clear _ (payload_allowed unclearing refl a (damage_in (at_attempt w))
-    (subst (PayloadAllows unclearing) (sym payload) (unclearing_allows (setup_of bytes) h)))
-    _)
+    (allowed_clear _ (payload_allowed unclearing refl a _
+    (subst (PayloadAllows unclearing) (sym payload) (unclearing_allows (setup_of bytes) h))) _)
 
 -- where the host got no data
 pub quiet_counts : (a : Attempt) → IsIn a → (w : World) → IsMade a w
@@ -108,7 +107,7 @@ token_stage t s row n = grind arith
 
 endless_awaits : (s : State) → ends_with_address s.stage ≡ false → awaits_address s ≡ false
 unfolding awaits_address
-endless_awaits s h = and_none _ (ends_with_address s.stage) h
+endless_awaits s h = and_none _ _ h
 
 status_awaits : (n : ℕ) (s : State) (row : List PortState) → s.spec.silent ≡ false
     → is_busy s ≡ false → s.stage ≡ ending (Some n)
@@ -223,7 +222,7 @@ module _ (a : Attempt) (w : World) (into : IsIn a) (zeroth : a.ep ≡ 0) (h : Ho
       where
         unawaited : ends_with_address s.stage ≡ false
             → (brings (outcome_in a w) && (awaits && not (is_whole reply))) ≡ false
-        unawaited f = and_none (brings (outcome_in a w)) _ (ap (λ x. x && not (is_whole reply))
+        unawaited f = and_none _ _ (ap (λ x. x && not (is_whole reply))
             (endless_awaits _ (ap ends_with_address
             (token_stage token s (row_of below) s.registers.address) ∙ f)))
 

@@ -1,12 +1,10 @@
 -- Each device over an attempt that the bus gave up: it was made whole, and only its line was not
 -- written; or it changed no device.
-use Rattle.std.proofs.Common.{arith, ◌≡◌, ◌≢◌, ℕ, ◌||◌, List, false, None, Err, refl, sym, subst}
-use Rattle.std.proofs.Common.{ap, ◌∙◌}
-use Rattle.usb_device.specs.{held_addresses, repeats, Ports, path_to}
-use Rattle.usb_world.specs.{Attempt, BusFault, Limit, Memory, Failed, IsMade, World}
-use Rattle.usb_world.specs.{IsAttempt, Attempted, Relation, EachWas, at_attempt, damage_in}
-use Rattle.usb_world.specs.{with_attempt, attempt, after, Left, at_event, at_packet, at_line}
-use Rattle.usb_world.specs.{GaveUp, AttemptFails}
+use Rattle.std.proofs.Common.{arith, ◌≡◌, ◌≢◌, ℕ, List, false, None, Err, refl, sym, subst, ap, ◌∙◌}
+use Rattle.usb_device.specs.{held_addresses, repeats, path_to}
+use Rattle.usb_world.specs.{Attempt, BusFault, Limit, Memory, Failed, IsMade, World, IsAttempt}
+use Rattle.usb_world.specs.{Attempted, Relation, EachWas, at_attempt, with_attempt, attempt, after}
+use Rattle.usb_world.specs.{Left, at_event, at_packet, at_line, GaveUp, AttemptFails}
 use Rattle.usb_tree.specs.{IsSettled}
 use Rattle.usb_world.proofs.addresses.AddressesKept.{StandsAfter, stood_events, ready_stood}
 use Rattle.usb_world.proofs.courses.LiftedSteps.{attempt_cases, over_coming}
@@ -48,19 +46,6 @@ made_cut : (a : Attempt) (w : World) → IsMade a w → (after (attempt a) w).sh
 unfolding with_attempt
 made_cut a w m u = grind (arith, made_is, ready_shared)
 
-packet_cut : (a : Attempt) (w x : World) (k : Ports) → k ≡ (at_attempt w).roots
-    → x ≡ record (at_attempt w) {
-      roots = k;
-      shared = (at_attempt w).shared || repeats (held_addresses (at_attempt w).roots);
-    } → x.shared ≡ false → AttemptCut a w x
-packet_cut a w x k e is single =
-    let both : (at_attempt w).shared || repeats (held_addresses (at_attempt w).roots) ≡ false =
-    sym (ap (λ y. y.shared) is) ∙ single in
-    unmade (sym (ready_shared w)
-    ∙ (neither (at_attempt w).shared (repeats (held_addresses (at_attempt w).roots)) both).0)
-    (each_same_roots Same w (at_attempt w) x (sym (ap (λ y. y.roots) is ∙ e))
-    (each_stood w (at_attempt w) (ready_stood w)))
-
 module _ (a : Attempt) (w : World) (fits : IsAttempt a) (sound : w.fault ≡ None)
     (settled : IsSettled w.roots) where
   left_cut : (f : BusFault) (x : World) → w.attempts ≢ w.limit → Left a w f x → x.shared ≡ false
@@ -68,12 +53,13 @@ module _ (a : Attempt) (w : World) (fits : IsAttempt a) (sound : w.fault ≡ Non
   left_cut f x below (at_event c) single =
       unmade (sym (came_shared c) ∙ single) (each_stood w x (λ p. over_coming (stood_events p) c))
   left_cut f x below (at_packet k e c is) single =
-      let both : (at_attempt w).shared || repeats (held_addresses (at_attempt w).roots) ≡ false =
-      sym (ap (λ y. y.shared) is) ∙ single in
-      packet_cut a w x k
-      (cut_alone a (damage_in (at_attempt w)) (at_attempt w).roots k fits (ready_settled w settled)
-      c (neither (at_attempt w).shared (repeats (held_addresses (at_attempt w).roots))
-      both).1) is single
+      let parts : _ = neither (at_attempt w).shared (repeats (held_addresses (at_attempt w).roots))
+      (sym (ap (λ y. y.shared) is) ∙ single) in
+      let same : k ≡ (at_attempt w).roots =
+      cut_alone a _ (at_attempt w).roots k fits (ready_settled w settled) c parts.1 in
+      unmade (sym (ready_shared w) ∙ parts.0)
+      (each_same_roots Same w (at_attempt w) x (sym (ap (λ y. y.roots) is ∙ same))
+      (each_stood w (at_attempt w) (ready_stood w)))
   left_cut f x below (at_line e is) single = grind (arith, made_cut, made_is)
 
   gave_up_cut : (f : BusFault) (v : World) → GaveUp a w f v → v.shared ≡ false → AttemptCut a w v

@@ -1,11 +1,11 @@
 -- What damage leaves of packets, and how many addresses it loses.
-use Rattle.std.proofs.Common.{◌≡◌, ℕ, ◌+◌, ◌*◌, ◌<◌, ◌≤◌, ◌==◌, nat_lt, List, [], ◌∷◌, ◌++◌, length}
-use Rattle.std.proofs.Common.{Bool, true, false, if◌then◌else◌, Option, Some, None, refl, sym, ap}
-use Rattle.std.proofs.Common.{◌∙◌, arith, length-append, drop, drop-cons, get_or, add-one}
+use Rattle.std.proofs.Common.{◌≡◌, ℕ, ◌+◌, ◌*◌, ◌<◌, ◌≤◌, ◌==◌, nat_lt, List, [], ◌∷◌, length, Bool}
+use Rattle.std.proofs.Common.{true, false, if◌then◌else◌, Option, Some, None, refl, sym, ap, ◌∙◌}
+use Rattle.std.proofs.Common.{arith, length-append, drop, drop-cons, get_or, add-one}
 use Rattle.std.proofs.Common.{drop_of_length-le}
 use Rattle.std.proofs.lemmas.Bool.Decides.{nat_tests}
 use Rattle.std.proofs.lemmas.Bool.{ltb-true, eq-eqb}
-use Rattle.usb_check.specs.{low_bits, bits_of_bytes, generator5, generator16}
+use Rattle.usb_check.specs.{low_bits, generator5, generator16}
 use Rattle.usb_check.proofs.Interface.{length-bits_of_bytes, length-low_bits}
 use Rattle.usb_packet.specs.{Packet, Token, Sof, Payload, Spells, Follows}
 use Rattle.usb_world.specs.{Damage, Attempt, IsAttempt, lost_in, AreOfDamages, no_losses, counted}
@@ -22,17 +22,17 @@ use Rattle.usb_packet.proofs.Interface.{carried}
 follows_bits : (p : Packet) (rest : List ℕ) → Follows p rest → bit_count p ≡ 8 + 8 * length rest
 unfolding bit_count
 follows_bits (Token kind addr ep) rest f =
-    let n = carried generator5 (low_bits 7 addr ++ low_bits 4 ep) rest f in
+    let n = carried generator5 _ rest f in
     let m = length-append (low_bits 7 addr) (low_bits 4 ep) in
     let a = length-low_bits 7 addr in
     let b = length-low_bits 4 ep in
     omega (arith, n, m, a, b)
 follows_bits (Sof frame) rest f =
-    let n = carried generator5 (low_bits 11 frame) rest f in
+    let n = carried generator5 _ rest f in
     let m = length-low_bits 11 frame in
     omega (arith, n, m)
 follows_bits (Payload toggle bytes) rest f =
-    let n = carried generator16 (bits_of_bytes bytes.items) rest f in
+    let n = carried generator16 _ rest f in
     let m = length-bits_of_bytes bytes.items in
     omega (arith, n, m)
 follows_bits _ rest f = let n : length rest ≡ 0 = ap length f in omega (arith, n)
@@ -83,9 +83,6 @@ damage_none damages n i h le = sym (h ∙ ap (λ (l : List Damage). damage_of l 
 
 -- ---- address losses
 
-no_truth : true ≡ false → ⊥
-no_truth h = cc
-
 until_grows : (damages : List Damage) (n : ℕ)
     → damages_until n damages ≤ damages_until (n + 1) damages
 unfolding damages_until
@@ -124,7 +121,7 @@ losses_damaged damages n a k l true is settled e h = at_loss (damage_of damages 
   where
     at_loss : (o : Option Damage) → damage_of damages (n + 1) ≡ o → true ≡ lost_in a o k
         → l.all + 1 ≤ damages_until (n + 1) damages
-    at_loss None found t = absurd (no_truth (t ∙ lost_in-none a k is settled))
+    at_loss None found t = absurd (cc (t ∙ lost_in-none a k is settled))
     at_loss (Some d) found t = let more = until_more damages n d found in omega (arith, more, h)
 
 run_at : (l : Losses) (lost : Bool) → l.run ≤ l.all → (counted lost l).run ≤ (counted lost l).all

@@ -1,9 +1,9 @@
 -- What the code of an attempt does, packet by packet, is the attempt.
+use Rattle.usb_device.proofs.Interface.{row_of-after, figure-after, row_of-forgotten}
 use Rattle.std.proofs.Common.{arith, ◌≡◌, ◌+◌, List, ◌∷◌, ◌++◌, false, Option, Some, None, Result}
 use Rattle.std.proofs.Common.{OnOk, OnErr, refl, sym, subst, ap, ap₂, ◌∙◌}
 use Rattle.usb_device.specs.{Answer, Heard, Sent, Ports, ended, vacant, taken, row_of}
 use Rattle.usb_device.specs.{all_forgotten, heard_of, both, heard_joined, delivered, figure}
-use Rattle.usb_device.proofs.Interface.{figure-after, row_of-forgotten}
 use Rattle.usb_world.specs.{Damage, Exchange, Attempt, harm_to, marked, marked_some, heard_above}
 use Rattle.usb_world.specs.{StaysPlugged, PacketWent, PacketsWent, Exchanged, token_of, payload_of}
 use Rattle.usb_world.specs.{answer_place, answer_mark, reply_of, goes_out, heard_all, token_out}
@@ -22,6 +22,12 @@ figure-forgotten (vacant b k) = ap (λ f. Some None ∷ f) (figure-forgotten k)
 figure-forgotten (taken b s a k) = ap₂ (λ f g. Some (Some s.spec) ∷ (f ++ g)) (figure-forgotten a)
     (figure-forgotten k)
 
+pub stays_plugged_refl : (k : Ports) → StaysPlugged k k
+stays_plugged_refl k = record { row = refl; figure = refl }
+
+pub after_sent-plugged : (o : Option Sent) (k : Ports) → StaysPlugged k (after_sent o k)
+after_sent-plugged o k = grind (arith, figure-after, row_of-after)
+
 pub plugged_further : (k j m : Ports) → StaysPlugged k j → StaysPlugged j m → StaysPlugged k m
 plugged_further k j m x y = record { row = y.row ∙ x.row; figure = y.figure ∙ x.figure }
 
@@ -35,12 +41,6 @@ pub sent_went : {A E : Type 0} (r : Result A E) (o : Option Sent) (q : Sent) (k 
     (g h : Heard) → o ≡ Some q → OnOk r ((h, m) ≡ heard_joined g (delivered q false k))
     → OnOk r (PacketWent o k m g h)
 sent_went r o q k m g h is e = grind arith
-
--- a packet at one device
-pub went_to : {A E : Type 0} (r : Result A E) (o : Option Sent) (k m : Ports) (g h : Heard)
-    → OnOk r (h ≡ both g (heard_of (answers_to o k))) → OnOk r (m ≡ after_sent o k)
-    → OnOk r (PacketWent o k m g h)
-went_to r o k m g h heard ports = grind arith
 
 -- the end of an attempt
 pub over_plugged : (k j m : Ports) → m ≡ all_forgotten j → StaysPlugged k j → StaysPlugged k m

@@ -1,14 +1,8 @@
 -- What an attempt that is made, or is not, leaves of a world besides its devices.
-use Rattle.std.proofs.Common.{arith, ◌≡◌, ◌==◌, true, false, None, Some, refl}
+use Rattle.std.proofs.Common.{arith, ◌≡◌, false}
 use Rattle.usb_device.specs.{held_addresses, repeats}
-use Rattle.usb_world.specs.{Attempt, Limit, attempt, after, with_attempt, at_attempt, World}
-use Rattle.usb_world.specs.{Made}
+use Rattle.usb_world.specs.{Attempt, attempt, after, with_attempt, at_attempt, World, Made}
 use Rattle.usb_world.proofs.events.DueEvents.{ready_beside, ready_shared}
-
-pub limited : (a : Attempt) (w : World) → w.fault ≡ None → (w.attempts == w.limit) ≡ true
-    → after (attempt a) w ≡ record w { fault = Some Limit }
-unfolding after
-limited a w sound full = rw (sound, full) refl
 
 -- one that ended well is its packets, after the events that were due
 pub made_step : (a : Attempt) (w : World) → Made w (after (attempt a) w)

@@ -1,6 +1,6 @@
 -- Only the host's data can be refused memory on their way: no sink grows at a token or at an ACK.
-use Rattle.std.proofs.Common.{arith, ◌≡◌, ℕ, Bool, true, false, not, Option, None, Some, Result}
-use Rattle.std.proofs.Common.{OnErr, sym, subst, ap, ◌∙◌}
+use Rattle.std.proofs.Common.{arith, ◌≡◌, ℕ, Bool, true, false, Option, None, Some, Result, OnErr}
+use Rattle.std.proofs.Common.{sym, subst, ap, ◌∙◌}
 use Rattle.usb_packet.specs.{Packet}
 use Rattle.usb_device.specs.{Content, Sent, State, sink_grows, Ports, all_forgotten, Stopped}
 use Rattle.usb_device.specs.{behind_empty, behind, below, here}
@@ -51,7 +51,7 @@ still_marked s a d n o h = grind arith
 -- a token, and the host's ACK
 still_token : (s : State) (a : Attempt) → sink_grows s (token_of a) ≡ false
 unfolding token_of
-still_token s a = and_false (not s.spec.silent)
+still_token s a = and_false _
 
 still_reply : (s : State) (h : ExchangeAnswer) (m : Mark) (max : ℕ)
     → grows_some s (reply_of h m max) ≡ false
@@ -64,7 +64,7 @@ unfolding marked
 token_not_stopped a d x k m is h =
     let P : Outgoing → Type 0 = λ y. IsStopped (goes_out a (Some y)) k m in
     not_stopped_out (token_out a d) k m
-    (λ s. still_sent s a.low a.pre (marked d 1 a.pre (token_of a)).mark (token_of a)
+    (λ s. still_sent s a.low a.pre _ (token_of a)
     (still_token s a)) (subst P is h)
 
 pub reply_not_stopped : (a : Attempt) (d : Option Damage) (n : ℕ) (h : ExchangeAnswer) (mk : Mark)
@@ -72,8 +72,8 @@ pub reply_not_stopped : (a : Attempt) (d : Option Damage) (n : ℕ) (h : Exchang
     → IsStopped (goes_out a x) k m → ⊥
 reply_not_stopped a d n h mk max x k m is stopped =
     let P : Option Outgoing → Type 0 = λ y. IsStopped (goes_out a y) k m in
-    not_stopped_out (goes_out a (marked_some d n a.pre (reply_of h mk max))) k m
-    (λ s. still_marked s a d n (reply_of h mk max) (still_reply s h mk max))
+    not_stopped_out _ k m
+    (λ s. still_marked s a d n _ (still_reply s h mk max))
     (subst P is stopped)
 
 -- where it was refused, nothing is remembered of it after the attempt

@@ -1,7 +1,7 @@
 -- An attempt at an address that nobody holds.
-use Rattle.std.proofs.Common.{◌≡◌, ℕ, ◌==◌, Bool, true, false, List, [], ◌∷◌, ◌++◌, Option}
+use Rattle.std.proofs.Common.{inl, inr, ◌≡◌, ℕ, ◌==◌, Bool, false, List, [], ◌∷◌, ◌++◌, Option}
 use Rattle.std.proofs.Common.{None, Some, option_map, refl, ap, ap₂, sym, subst, ◌∙◌, arith}
-use Rattle.std.proofs.lemmas.Bool.Decides.{nat_tests}
+use Rattle.usb_tree.proofs.Interface.{decided, equal_same, swapped, occurs, one_if, occurs-reached}
 use Rattle.arrayvec.specs.ArrayVec.{ArrayVec}
 use Rattle.usb_device.specs.{Sent, Ports, held_addresses, all_reached, paths_at, holder_among}
 use Rattle.usb_device.specs.{holder_of}
@@ -10,13 +10,11 @@ use Rattle.usb_device.proofs.Interface.{way_addresses, held-reached}
 use Rattle.usb_world.specs.{Attempt, Damage, Exchange, Mark, Whole, harm_to, marked_some, token_out}
 use Rattle.usb_world.specs.{payload_out, reply_out, heard_all, heard_in, mark_in, reply_in, lost_in}
 use Rattle.usb_world.specs.{cleared_in, answered_in, goes_out, is_lost, answer_mark, reply_of}
-use Rattle.usb_world.specs.{place_of_answer, exchange_in, ports_in, Exchanged, StaysPlugged}
-use Rattle.usb_world.specs.{silent_exchange}
+use Rattle.usb_world.specs.{place_of_answer, exchange_in, ports_in, Exchanged, silent_exchange}
 use Rattle.usb_world.specs.declared.exchange.ExchangeAnswer.TheVariants.{Nothing}
 use Rattle.usb_tree.specs.{after_sent, answers_to, IfOut, IsSettled, IsTokenFor, NobodyHolds}
 use Rattle.usb_tree.specs.{address_of}
 use Rattle.usb_world.proofs.courses.Courses.{goes}
-use Rattle.usb_tree.proofs.Interface.{swapped, occurs, one_if, occurs-reached}
 use Rattle.usb_world.proofs.holders.OneDevice.{nobody_answers, sent_to_nobody, settled_memory}
 use Rattle.usb_world.proofs.holders.OneDevice.{token_calls}
 use Rattle.usb_world.proofs.ways.Routes.{rest_clears}
@@ -33,23 +31,19 @@ none_occurs n [] e = refl
 none_occurs n (x ∷ xs) e = grind (arith, none_occurs n xs, occurs, one_if, swapped, way_addresses)
 
 pub nobody_there : (n : ℕ) (k : Ports) → holder_of n k ≡ Nobody → NobodyHolds n k
-nobody_there n k h i e t at on = split (n == address_of t) refl
+nobody_there n k h i e t at on = elim (decided (n == address_of t)) [
+  | inl is ↦ absurd (omega (
+    arith,
+    none,
+    occurs-reached k i e n on (ap (option_map address_of) at
+        ∙ ap (λ x. Some x) (sym (equal_same n (address_of t) is))),
+  ))
+  | inr is ↦ is
+]
   where
     none : occurs n (held_addresses k) ≡ 0
     none = ap (occurs n) (sym (held-reached _ 1 k))
-        ∙ none_occurs n (all_reached k) (holder_among-nobody (paths_at n (all_reached k)) h)
-
-    is_number : (m : ℕ) → (n == m) ≡ true → m ≡ n
-    is_number m h = grind (arith, nat_tests, h)
-
-    split : (b : Bool) → (n == address_of t) ≡ b → b ≡ false
-    split true is = absurd (omega (
-      arith,
-      none,
-      occurs-reached k i e n on (ap (option_map address_of) at
-          ∙ ap (λ x. Some x) (is_number (address_of t) is)),
-    ))
-    split false is = refl
+        ∙ none_occurs n (all_reached k) (holder_among-nobody _ h)
 
 -- ---- the attempt
 
@@ -97,6 +91,3 @@ module _ (a : Attempt) (d : Option Damage) (k : Ports) (settled : IsSettled k)
 
   pub silence_made : (x : Exchange) → x ≡ silent_exchange a d → Exchanged a d k k x
   silence_made x e = record { made = e ∙ sym exchange_is; ports = sym unheard.0 }
-
-pub stays_plugged_refl : (k : Ports) → StaysPlugged k k
-stays_plugged_refl k = record { row = refl; figure = refl }

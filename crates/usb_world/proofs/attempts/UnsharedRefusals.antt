@@ -15,7 +15,7 @@ use Rattle.usb_world.specs.{Damage, Attempt, Mark, Lost, Flipped, marked, token_
 use Rattle.usb_world.specs.{token_out, IsAttempt, IsCut}
 use Rattle.usb_tree.specs.{address_of, IfOut, IsTokenFor, IsDataOut, IsSettled, after_sent}
 use Rattle.usb_tree.specs.{calls_on}
-use Rattle.usb_world.proofs.courses.StepInvariants.{Rests, rests}
+use Rattle.usb_world.proofs.courses.StepInvariants.{Rests, rests, rests_settled}
 use Rattle.usb_tree.proofs.Interface.{one_if, occurs, occurs-most, occurs_append, forgotten-nothing}
 use Rattle.usb_world.proofs.holders.OneDevice.{rested_effect, token_calls, payload_calls}
 use Rattle.usb_world.proofs.packets.AttemptPackets.{rested_answer}
@@ -58,19 +58,15 @@ unfolding after_packet seen
 after_packet-data q c deep ended h = refl
 after_packet-data q c deep (vacant b k) h = ap (vacant b) (after_packet-data q c deep k h)
 after_packet-data q c deep (taken b s a k) h =
-    split b.enable (after_packet-data q c true a (omega (arith, h)))
-    (after_packet-data q c deep k (omega (arith, h)))
-  where
-    forgot : s.memory ≡ Nothing
-    forgot = none_seen s.memory (omega (arith, h))
-
-    split : (x : Bool) → after_packet q true a ≡ a → after_packet q deep k ≡ k
-        → (if x then taken b (answer_of q deep s a).1
-        (acted (effect_of q deep s) (after_packet q true a)) (after_packet q deep k)
-        else taken b s a (after_packet q deep k)) ≡ taken b s a k
-    split true lower rest = same_taken q deep b s a forgot (payload_calls q.content s c) lower k
-        (after_packet q deep k) rest
-    split false lower rest = ap (taken b s a) rest
+    grind (
+      arith,
+      after_packet-data q c deep k,
+      after_packet-data q c true a,
+      none_seen s.memory,
+      payload_calls q.content s c,
+      rested_answer,
+      rested_effect,
+    )
 
 -- Who stops a packet remembers something
 
@@ -150,13 +146,6 @@ sent_seen n o c k h = grind (arith, rest_seen, token_seen)
 
 -- An OUT token leaves nothing but what is remembered of it
 
-all_forgotten-rests : (k : Ports) → Rests k → all_forgotten k ≡ k
-unfolding all_forgotten Rests
-all_forgotten-rests ended h = refl
-all_forgotten-rests (vacant b k) h = ap (vacant b) (all_forgotten-rests k h)
-all_forgotten-rests (taken b s a k) h =
-    rw (forgotten-nothing s h.0, all_forgotten-rests a h.1, all_forgotten-rests k h.2) refl
-
 -- a device that remembered nothing is as it was when it forgets
 abbrev IsForgotten : Content → Type 0
 IsForgotten c = (s : State) (row : List PortState) → s.memory ≡ Nothing
@@ -191,7 +180,7 @@ packet_forgets q c deep (taken b s a k) h =
       arith,
       packet_forgets q c true a h.1,
       packet_forgets q c deep k h.2,
-      all_forgotten-rests,
+      rests_settled,
       answer_forgets,
       forgotten-nothing,
       forgotten_acted,

@@ -1,9 +1,9 @@
 -- How the counts of several steps join.
 use Rattle.std.proofs.Common.{◌≡◌, ◌∙◌, refl, sym, ap, subst, arith, suc, zero, length-set, ℕ, ◌+◌}
 use Rattle.std.proofs.Common.{◌-◌, ◌<◌, ◌≤◌, List, [], ◌∷◌, length, Bool, true, slice_set}
-use Rattle.std.proofs.Common.{slice_index_or, is_some, ◌&&◌, Option, Some, None}
-use Rattle.usb_port.specs.{PortState, is_attached, off, PortCall, called_port, port_by, is_reset}
-use Rattle.usb_port.specs.{set_call, clear_call, IsSetFeature, IsClearFeature}
+use Rattle.std.proofs.Common.{slice_index_or, is_some, Option, Some, None}
+use Rattle.usb_port.specs.{PortState, off, PortCall, called_port, port_by, set_call, clear_call}
+use Rattle.usb_port.specs.{IsSetFeature, IsClearFeature}
 use Rattle.usb_request.specs.{PORT_RESET, C_PORT_CONNECTION}
 use Rattle.usb_device.specs.{State, Ports, ended, vacant, taken, new_ports, first_ports, all_off}
 use Rattle.usb_device.specs.{acted, empty, full, before, reset_where, called, changed, changed_at}
@@ -42,8 +42,7 @@ pub row_called : (c : PortCall) (k : Ports) (i : ℕ) → row_of (changed_at (ca
     ≡ slice_set (row_of k) i (called_port c (slice_index_or (row_of k) i off))
 unfolding row_of changed_at
 row_called c (vacant b k) (suc i) = ap (λ r. b ∷ r) (row_called c k i)
-row_called c (taken b s a k) zero = row_reset (is_reset c && (b.power && is_attached b.attached))
-    (called_port c b) s a k
+row_called c (taken b s a k) zero = row_reset _ (called_port c b) s a k
 row_called c (taken b s a k) (suc i) = ap (λ r. b ∷ r) (row_called c k i)
 row_called c k i = refl
 
@@ -141,12 +140,9 @@ changes_at : (f : Place → Place) (k : Ports) (i : ℕ) (p : List ℕ)
     → changes (row_of (changed_at f k i p)) ≤ changes (row_of k) + 1
 unfolding row_of changed_at changes
 changes_at f ended i p = omega arith
-changes_at f (vacant b k) zero [] = head_changes (f (empty b)) b k
-changes_at f (vacant b k) zero (n ∷ p) = omega arith
+changes_at f (vacant b k) zero p = grind (arith, head_changes)
 changes_at f (vacant b k) (suc i) p = omega (arith, changes_at f k i p)
-changes_at f (taken b s a k) zero [] = head_changes (f (full b s a)) b k
-changes_at f (taken b s a k) zero (zero ∷ p) = omega arith
-changes_at f (taken b s a k) zero (suc j ∷ p) = omega arith
+changes_at f (taken b s a k) zero p = grind (arith, head_changes)
 changes_at f (taken b s a k) (suc i) p = omega (arith, changes_at f k i p)
 
 changes_path : (f : Place → Place) (k : Ports) (p : List ℕ) → changes (row_of (changed f k p))
@@ -222,7 +218,7 @@ change_of-clear feature p = grind arith
 pub resets_spend : (port : ℕ) (old new : World) → IsRootPort old port
     → SetsRoot port PORT_RESET old new → AttemptsWithin 0 old new
 resets_spend port old new is s = writes_spend port _ old new is
-    (change_of-reset (root_port_at old port)) (root_called port (set_call PORT_RESET) old new is
+    (change_of-reset _) (root_called port _ old new is
     refl s.step)
 
 -- clearing a feature of a root port
@@ -230,8 +226,8 @@ pub clears_spend : (port feature : ℕ) (old new : World) → IsRootPort old por
     → IsClearFeature feature → ClearsRoot port feature old new → AttemptsWithin 0 old new
 unfolding Leaves
 clears_spend port feature old new is named c =
-    writes_spend port _ old new is (change_of-clear feature (root_port_at old port))
-    (root_called port (clear_call feature) old new is named c.step)
+    writes_spend port _ old new is (change_of-clear feature _)
+    (root_called port _ old new is named c.step)
 
 one_change : (p : PortState) → p.connection_changed ≡ true
     → change_of p ≡ change_of (port_by (clear_call C_PORT_CONNECTION) p) + 1
@@ -245,7 +241,7 @@ pub clears_change : (port : ℕ) (old new : World) → IsRootPort old port
 unfolding root_port_at
 clears_change port old new is set c =
     let p = port_by (clear_call C_PORT_CONNECTION) (root_port_at old port) in
-    let called = root_called port (clear_call C_PORT_CONNECTION) old new is refl c.step in
+    let called = root_called port _ old new is refl c.step in
     let one = one_change (root_port_at old port) set in
     let all = changes-set (root_row old) (port - 1) p (omega (arith, is.0, is.1)) in
     ap (λ r. changes r + to_come new + 1) called.row

@@ -1,17 +1,17 @@
 -- What a step of the world does to reachable, live and pending, and what whole courses do.
-use Rattle.std.proofs.Common.{arith, ◌≡◌, ℕ, zero, suc, ◌+◌, ◌&&◌, ◌⊎◌, inl, true, false, List, []}
-use Rattle.std.proofs.Common.{◌∷◌, ◌++◌, Option, None, Some, refl, ap, sym, subst, ◌∙◌}
-use Rattle.std.proofs.Common.{append_assoc, Bool}
+use Rattle.std.proofs.Common.{arith, ◌≡◌, ℕ, zero, suc, ◌&&◌, ◌⊎◌, inl, true, false, List, [], ◌∷◌}
+use Rattle.std.proofs.Common.{◌++◌, Option, None, Some, refl, ap, sym, subst, ◌∙◌, append_assoc}
+use Rattle.std.proofs.Common.{Bool}
 use Rattle.usb_port.specs.{PortCall}
 use Rattle.usb_device.specs.{Whole, Spec, Ports, called, changed, reach, place}
 use Rattle.usb_packet.specs.{Packet}
 use Rattle.usb_world.specs.{Damage, Event, Action, ExchangeAnswer, Attempt, Mark, marked}
 use Rattle.usb_world.specs.{marked_some, token_of, payload_of, reply_of, goes_out, token_out}
-use Rattle.usb_world.specs.{payload_out, reply_out, heard_in, mark_in, place_of_answer, ports_in}
-use Rattle.usb_world.specs.{World, after_change, names_path, after_event, at_attempt, damage_in}
-use Rattle.usb_world.specs.{with_attempt, Step, attempt, root_call, after, Course, here}
-use Rattle.usb_world.specs.{step, NoneNames, Undisturbed, made_resets, made_keeps_pending}
-use Rattle.usb_world.specs.{root_resets, root_keeps_pending, resets, step_keeps_pending, Reached}
+use Rattle.usb_world.specs.{payload_out, reply_out, heard_in, mark_in, ports_in, World}
+use Rattle.usb_world.specs.{after_change, names_path, after_event, at_attempt, damage_in}
+use Rattle.usb_world.specs.{with_attempt, Step, attempt, root_call, after, Course, here, step}
+use Rattle.usb_world.specs.{NoneNames, Undisturbed, made_resets, made_keeps_pending, root_resets}
+use Rattle.usb_world.specs.{root_keeps_pending, resets, step_keeps_pending, Reached}
 use Rattle.usb_world.specs.{UndisturbedOrPends, NoReset, KeepsPendingAt}
 use Rattle.usb_tree.specs.{has_power, pending, IsNew, IfOut, IsTokenFor, IsDataOut, IsAckOut}
 use Rattle.usb_tree.specs.{IsAttemptAt}
@@ -93,7 +93,7 @@ unfolding marked_some marked IsSomeAck
 reply_goes a d n h m max = grind (arith, reply_acks, sent_out)
 
 ack_goes : (a : Attempt) (d : Option Damage) (k : Ports) → IfOut IsAckOut (reply_out a d k)
-ack_goes a d k = reply_goes a d (place_of_answer a d + 1) (heard_in a d k) (mark_in a d k) a.max
+ack_goes a d k = reply_goes a d _ (heard_in a d k) (mark_in a d k) a.max
 
 pub goes : (a : Attempt) (d : Option Damage) (k : Ports)
     → IsAttemptAt a.addr (token_out a d) (payload_out a d) (reply_out a d k)
@@ -121,16 +121,14 @@ pub made_pend : (a : Attempt) (w : World) (p : List ℕ) → made_keeps_pending 
     → pending w.roots p ≡ true → pending (with_attempt a w).roots p ≡ true
 unfolding with_attempt ports_in
 made_pend a w (suc j ∷ p) f h =
-    (attempt_kept a.addr (token_out a (damage_in w)) (payload_out a (damage_in w))
-    (reply_out a (damage_in w) w.roots) (goes a (damage_in w) w.roots) w.roots j p f).1 h
+    (attempt_kept a.addr _ _ _ (goes a (damage_in w) w.roots) w.roots j p f).1 h
 made_pend a w p f h = false_true h
 
 pub made_live : (a : Attempt) (w : World) (p : List ℕ) → made_keeps_pending a w p ≡ true
     → has_power w.roots p ≡ true → has_power (with_attempt a w).roots p ≡ true
 unfolding with_attempt ports_in
 made_live a w (suc j ∷ p) f h =
-    (attempt_kept a.addr (token_out a (damage_in w)) (payload_out a (damage_in w))
-    (reply_out a (damage_in w) w.roots) (goes a (damage_in w) w.roots) w.roots j p f).0 h
+    (attempt_kept a.addr _ _ _ (goes a (damage_in w) w.roots) w.roots j p f).0 h
 made_live a w p f h = false_true h
 
 -- A root call

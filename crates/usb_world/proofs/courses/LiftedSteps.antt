@@ -1,13 +1,13 @@
 -- What holds over each part of a step holds over steps and courses.
 use Rattle.std.proofs.Common.{arith, ◌≡◌, ◌⊎◌, inl, inr, ℕ, ◌&&◌, if◌then◌else◌, Bool, true, false}
-use Rattle.std.proofs.Common.{List, [], ◌∷◌, Option, None, Some, is_some, slice_get, refl}
+use Rattle.std.proofs.Common.{List, [], ◌∷◌, Option, None, Some, is_some, refl}
 use Rattle.usb_port.specs.{PortCall, is_clearing}
 use Rattle.usb_device.specs.{Spec, Ports, called, replaced, changed}
 use Rattle.usb_world.specs.{Action, Plug, Unplug, Event, Attempt, BusFault, Limit, is_made}
 use Rattle.usb_world.specs.{after_clearing, with_plugged, after_change, way_of, names_path, is_due}
 use Rattle.usb_world.specs.{after_event, after_first_event, after_due_events, at_attempt}
-use Rattle.usb_world.specs.{with_attempt, event_taken, Step, attempt, root_call, after}
-use Rattle.usb_world.specs.{Course, here, step, Coming, nothing_yet, next_came, World}
+use Rattle.usb_world.specs.{with_attempt, event_taken, Step, attempt, root_call, after, Course}
+use Rattle.usb_world.specs.{here, step, Coming, nothing_yet, next_came, World}
 use Rattle.usb_world.specs.declared.event.Action.TheVariants.{Change, Ask}
 
 abbrev pub with_limit_told : World → World
@@ -53,7 +53,7 @@ pub happened_by : (P : Ports → Bool → Type 0) (a : Action) (devices : List S
     (p : List ℕ)
     → P k false → ((o : Option Spec) (x : List ℕ) → P (changed (replaced o) k x) (way_of x p))
     → P (after_change a devices k) (names_path devices a p)
-happened_by P (Change (Plug x device)) devices k p same there = plugged (slice_get devices device)
+happened_by P (Change (Plug x device)) devices k p same there = plugged _
   where
     plugged : (o : Option Spec) → P (with_plugged o x k) (is_some o && way_of x p)
     plugged None = same
@@ -73,15 +73,11 @@ module _ {R : World → World → Type 0} (l : OverEvents R) where
       → R w (after_due_events events w)
   unfolding after_due_events after_event
   over_due [] w e = l.same w
-  over_due (x ∷ events) w e =
-      split (is_due x w)
-      (l.joined w (after_event x events w) _ (l.came x events w e)
-      (over_due events (after_event x events w) refl))
-    where
-      split : (b : Bool) → R w (after_due_events events (after_event x events w))
-          → R w (if b then after_due_events events (after_event x events w) else w)
-      split true h = h
-      split false h = l.same w
+  over_due (x ∷ events) w e = elim (is_due x w)
+      as (λ b. R w (if b then after_due_events events (after_event x events w) else w)) [
+        | true ↦ l.joined w _ _ (l.came x events w e) (over_due events _ refl)
+        | false ↦ l.same w
+      ]
 
   pub over_ready : (w : World) → R w (at_attempt w)
   unfolding at_attempt

@@ -1,10 +1,11 @@
 -- What is so between two steps stays so.
 use Rattle.std.proofs.Common.{◌≡◌, ℕ, zero, suc, List, [], ◌∷◌, ◌≤◌, refl, ap, sym, arith, Option}
-use Rattle.std.proofs.Common.{None, slice_get, All}
+use Rattle.std.proofs.Common.{None, Some, slice_get, All}
 use Rattle.usb_port.specs.{PortCall}
-use Rattle.usb_device.specs.{Spec, Hub, IsSpec, RememberedPacket, fresh, reset_state, Ports, ended}
-use Rattle.usb_device.specs.{vacant, taken, empty, full, before, new_ports, first_ports, all_off}
-use Rattle.usb_device.specs.{changed, changed_at, called, replaced, all_forgotten, Place}
+use Rattle.usb_device.specs.{State, state_at, Spec, Hub, IsSpec, RememberedPacket, fresh}
+use Rattle.usb_device.specs.{reset_state, Ports, ended, vacant, taken, empty, full, before}
+use Rattle.usb_device.specs.{new_ports, first_ports, all_off, changed, changed_at, called, replaced}
+use Rattle.usb_device.specs.{all_forgotten, Place}
 use Rattle.usb_device.specs.declared.transfer.RememberedPacket.TheVariants.{Nothing}
 use Rattle.usb_world.specs.{Damage, Action, Plug, Unplug, Attempt, ports_in, token_out, payload_out}
 use Rattle.usb_world.specs.{reply_out, Consistent, PlanData, World, after_change, with_plugged}
@@ -56,7 +57,7 @@ rests (taken b s a k) h = (
   rests k (ap ports_after_first h),
 )
 
-rests_settled : (k : Ports) → Rests k → IsSettled k
+pub rests_settled : (k : Ports) → Rests k → IsSettled k
 unfolding all_forgotten Rests
 rests_settled ended h = refl
 rests_settled (vacant b k) h = ap (vacant b) (rests_settled k h)
@@ -65,6 +66,22 @@ rests_settled (taken b s a k) h = rw (
   rests_settled a h.1,
   rests_settled k h.2,
 ) refl
+
+pub each_rests : (k : Ports) → ((i : ℕ) (e : List ℕ) (t : State) → state_at k i e ≡ Some t
+    → t.memory ≡ Nothing) → Rests k
+unfolding Rests state_at
+each_rests ended c = tt
+each_rests (vacant b k) c = each_rests k (λ i e. c (suc i) e)
+each_rests (taken b s a k) c = (
+  c zero [] s refl,
+  each_rests a (λ i e. c zero (suc i ∷ e)),
+  each_rests k (λ i e. c (suc i) e),
+)
+
+-- the same, where no device at any path remembers anything
+pub each_settled : (k : Ports) → ((i : ℕ) (e : List ℕ) (t : State) → state_at k i e ≡ Some t
+    → t.memory ≡ Nothing) → IsSettled k
+each_settled k c = rests_settled k (each_rests k c)
 
 rests_off : (k : Ports) → Rests k → Rests (all_off k)
 unfolding Rests all_off

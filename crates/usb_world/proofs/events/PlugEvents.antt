@@ -1,12 +1,12 @@
 -- What a plug or an unplug does to reachable, live and pending.
 use Rattle.std.proofs.Common.{arith, ◌≡◌, ◌∙◌, ℕ, zero, suc, ◌&&◌, ◌⊎◌, inl, inr, Bool, true, false}
-use Rattle.std.proofs.Common.{List, [], ◌∷◌, slice_get, is_some, Option, None, Some, refl, ap, sym}
-use Rattle.usb_device.specs.{Spec, Ports, ended, vacant, taken, empty, full, before, port_of}
-use Rattle.usb_device.specs.{replaced, changed, changed_at, reach, reach_at, Place}
+use Rattle.std.proofs.Common.{List, [], ◌∷◌, slice_get, is_some, Option, None, Some, refl, sym}
+use Rattle.usb_device.specs.{Spec, Ports, ended, vacant, taken, before, port_of, replaced, changed}
+use Rattle.usb_device.specs.{changed_at, reach, reach_at, Place}
 use Rattle.usb_world.specs.{Action, Plug, Unplug, with_plugged, after_change, way_of, names_path}
 use Rattle.usb_world.specs.declared.event.Action.TheVariants.{Change, Ask}
 use Rattle.usb_tree.specs.{has_power, has_power_at, pending, pending_at, is_way, on_way}
-use Rattle.usb_tree.proofs.Interface.{decided, and_kept, and_false, or-rises, or_right, false_true}
+use Rattle.usb_tree.proofs.Interface.{decided, false_true}
 use Rattle.usb_world.proofs.ways.WayChanges.{changed_apart, SameThere, changed_there}
 
 -- A path to which the changed place is on the way
@@ -40,17 +40,11 @@ struck : (o : Option Spec) (k : Ports) (i : ℕ) (e : List ℕ) (j : ℕ) (p : L
     → on_way i e j p ≡ true → Struck k (changed_at (replaced o) k i e) j p
 unfolding changed_at reach_at has_power_at pending_at is_way
 struck o ended i e j p w = (refl, λ h. h, λ h. h)
-struck o (vacant b k) zero [] zero p w = struck_place o (empty b) k p
-struck o (vacant b k) zero (n ∷ e) zero (m ∷ p) w = (refl, λ h. false_true h, λ h. h)
+struck o (vacant b k) zero e zero p w = grind (arith, struck_place)
 struck o (vacant b k) (suc i) e (suc j) p w = struck o k i e j p w
-struck o (taken b s a k) zero [] zero p w = struck_place o (full b s a) k p
-struck o (taken b s a k) zero (zero ∷ e) zero (zero ∷ p) w = (refl, λ h. false_true h, λ h. h)
 struck o (taken b s a k) zero (suc i ∷ e) zero (suc j ∷ p) w =
-    let x : _ = struck o a i e j p w in (
-      ap (λ c. b.enable && c) x.0 ∙ and_false b.enable,
-      and_kept b.power _ _ (λ h. or_right b.connection_changed _ (x.1 h)),
-      and_kept b.power _ _ (or-rises b.connection_changed _ _ x.2),
-    )
+    grind (arith, struck o a i e j p w)
+struck o (taken b s a k) zero e zero p w = grind (arith, struck_place)
 struck o (taken b s a k) (suc i) e (suc j) p w = struck o k i e j p w
 struck o k i e j p w = false_true w
 
@@ -97,7 +91,7 @@ happened_way (Ask ask) d k p = no_event k p
 with_plugged-elsewhere : (o : Option Spec) (k : Ports) (x p : List ℕ)
     → (is_some o && way_of x p) ≡ false → SameThere k (with_plugged o x k) p
 with_plugged-elsewhere None k x p h = (refl, refl, refl)
-with_plugged-elsewhere (Some s) k x p h = changed_there (replaced (Some s)) k x p h
+with_plugged-elsewhere (Some s) k x p h = changed_there _ k x p h
 
 pub happened_there : (a : Action) (d : List Spec) (k : Ports) (p : List ℕ)
     → names_path d a p ≡ false → SameThere k (after_change a d k) p

@@ -129,7 +129,7 @@ standing_plug : (ds : List Spec) (n : ℕ) (k : Ports) (tree : PluggedMap) (e : 
     (plugged_after (Change (Plug e d)) tree)
 standing_plug ds n k tree e d h is s =
     let parts = both (has_port n ds tree e && not (is_taken tree e)) (nat_lt d (length ds)) h in
-    let place = both (has_port n ds tree e) (not (is_taken tree e)) parts.0 in
+    let place = both (has_port n ds tree e) _ parts.0 in
     split (slice_get ds d) refl (ltb-true d (length ds) parts.1)
     (has_port-there ds (shape k) n tree e s.fits s.agrees is place.0)
     (index_at-free tree e place.1)
@@ -175,10 +175,8 @@ left_next plan past e events w s h =
     let tree = plugged_by [] past in
     let rest : events_fit plan.roots plan.devices tree (e ∷ events) ≡ true =
     ap (events_fit plan.roots plan.devices tree) (sym s) ∙ h.rest in
-    let parts = both (event_fits plan.roots plan.devices tree e)
-    (events_fit plan.roots plan.devices (plugged_after e.action tree) events) rest in
-    let fits = both (nat_le e.after after_most) (action_fits plan.roots plan.devices tree e.action)
-    parts.0 in
+    let parts = both (event_fits plan.roots plan.devices tree e) _ rest in
+    let fits = both (nat_le e.after after_most) _ parts.0 in
     let paths : AtPorts (e ∷ events) = subst AtPorts s h.paths in
     let stands = standing_next e.action plan.devices plan.roots w.roots tree fits.1
     (All-head (λ x. PlugsAtPort x.action) e events paths) h.stands in

@@ -1,7 +1,7 @@
 -- Which devices stand at ports: calls, packets and resets leave them, and an event puts one there
 -- or takes it away.
-use Rattle.std.proofs.Common.{arith, ◌≡◌, ℕ, zero, suc, Bool, true, List, [], ◌∷◌, Option}
-use Rattle.std.proofs.Common.{option_map, refl, ap, ap₂, ◌∙◌}
+use Rattle.std.proofs.Common.{◌∙◌, arith, ◌≡◌, ℕ, zero, suc, Bool, true, List, [], ◌∷◌, Option}
+use Rattle.std.proofs.Common.{option_map, refl, ap, ap₂}
 use Rattle.usb_port.specs.{PortCall}
 use Rattle.usb_device.specs.{Effect, Leaves, Calls, PortsOff, Sent, Spec, Hub, fresh, reset_state}
 use Rattle.usb_device.specs.{Ports, ended, vacant, taken, empty, full, before, all_off, new_ports}
@@ -55,13 +55,12 @@ over_called c q x = grind (arith, shape_off, stands)
 shape_called : (c : PortCall) (k : Ports) (i : ℕ) (p : List ℕ) → shape (changed_at (called c) k i p)
     ≡ shape k
 unfolding shape changed_at
-shape_called c (vacant b k) zero [] = over_before (called c (empty b)) k
-    ∙ over_called c (empty b) (shape k)
+shape_called c (vacant b k) zero p = grind (arith, over_before, over_called)
 shape_called c (vacant b k) (suc i) p = ap gap (shape_called c k i p)
-shape_called c (taken b s a k) zero [] = over_before (called c (full b s a)) k
-    ∙ over_called c (full b s a) (shape k)
 shape_called c (taken b s a k) zero (suc j ∷ p) =
     ap (λ z. stands s.spec z (shape k)) (shape_called c a j p)
+shape_called c (taken b s a k) zero [] = over_before _ k ∙ over_called c (full b s a) (shape k)
+shape_called c (taken b s a k) zero (zero ∷ p) = refl
 shape_called c (taken b s a k) (suc i) p = ap (stands s.spec (shape a)) (shape_called c k i p)
 shape_called c k i p = refl
 
@@ -115,13 +114,11 @@ over_replaced o q x = grind (arith, shape_first, stands)
 shape_replaced : (o : Option Spec) (k : Ports) (i : ℕ) (p : List ℕ)
     → shape (changed_at (replaced o) k i p) ≡ put_at o (shape k) i p
 unfolding shape changed_at put_at
-shape_replaced o (vacant b k) zero [] = over_before (replaced o (empty b)) k
-    ∙ over_replaced o (empty b) (shape k)
+shape_replaced o (vacant b k) zero p = grind (arith, over_before, over_replaced)
 shape_replaced o (vacant b k) (suc i) p = ap gap (shape_replaced o k i p)
-shape_replaced o (taken b s a k) zero [] = over_before (replaced o (full b s a)) k
-    ∙ over_replaced o (full b s a) (shape k)
 shape_replaced o (taken b s a k) zero (suc j ∷ p) =
     ap (λ z. stands s.spec z (shape k)) (shape_replaced o a j p)
+shape_replaced o (taken b s a k) zero p = grind (arith, over_before, over_replaced)
 shape_replaced o (taken b s a k) (suc i) p = ap (stands s.spec (shape a)) (shape_replaced o k i p)
 shape_replaced o k i p = refl
 

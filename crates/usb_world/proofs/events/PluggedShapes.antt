@@ -1,11 +1,12 @@
 -- Which devices stand where, as a tree, and what an event makes of it.
-use Rattle.std.proofs.Common.{◌≡◌, ℕ, zero, suc, ◌&&◌, Bool, true, false, List, [], ◌∷◌, ◌++◌}
-use Rattle.std.proofs.Common.{Option, None, Some, ◌<◌, refl, sym, arith}
+use Rattle.usb_tree.proofs.Interface.{self_number, self_path, false_true}
+use Rattle.usb_world.proofs.ways.Ways.{way_itself}
+use Rattle.std.proofs.Common.{if◌then◌else◌, ◌≡◌, ℕ, zero, suc, ◌&&◌, Bool, true, false, List, []}
+use Rattle.std.proofs.Common.{◌∷◌, ◌++◌, Option, None, Some, ◌<◌, refl, arith}
 use Rattle.std.specs.Prelude.{⊤}
 use Rattle.usb_device.specs.{Spec}
 use Rattle.usb_tree.specs.{same_number, same_path, is_way, on_way}
 use Rattle.usb_world.specs.{hub_ports}
-use Rattle.usb_tree.proofs.Interface.{false_true}
 
 -- a row of ports: no port more, an empty port, or a port with a device and that device's ports
 pub data Shape : Type 0 where
@@ -81,8 +82,7 @@ below_none : (x : Shape) (i : ℕ) (e : List ℕ) (j : ℕ) (p : List ℕ) → o
     → spec_at x i e ≡ None → spec_at x j p ≡ None
 unfolding spec_at is_way
 below_none bare i e j p w h = refl
-below_none (gap x) zero e zero p w h = refl
-below_none (gap x) (suc i) e zero p w h = refl
+below_none (gap x) i e zero p w h = refl
 below_none (gap x) (suc i) e (suc j) p w h = below_none x i e j p w h
 below_none (stands t a x) zero [] zero p w h = cc
 below_none (stands t a x) zero (n ∷ e) zero (zero ∷ p) w h = refl
@@ -90,62 +90,19 @@ below_none (stands t a x) zero (suc i ∷ e) zero (suc j ∷ p) w h = below_none
 below_none (stands t a x) (suc i) e (suc j) p w h = below_none x i e j p w h
 below_none x i e j p w h = false_true w
 
-put_here : (t : Spec) (x : Shape) (i : ℕ) (e : List ℕ) → has_at x i e ≡ true
-    → spec_at (put_at (Some t) x i e) i e ≡ Some t
-unfolding spec_at put_at has_at
-put_here t (gap x) zero [] h = refl
-put_here t (gap x) (suc i) e h = put_here t x i e h
-put_here t (stands s a x) zero [] h = refl
-put_here t (stands s a x) zero (suc i ∷ e) h = put_here t a i e h
-put_here t (stands s a x) (suc i) e h = put_here t x i e h
-put_here t x i e h = false_true h
-
--- nothing stands below what was just plugged
-put_below : (t : Spec) (x : Shape) (i : ℕ) (e : List ℕ) (j : ℕ) (p : List ℕ) → on_way i e j p ≡ true
-    → (same_number i j && same_path e p) ≡ false → spec_at (put_at (Some t) x i e) j p ≡ None
-unfolding spec_at put_at is_way
-put_below t bare i e j p w h = refl
-put_below t (gap x) zero [] zero [] w h = false_true (sym h)
-put_below t (gap x) zero [] zero (zero ∷ p) w h = refl
-put_below t (gap x) zero [] zero (suc n ∷ p) w h = empty_gaps (hub_ports t.hub) n p
-put_below t (gap x) zero (m ∷ e) zero p w h = refl
-put_below t (gap x) (suc i) e (suc j) p w h = put_below t x i e j p w h
-put_below t (stands s a x) zero [] zero [] w h = false_true (sym h)
-put_below t (stands s a x) zero [] zero (zero ∷ p) w h = refl
-put_below t (stands s a x) zero [] zero (suc n ∷ p) w h = empty_gaps (hub_ports t.hub) n p
-put_below t (stands s a x) zero (zero ∷ e) zero (zero ∷ p) w h = refl
-put_below t (stands s a x) zero (suc i ∷ e) zero (zero ∷ p) w h = refl
-put_below t (stands s a x) zero (suc i ∷ e) zero (suc j ∷ p) w h = put_below t a i e j p w h
-put_below t (stands s a x) (suc i) e (suc j) p w h = put_below t x i e j p w h
-put_below t x i e j p w h = false_true w
-
--- nothing stands where something was unplugged, nor below it
-off_below : (x : Shape) (i : ℕ) (e : List ℕ) (j : ℕ) (p : List ℕ) → on_way i e j p ≡ true
-    → spec_at (put_at None x i e) j p ≡ None
-unfolding spec_at put_at is_way
-off_below bare i e j p w = refl
-off_below (gap x) zero [] zero p w = refl
-off_below (gap x) zero (m ∷ e) zero p w = refl
-off_below (gap x) (suc i) e (suc j) p w = off_below x i e j p w
-off_below (stands s a x) zero [] zero p w = refl
-off_below (stands s a x) zero (zero ∷ e) zero (zero ∷ p) w = refl
-off_below (stands s a x) zero (suc i ∷ e) zero (zero ∷ p) w = refl
-off_below (stands s a x) zero (suc i ∷ e) zero (suc j ∷ p) w = off_below a i e j p w
-off_below (stands s a x) (suc i) e (suc j) p w = off_below x i e j p w
-off_below x i e j p w = false_true w
-
-put_other : (o : Option Spec) (x : Shape) (i : ℕ) (e : List ℕ) (j : ℕ) (p : List ℕ)
-    → on_way i e j p ≡ false → spec_at (put_at o x i e) j p ≡ spec_at x j p
-unfolding spec_at put_at is_way
-put_other o (gap x) zero [] zero p w = false_true (sym w)
-put_other None (gap x) zero [] (suc j) p w = refl
-put_other o (gap x) (suc i) e (suc j) p w = put_other o x i e j p w
-put_other o (stands s a x) zero [] zero p w = false_true (sym w)
-put_other None (stands s a x) zero [] (suc j) p w = refl
-put_other o (stands s a x) zero (suc i ∷ e) zero (suc j ∷ p) w = put_other o a i e j p w
-put_other o (stands s a x) (suc i) e zero (zero ∷ p) w = refl
-put_other o (stands s a x) (suc i) e (suc j) p w = put_other o x i e j p w
-put_other o x i e j p w = refl
+-- what stands at a path after something was plugged or unplugged at another: nothing, on past that
+put_spec : (o : Option Spec) (x : Shape) (i : ℕ) (e : List ℕ) (j : ℕ) (p : List ℕ)
+    → spec_at (put_at o x i e) j p ≡ (if on_way i e j p then
+    (if (same_number i j && same_path e p) && has_at x i e then o else None) else spec_at x j p)
+unfolding spec_at put_at has_at is_way
+put_spec o bare i e j p = grind arith
+put_spec o (gap x) zero e j p = grind (arith, empty_gaps)
+put_spec o (gap x) (suc i) e zero p = refl
+put_spec o (gap x) (suc i) e (suc j) p = put_spec o x i e j p
+put_spec o (stands s a x) zero (suc i ∷ e) zero (suc j ∷ p) = put_spec o a i e j p
+put_spec o (stands s a x) zero e j p = grind (arith, empty_gaps)
+put_spec o (stands s a x) (suc i) e zero p = grind arith
+put_spec o (stands s a x) (suc i) e (suc j) p = put_spec o x i e j p
 
 -- The same of paths
 
@@ -156,22 +113,22 @@ there_none x e p w f h = grind (arith, below_none)
 
 pub there_here : (t : Spec) (x : Shape) (e : List ℕ) → has_there x e ≡ true
     → spec_there (shape_with (Some t) x e) e ≡ Some t
-there_here t x e h = grind (arith, put_here)
+there_here t x e h = grind (arith, put_spec, self_number, self_path, way_itself)
 
 pub there_below : (t : Spec) (x : Shape) (e p : List ℕ) → has_there x e ≡ true → is_way e p ≡ true
     → same_path e p ≡ false → spec_there (shape_with (Some t) x e) p ≡ None
 unfolding is_way
-there_below t x e p f w h = grind (arith, put_below)
+there_below t x e p f w h = grind (arith, put_spec)
 
 pub there_off : (x : Shape) (e p : List ℕ) → (e ≡ [] → ⊥) → is_way e p ≡ true
     → spec_there (shape_with None x e) p ≡ None
 unfolding is_way
-there_off x e p f w = grind (arith, off_below)
+there_off x e p f w = grind (arith, put_spec)
 
 pub there_other : (o : Option Spec) (x : Shape) (e p : List ℕ) → is_way e p ≡ false
     → spec_there (shape_with o x e) p ≡ spec_there x p
 unfolding is_way
-there_other o x e p w = grind (arith, put_other)
+there_other o x e p w = grind (arith, put_spec)
 
 -- Ports
 
@@ -193,7 +150,7 @@ fits_at o (gap x) (suc n) zero [] h = fits_first o x n h
 fits_at o (gap x) (suc n) (suc i) e h = fits_at o x n i e h
 fits_at o (stands s a x) zero i e h = elim h [ ]
 fits_at o (stands s a x) (suc n) zero [] h = fits_first o x n h.1
-fits_at o (stands s a x) (suc n) zero (suc j ∷ e) h = (fits_at o a (hub_ports s.hub) j e h.0, h.1)
+fits_at o (stands s a x) (suc n) zero (suc j ∷ e) h = (fits_at o a _ j e h.0, h.1)
 fits_at o (stands s a x) (suc n) (suc i) e h = (h.0, fits_at o x n i e h.1)
 fits_at o x n i e h = h
 

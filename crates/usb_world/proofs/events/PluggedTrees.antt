@@ -143,7 +143,7 @@ port_of_parent ds x n tree e p fits a is up h =
     ap (λ o. nat_le (port_on_hub e) (spec_port_count o))
     (told_of ds (spec_there x p) (index_at tree p) (a p)) ∙ h in
     ap (has_there x) whole ∙ has_there-below x n p (port_on_hub e) fits (is_path e p is up) last.0
-    (leb-true (port_on_hub e) (spec_port_count (spec_there x p)) count)
+    (leb-true (port_on_hub e) _ count)
 
 long_parent : (e : List ℕ) → 1 < length e → parent_of e ≡ Some (take (length e - 1) e)
 unfolding parent_of
@@ -160,7 +160,7 @@ has_port-there ds x n tree (suc i ∷ []) fits a is h =
 has_port-there ds x n tree (suc i ∷ m ∷ e) fits a is h =
     let path = suc i ∷ m ∷ e in
     let up : parent_of path ≡ Some (take (length path - 1) path) = long_parent path (omega arith) in
-    port_of_parent ds x n tree path (take (length path - 1) path) fits a is up
+    port_of_parent ds x n tree path _ fits a is up
     (⊎_elim (λ y. absurd (omega (arith, eqb-true (length path) 1 y)))
     (λ y. ap (λ o. parent_has ds tree o (port_on_hub path)) (sym up) ∙ y)
     (either_of (length path == 1) _ (both (is_rooted n path) _ h).1))

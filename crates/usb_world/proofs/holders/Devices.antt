@@ -1,28 +1,27 @@
 -- One device over attempts: what it was before, seen from where it is reachable now.
-use Rattle.std.proofs.Common.{arith, ◌≡◌, ℕ, zero, suc, ◌==◌, ◌&&◌, ◌⊎◌, inl, inr, Bool, true}
-use Rattle.std.proofs.Common.{false, List, [], ◌∷◌, Option, None, Some, is_some, refl, ap, ap₂, sym}
-use Rattle.std.proofs.Common.{subst, ◌∙◌}
+use Rattle.std.proofs.Common.{arith, ◌≡◌, ℕ, ◌==◌, ◌&&◌, ◌⊎◌, inl, inr, Bool, true, false, List}
+use Rattle.std.proofs.Common.{None, Some, is_some, ap, ap₂, sym, subst, ◌∙◌}
 use Rattle.std.proofs.lemmas.Option.{same_Some}
 use Rattle.usb_packet.specs.{Toggle}
-use Rattle.usb_device.specs.{State, Reply, Way, Ports, vacant, taken, reach_at, state_at, state_on}
-use Rattle.usb_device.specs.{Location, path_to, reach_on}
-use Rattle.usb_device.specs.Attempt.{whole}
+use Rattle.usb_device.specs.{State, Reply, Way, state_on, Location, path_to, reach_on}
 use Rattle.usb_world.specs.{Attempt, World, at_attempt, damage_in, attempt, after, made_resets}
-use Rattle.usb_world.specs.{resets, is_setup, token_way, payload_way, answer_way, reply_way}
-use Rattle.usb_world.specs.{IsSetup, IsOut, IsIn, hears_attempt, IsMade, HolderIn, Relation, Was}
-use Rattle.usb_world.specs.{EachWas, Ways, DidIn, DidOut, DidSetup}
+use Rattle.usb_world.specs.{resets, is_setup, token_way, payload_way, answer_way, IsSetup, IsOut}
+use Rattle.usb_world.specs.{IsIn, hears_attempt, IsMade, HolderIn, Relation, Was, EachWas, Ways}
+use Rattle.usb_world.specs.{DidIn, DidOut, DidSetup}
 use Rattle.usb_tree.specs.{address_of, same_number, same_path, reset_if, deep_at, NobodyHolds}
-use Rattle.usb_tree.proofs.Interface.{false_true, both, decided, same_equal, swapped}
+use Rattle.usb_tree.proofs.Interface.{both, decided, same_equal, swapped}
 use Rattle.usb_world.proofs.courses.Courses.{made_reach}
 use Rattle.usb_world.proofs.addresses.AddressesKept.{ready_stood}
 use Rattle.usb_world.proofs.addresses.AddressesInTransfers.{data_calm}
 use Rattle.usb_world.proofs.ports.RootResets.{same_number-is, same_is}
-use Rattle.usb_world.proofs.holders.OneDevice.{other_address, stands, state_stands}
+use Rattle.usb_world.proofs.holders.OneDevice.{other_address, reach-full, full_state}
+use Rattle.usb_world.proofs.packets.PacketEffects.{stands, state_stands}
 use Rattle.usb_world.proofs.holders.OneHolder.{holder_holds}
 use Rattle.usb_world.proofs.holders.OneHolderAttempts.{ready_settled, made_is, made_true, nobody_in}
 use Rattle.usb_world.proofs.holders.OneHolderAttempts.{holder_in, silent_in, others_in, setup_in}
-use Rattle.usb_world.proofs.holders.OneHolderAttempts.{out_in, in_in, setup_sound_in, out_sound_in}
-use Rattle.usb_world.proofs.holders.OneHolderAttempts.{in_sound_in, ExchangedIn}
+use Rattle.usb_world.proofs.holders.OneHolderAttempts.{out_in, ExchangedIn, AllWhole, undamaged}
+use Rattle.usb_world.proofs.holders.OneHolderAttempts.{damage_ready, in_gone_in, reply_gone}
+use Rattle.usb_world.proofs.holders.OneHolderAttempts.{gone_whole}
 use Rattle.usb_world.proofs.holders.HolderOfAttempt.{holder_or_nobody}
 
 -- Over courses
@@ -73,50 +72,13 @@ each_both R S old new x y = each_beside R S (λ j s v. R j s v × S j s v) (Unit
 
 -- A reachable device stands
 
-reach-is_some : (k : Ports) (j : ℕ) (p : List ℕ) → reach_at k j p ≡ true
-    → is_some (state_at k j p) ≡ true
-unfolding reach_at state_at
-reach-is_some (vacant b k) (suc j) p h = reach-is_some k j p h
-reach-is_some (taken b s a k) zero [] h = refl
-reach-is_some (taken b s a k) zero (suc j ∷ p) h =
-    reach-is_some a j p (both b.enable (reach_at a j p) h).1
-reach-is_some (taken b s a k) (suc j) p h = reach-is_some k j p h
-reach-is_some k j p h = false_true h
-
 reset_if-no : (b : Bool) (s : State) → b ≡ false → Some (reset_if b s) ≡ Some s
 reset_if-no b s h = grind arith
-
--- The ways of the packets
-
--- each came whole; or the attempt was damaged, or the device did not hear it
-abbrev ways_whole : (a : Attempt) (w : World) (x : Location) (s : State) → Ways a w x s
-ways_whole a w x s = record {
-  first = whole;
-  second = whole;
-  third = whole;
-  heard = λ n g. (refl, refl, refl);
-}
-
-abbrev Clear : Attempt → World → Location → State → Type 0
-Clear a w x s = (damage_in w ≡ None) × (hears_attempt a (deep_at false x.rest) s ≡ true)
-
-abbrev ways_as : (a : Attempt) (w : World) (x : Location) (s : State) (t1 t2 t3 : Way)
-    → (Clear a w x s → ⊥) → Ways a w x s
-ways_as a w x s t1 t2 t3 c = record {
-  first = t1;
-  second = t2;
-  third = t3;
-  heard = λ n g. elim (c (n, g)) [ ];
-}
-
-clear_or_not : (a : Attempt) (w : World) (x : Location) (s : State) → Clear a w x s
-    ⊎ (Clear a w x s → ⊥)
-clear_or_not a w x s = grind arith
 
 -- two spots whose numbers and paths are the same
 is_spot : (x y : Location) → (same_number x.row y.row && same_path x.rest y.rest) ≡ true → y ≡ x
 is_spot x y h =
-    let both_same : _ = both (same_number x.row y.row) (same_path x.rest y.rest) h in
+    let both_same : _ = both (same_number x.row y.row) _ h in
     ap₂ (λ i e. record { row = i; rest = e }) (same_number-is x.row y.row both_same.0)
     (same_is x.rest y.rest both_same.1)
 
@@ -157,15 +119,15 @@ module _ (a : Attempt) (w : World) (m : IsMade a w) (u : (after (attempt a) w).s
         h.spot.rest (holder_holds a.addr (at_attempt w).roots (holder_in a w h)) j.row
         j.rest s d e on_ready))
         (same_Some v s (sym there ∙ others_in a w h j.row j.rest s d e
-        ∙ reset_if-no (resets (attempt a) w (path_to j)) s rest))
+        ∙ reset_if-no _ s rest))
 
     of_itself : (h : HolderIn a w) → h.spot ≡ j → (s : State) → state_on (at_attempt w).roots j
         ≡ Some s → R j s v
     of_itself h x s e =
         subst (λ t. R j t v) (same_Some h.own s (ap stands (sym h.stands)
-        ∙ state_stands (at_attempt w).roots h.spot.row h.spot.rest
-        ∙ ap (state_on (at_attempt w).roots) x ∙ e))
-        (subst (λ i. R i h.own v) x (itself h (ap (state_on (after (attempt a) w).roots) x
+        ∙ state_stands _ h.spot.row h.spot.rest
+        ∙ ap (state_on _) x ∙ e))
+        (subst (λ i. R i h.own v) x (itself h (ap (state_on _) x
         ∙ there)))
 
     of_holder : (h : HolderIn a w) → (s : State) → state_on (at_attempt w).roots j ≡ Some s
@@ -181,13 +143,10 @@ module _ (a : Attempt) (w : World) (m : IsMade a w) (u : (after (attempt a) w).s
     of_any h = grind (arith, of_holder, of_nobody)
 
     at_place : Was R w j v
-    at_place = go (state_on (at_attempt w).roots j) refl
-        (reach-is_some (at_attempt w).roots j.row j.rest on_ready)
-      where
-        go : (o : Option State) → state_on (at_attempt w).roots j ≡ o → is_some o ≡ true
-            → Was R w j v
-        go None e h = false_true h
-        go (Some s) e h = was_of s e (of_any (holder_or_nobody a w m u) s e)
+    at_place =
+        let x : _ = reach-full (at_attempt w).roots j.row j.rest on_ready in
+        let e : _ = full_state (at_attempt w).roots j.row j.rest x in
+        was_of x.own e (of_any (holder_or_nobody a w m u) x.own e)
 
 -- the device that holds the address
 module _ (a : Attempt) (w : World) (h : HolderIn a w) (v : State)
@@ -206,69 +165,59 @@ module _ (a : Attempt) (w : World) (h : HolderIn a w) (v : State)
   abbrev answer : Way
   answer = answer_way a (damage_in (at_attempt w)) (at_attempt w).roots
 
-  abbrev reply : Way
-  reply = reply_way a (damage_in (at_attempt w)) (at_attempt w).roots deep s
-
   its_own : (address_of s == a.addr) ≡ true
   its_own = same_equal (address_of s) a.addr h.at
 
   then_is : (r : Reply) → ExchangedIn a w h r → v ≡ r.1
   then_is r x = same_Some v r.1 (sym there ∙ x.state)
 
-  did_in : IsIn a → DidIn a w spot s v
-  did_in i = pick (decided s.spec.silent)
-    where
-      loud_in : s.spec.silent ≡ false → Clear a w spot s ⊎ (Clear a w spot s → ⊥)
-          → DidIn a w spot s v
-      loud_in loud (inl c) =
-          let x : _ = in_sound_in a w h loud c.1 c.0 i in
-          DidIn.asked its_own loud b below h.stands (ways_whole a w spot s) x.outcome (then_is _ x)
-      loud_in loud (inr c) =
-          let x : _ = in_in a w h loud i in
-          DidIn.asked its_own loud b below h.stands (ways_as a w spot s token answer reply c)
-          x.outcome (then_is _ x)
+  -- without damage each packet comes whole, where the device hears it
+  undamaged_ways : damage_in w ≡ None → hears_attempt a deep s ≡ true
+      → AllWhole a (damage_in (at_attempt w)) (at_attempt w).roots deep s
+  undamaged_ways n g = subst (λ d. AllWhole a d (at_attempt w).roots deep s)
+      (sym (damage_ready w ∙ n)) (undamaged a _ deep s g)
 
-      pick : (s.spec.silent ≡ true) ⊎ (s.spec.silent ≡ false) → DidIn a w spot s v
-      pick (inl y) = let x : _ = silent_in a w h y in
-          DidIn.silent its_own y x.outcome (then_is (None, s) x)
-      pick (inr y) = loud_in y (clear_or_not a w spot s)
+  abbrev in_ways : IsIn a → Ways a w spot s
+  in_ways i = record {
+    first = token;
+    second = answer;
+    third = reply_gone a (damage_in (at_attempt w)) (at_attempt w).roots (holder_in a w h) i;
+    heard = λ n g. let x : _ = undamaged_ways n g in
+        (x.token, x.answer, gone_whole a _ _ (holder_in a w h) i x);
+  }
+
+  abbrev sent_ways : is_some a.payload ≡ true → Ways a w spot s
+  sent_ways sends = record {
+    first = token;
+    second = payload;
+    third = answer;
+    heard = λ n g. let x : _ = undamaged_ways n g in (x.token, x.payload sends, x.answer);
+  }
+
+  did_in : IsIn a → DidIn a w spot s v
+  did_in i = elim (decided s.spec.silent) [
+    | inl y ↦ let x : _ = silent_in a w h y in DidIn.silent its_own y x.outcome (then_is _ x)
+    | inr y ↦
+        let x : _ = in_gone_in a w h y i in
+        DidIn.asked its_own y b below h.stands (in_ways i) x.outcome (then_is _ x)
+  ]
 
   did_out : (t : Toggle) (bytes : List ℕ) → IsOut a t bytes → DidOut a t bytes w spot s v
-  did_out t bytes i = pick (decided s.spec.silent)
-    where
-      loud_out : s.spec.silent ≡ false → Clear a w spot s ⊎ (Clear a w spot s → ⊥)
-          → DidOut a t bytes w spot s v
-      loud_out loud (inl c) =
-          let x : _ = out_sound_in a w h loud c.1 c.0 t bytes i in
-          DidOut.asked its_own loud (ways_whole a w spot s) x.outcome (then_is _ x)
-      loud_out loud (inr c) =
-          let x : _ = out_in a w h loud t bytes i in
-          DidOut.asked its_own loud (ways_as a w spot s token payload answer c) x.outcome
-          (then_is _ x)
-
-      pick : (s.spec.silent ≡ true) ⊎ (s.spec.silent ≡ false) → DidOut a t bytes w spot s v
-      pick (inl y) = let x : _ = silent_in a w h y in
-          DidOut.silent its_own y x.outcome (then_is (None, s) x)
-      pick (inr y) = loud_out y (clear_or_not a w spot s)
+  did_out t bytes i = elim (decided s.spec.silent) [
+    | inl y ↦ let x : _ = silent_in a w h y in DidOut.silent its_own y x.outcome (then_is _ x)
+    | inr y ↦
+        let x : _ = out_in a w h y t bytes i in
+        DidOut.asked its_own y (sent_ways (ap is_some i.payload)) x.outcome (then_is _ x)
+  ]
 
   did_setup : (bytes : List ℕ) → IsSetup a bytes → DidSetup a bytes w spot s v
-  did_setup bytes i = pick (decided s.spec.silent)
-    where
-      loud_setup : s.spec.silent ≡ false → Clear a w spot s ⊎ (Clear a w spot s → ⊥)
-          → DidSetup a bytes w spot s v
-      loud_setup loud (inl c) =
-          let x : _ = setup_sound_in a w h loud c.1 c.0 bytes i in
-          DidSetup.asked its_own loud b below h.stands (ways_whole a w spot s) x.outcome
-          (then_is _ x)
-      loud_setup loud (inr c) =
-          let x : _ = setup_in a w h loud bytes i in
-          DidSetup.asked its_own loud b below h.stands (ways_as a w spot s token payload answer c)
-          x.outcome (then_is _ x)
-
-      pick : (s.spec.silent ≡ true) ⊎ (s.spec.silent ≡ false) → DidSetup a bytes w spot s v
-      pick (inl y) = let x : _ = silent_in a w h y in
-          DidSetup.silent its_own y x.outcome (then_is (None, s) x)
-      pick (inr y) = loud_setup y (clear_or_not a w spot s)
+  did_setup bytes i = elim (decided s.spec.silent) [
+    | inl y ↦ let x : _ = silent_in a w h y in DidSetup.silent its_own y x.outcome (then_is _ x)
+    | inr y ↦
+        let x : _ = setup_in a w h y bytes i in
+        DidSetup.asked its_own y b below h.stands (sent_ways (ap is_some i.payload)) x.outcome
+        (then_is _ x)
+  ]
 
 -- The three kinds
 

@@ -1,24 +1,19 @@
 -- What an attempt asks of ports, where one reachable device holds its address: it alone can ask
 -- anything.
-use Rattle.std.proofs.Common.{arith, ◌≡◌, ℕ, zero, suc, ◌&&◌, not, ◌⊎◌, inl, inr, Bool, true, false}
-use Rattle.std.proofs.Common.{List, [], ◌∷◌, ◌++◌, Option, None, Some, refl, ap, ap₂, sym, subst}
-use Rattle.std.proofs.Common.{◌∙◌}
-use Rattle.usb_request.specs.{PORT_OUT, Setup, setup_of}
+use Rattle.usb_world.proofs.holders.OneDevice.{sent_to_one, alone_holder, rested_effect}
+use Rattle.std.proofs.Common.{arith, ◌≡◌, ℕ, suc, ◌&&◌, not, inl, inr, Bool, true, false, List, []}
+use Rattle.std.proofs.Common.{◌∷◌, ◌++◌, Option, None, Some, refl, ap, ap₂, sym, subst, ◌∙◌}
+use Rattle.usb_request.specs.{Setup, setup_of}
 use Rattle.usb_device.specs.{Sent, Effect, Leaves, Calls, State, Ports, state_at, path_to}
-use Rattle.usb_device.specs.{effect_of, after_packet}
-use Rattle.usb_device.specs.declared.transfer.RememberedPacket.TheVariants.{Nothing}
+use Rattle.usb_device.specs.{effect_of}
 use Rattle.usb_world.specs.{Attempt, token_out, payload_out, World, at_attempt, damage_in, attempt}
 use Rattle.usb_world.specs.{is_made, made_resets, resets, step_keeps_pending, IsSetup, HolderIn}
 use Rattle.usb_world.specs.{sent_leaves, leaves_step, AsksNothing, is_port_request, is_sparing}
 use Rattle.usb_world.specs.{is_above}
-use Rattle.usb_tree.specs.{same_number, same_path, is_way, after_sent, IsTokenFor, IfOut, IsSettled}
-use Rattle.usb_tree.specs.{OneHolds, sent_keeps_pending, sent_resets, effect_resets, resets_at}
-use Rattle.usb_tree.specs.{effect_keeps_pending, leaves_port}
+use Rattle.usb_tree.specs.{same_number, same_path, is_way, after_sent, IfOut, sent_keeps_pending}
+use Rattle.usb_tree.specs.{sent_resets, effect_resets, effect_keeps_pending, leaves_port}
 use Rattle.usb_tree.proofs.Interface.{false_true, both, decided, and_false, not-true, OnWay}
-use Rattle.usb_tree.proofs.Interface.{spares_if, way_leaves-on_way, resets_if, self_number, unreset}
-use Rattle.usb_world.proofs.packets.AttemptPackets.{calm_sent, token_out as token_calm}
-use Rattle.usb_world.proofs.holders.OneDevice.{settled_memory, rest_state, rested_effect}
-use Rattle.usb_world.proofs.holders.OneDevice.{token_calls, other_address}
+use Rattle.usb_tree.proofs.Interface.{spares_if, way_leaves-on_way, resets_if, self_number}
 use Rattle.usb_world.proofs.holders.OneHolder.{holder_holds, Holder}
 use Rattle.usb_world.proofs.holders.OneHolderAttempts.{holder_in}
 use Rattle.usb_world.proofs.courses.Courses.{goes}
@@ -27,23 +22,6 @@ use Rattle.usb_world.proofs.ports.PortRequests.{Allows, AllowsOut, PayloadAllows
 use Rattle.usb_world.proofs.ports.PortRequests.{payload_allowed}
 use Rattle.usb_world.proofs.ports.ChangeBits.{left_effect}
 use Rattle.usb_world.proofs.ways.Ways.{way_on}
-
--- after the token no other device remembers anything
-others_forgot : (n : ℕ) (t : Option Sent) → IfOut (IsTokenFor n) t
-    → (k : Ports) (j : ℕ) (p : List ℕ) → IsSettled k → OneHolds n k (record { row = j; rest = p })
-    → (i : ℕ) (e : List ℕ) (v : State) → (same_number i j && same_path e p) ≡ false
-    → state_at (after_sent t k) i e ≡ Some v → v.memory ≡ Nothing
-others_forgot n None is k j p s o i e v differ at = settled_memory k i e v s at
-others_forgot n (Some q) is k j p s o i e v differ at = settled_memory k i e v s (sym same ∙ at)
-  where
-    same : state_at (after_packet q false k) i e ≡ state_at k i e
-    same =
-        rest_state q false k i e (λ u h on. (
-          settled_memory k i e u s h,
-          token_calls n q.content u is (other_address n k j p o i e u differ h on),
-        ))
-        ∙ unreset (resets_at q false k i e) (state_at k i e)
-        (calm_sent (Some q) (token_calm n (Some q) is) k i e)
 
 -- a test of effects at a port, with the rest of the path, that holds where nothing is asked
 abbrev Test : Type 0
@@ -92,26 +70,27 @@ module _ (a : Attempt) (w : World) (h : HolderIn a w) where
   Allowed T i x o = (m : ℕ) (r : List ℕ) → suc i ∷ x ≡ suc j ∷ (p ++ (suc m ∷ r))
       → IfOut (AllowsOut (T m r)) o
 
+  -- no device but the holder asks anything of its ports once the token is gone, whatever comes then
+  pub others_leave : (i : ℕ) (e : List ℕ) (t : State) → (same_number i j && same_path e p) ≡ false
+      → state_at (after_sent (token_out a (damage_in (at_attempt w))) (at_attempt w).roots) i e
+      ≡ Some t → (q : Sent) (deep : Bool) → effect_of q deep t ≡ Leaves
+  others_leave i e t differ at q deep =
+      rested_effect q deep t ((sent_to_one _ k h.spot (alone_holder a.addr _
+      (goes a (damage_in (at_attempt w)) k).token k h.spot one.settled
+      (holder_holds a.addr k one))).forgot i e t differ at)
+
   on_way : (T : Test) → ((m : ℕ) (r : List ℕ) → T m r Leaves ≡ true)
       → (i : ℕ) (x : List ℕ) (q : Sent) → Allowed T i x (Some q)
       → OnWay (λ t m r. (dp : Bool) → T m r (effect_of q dp t) ≡ true) heard i x
-  on_way T l i x q c e m r t z at dp = pick (decided (same_number i j && same_path e p))
-    where
-      path : (same_number i j ≡ true) × (same_path e p ≡ true)
-          → suc i ∷ x ≡ suc j ∷ (p ++ (suc m ∷ r))
-      path y = ap₂ (λ u v. suc u ∷ v) (sym (same_number-is i j y.0)) (z
-          ∙ ap (λ v. v ++ (suc m ∷ r)) (sym (same_is e p y.1)))
-
-      pick : ((same_number i j && same_path e p) ≡ true)
-          ⊎ ((same_number i j && same_path e p) ≡ false) → T m r (effect_of q dp t) ≡ true
-      pick (inl y) = sent_allowed (T m r) (l m r) q
-          (c m r (path (both (same_number i j) (same_path e p) y))) dp t
-      pick (inr y) =
-          ap (T m r) (rested_effect q dp t
-          (others_forgot a.addr (token_out a (damage_in (at_attempt w)))
-          (goes a (damage_in (at_attempt w)) k).token k j p one.settled
-          (holder_holds a.addr k one) i e t y at))
-          ∙ l m r
+  on_way T l i x q c e m r t z at dp = elim (decided (same_number i j && same_path e p)) [
+    | inl y ↦
+        let same : _ = both (same_number i j) (same_path e p) y in
+        let path : suc i ∷ x ≡ suc j ∷ (p ++ (suc m ∷ r)) =
+        ap₂ (λ u v. suc u ∷ v) (sym (same_number-is i j same.0))
+        (z ∙ ap (λ v. v ++ (suc m ∷ r)) (sym (same_is e p same.1))) in
+        sent_allowed (T m r) (l m r) q (c m r path) dp t
+    | inr y ↦ ap (T m r) (others_leave i e t y at q dp) ∙ l m r
+  ]
 
   one_spares : (i : ℕ) (x : List ℕ) (o : Option Sent) → Allowed spare_test i x o
       → sent_keeps_pending o heard i x ≡ true
@@ -131,15 +110,6 @@ module _ (a : Attempt) (w : World) (h : HolderIn a w) where
       (λ e m r t z at dp n. not-true (effect_resets (effect_of q dp t) n m r)
       (on_way (rest_test n) (λ m r. refl) i x q (c n) e m r t z at dp))
 
-  -- no device but the holder asks anything of its ports once the token is gone, whatever comes then
-  pub others_leave : (i : ℕ) (e : List ℕ) (t : State) → (same_number i j && same_path e p) ≡ false
-      → state_at (after_sent (token_out a (damage_in (at_attempt w))) (at_attempt w).roots) i e
-      ≡ Some t → (q : Sent) (deep : Bool) → effect_of q deep t ≡ Leaves
-  others_leave i e t differ at q deep =
-      rested_effect q deep t (others_forgot a.addr (token_out a (damage_in (at_attempt w)))
-      (goes a (damage_in (at_attempt w)) k).token k j p one.settled
-      (holder_holds a.addr k one) i e t differ at)
-
   -- where it is not on the way
 
   below_path : (x : List ℕ) (n : ℕ) (y : List ℕ) → same_path x (x ++ (n ∷ y)) ≡ false
@@ -157,14 +127,13 @@ module _ (a : Attempt) (w : World) (h : HolderIn a w) where
 
   pub elsewhere : (x : List ℕ) → is_above (suc j ∷ p) x ≡ false → AsksNothing (attempt a) w x
   unfolding step_keeps_pending resets leaves_step
-  elsewhere [] u = record { spares = refl; rests = and_false (is_made w.fault w); leaves = refl }
-  elsewhere (zero ∷ x) u = grind arith
   elsewhere (suc i ∷ x) u = record {
     spares = one_spares i x sent (λ m r z. not_under i x u m r z);
     rests = ap (λ y. is_made w.fault w && y) (one_rests i x sent (λ n m r z. not_under i x u m r z))
         ∙ and_false (is_made w.fault w);
     leaves = one_leaves i x sent (λ m r z. not_under i x u m r z);
   }
+  elsewhere x u = record { spares = refl; rests = and_false (is_made w.fault w); leaves = refl }
 
   -- SetPortFeature and ClearPortFeature
 
@@ -173,8 +142,7 @@ module _ (a : Attempt) (w : World) (h : HolderIn a w) where
     r0 = setup_of bytes
 
     data_allows : (T : Effect → Bool) → Allows T r0 → IfOut (AllowsOut T) sent
-    data_allows T c = payload_allowed T c.rests a (damage_in (at_attempt w))
-        (subst (PayloadAllows T) (sym is.payload) c)
+    data_allows T c = payload_allowed T c.rests a _ (subst (PayloadAllows T) (sym is.payload) c)
 
     module _ (n : ℕ) (names : r0.index ≡ n) where
       abbrev pub port_path : List ℕ
@@ -219,9 +187,6 @@ module _ (a : Attempt) (w : World) (h : HolderIn a w) where
       other_rests p d = refl
 
       module _ (asked : is_port_request r0 ≡ true) where
-        of_port : r0.request_type ≡ PORT_OUT
-        of_port = grind arith
-
         spare_there : (m : ℕ) (r : List ℕ) → same_number n (suc m) ≡ false
             → Allows (spare_test m r) r0
         spare_there m r d = grind arith
@@ -244,9 +209,6 @@ module _ (a : Attempt) (w : World) (h : HolderIn a w) where
         pub others_asked_nothing : (x : List ℕ) → is_way port_path x ≡ false
             → AsksNothing (attempt a) w x
         unfolding step_keeps_pending resets leaves_step
-        others_asked_nothing [] d = grind arith
-        others_asked_nothing (zero ∷ x) d =
-            record { spares = refl; rests = and_false (is_made w.fault w); leaves = refl }
         others_asked_nothing (suc i ∷ x) d = record {
           spares = one_spares i x sent (λ m r z. data_allows (spare_test m r)
               (spare_there m r (number_apart (suc i ∷ x) m r d z)));
@@ -256,6 +218,8 @@ module _ (a : Attempt) (w : World) (h : HolderIn a w) where
           leaves = one_leaves i x sent (λ m r z. data_allows (leave_test m r)
               (leave_there m r (number_apart (suc i ∷ x) m r d z)));
         }
+        others_asked_nothing x d =
+            record { spares = refl; rests = and_false (is_made w.fault w); leaves = refl }
 
         self_there : is_sparing r0 ≡ true → (m : ℕ) → Allows (spare_test m []) r0
         self_there y m = grind arith

@@ -2,7 +2,7 @@
 use Rattle.std.proofs.Common.{◌≡◌, ◌≤◌, ℕ, false, List, [], ◌++◌, length, Option, None, Some}
 use Rattle.std.proofs.Common.{is_some, refl, ap₂, sym, ◌∙◌, arith}
 use Rattle.arrayvec.specs.ArrayVec.{ArrayVec}
-use Rattle.usb_packet.specs.{Token, Toggle, TokenKind, OutTok, InTok, SetupTok}
+use Rattle.usb_packet.specs.{Toggle, TokenKind, OutTok, InTok, SetupTok}
 use Rattle.usb_packet.specs.declared.Packet.TheVariants as packet
 use Rattle.usb_device.specs.{Answer, Ports, row_of, held_addresses, repeats, listed}
 use Rattle.usb_world.specs.{Attempt, Damage, heard_all, heard_in, token_out, payload_out, reply_out}
@@ -30,22 +30,19 @@ module _ (a : Attempt) (d : Option Damage) (k : Ports) (is : IsAttempt a) where
       split : (t : TokenKind) → a.kind ≡ t → (o : Option (Toggle × ArrayVec ℕ)) → a.payload ≡ o
           → is_some o ≡ sends_data t → heard_in a d k ≡ Collision → ⊥
       split SetupTok kind (Some x) load sent c =
-          alone _
-          (sym
-          (sent_heard a d k h (Token SetupTok a.addr a.ep) (packet.Payload x.0 x.1)
+          alone _ (sym
+          (sent_heard a d k h _ (packet.Payload x.0 x.1)
           (token_of-fields a SetupTok a.addr a.ep kind refl refl) (data_is a x.0 x.1 load)
           (setup_quiet h.own (row_of h.below) a.addr a.ep))
           ∙ c)
       split OutTok kind (Some x) load sent c =
-          alone _
-          (sym
-          (sent_heard a d k h (Token OutTok a.addr a.ep) (packet.Payload x.0 x.1)
+          alone _ (sym
+          (sent_heard a d k h _ (packet.Payload x.0 x.1)
           (token_of-fields a OutTok a.addr a.ep kind refl refl) (data_is a x.0 x.1 load)
           (out_quiet h.own (row_of h.below) a.addr a.ep))
           ∙ c)
       split InTok kind None load sent c =
-          alone _
-          (sym (asked_heard a d k h (Token InTok a.addr a.ep)
+          alone _ (sym (asked_heard a d k h _
           (token_of-fields a InTok a.addr a.ep kind refl refl) (none_is a load)) ∙ c)
       split InTok kind (Some x) load sent c = false_true (sym sent)
       split t kind o load sent c = false_true sent

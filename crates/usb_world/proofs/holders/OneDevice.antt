@@ -1,23 +1,29 @@
 -- Between attempts nothing is remembered: so an attempt concerns the device at its address alone.
-use Rattle.std.proofs.Common.{arith, ◌≡◌, ℕ, zero, suc, ◌==◌, ◌&&◌, ◌||◌, not, if◌then◌else◌, ◌⊎◌}
-use Rattle.std.proofs.Common.{inl, inr, Bool, true, false, List, [], ◌∷◌, ◌++◌, Option, None, Some}
-use Rattle.std.proofs.Common.{option_map, refl, ap, sym, subst, ◌∙◌}
+use Rattle.std.proofs.Common.{append-nil, arith, ◌≡◌, ℕ, zero, suc, ◌==◌, ◌&&◌, inl, inr, Bool}
+use Rattle.std.proofs.Common.{true, false, List, [], ◌∷◌, Option, None, Some, option_map, refl, ap}
+use Rattle.std.proofs.Common.{sym, subst, ◌∙◌, is_some}
+use Rattle.usb_world.proofs.packets.PacketEffects.{stands, state_stands, packet_state, true_deep}
+use Rattle.usb_world.proofs.packets.PacketEffects.{heard_state}
+use Rattle.usb_tree.proofs.Interface.{both, false_true, and_of, decided, is_twice-one_path}
+use Rattle.usb_tree.proofs.Interface.{equal_same, self_number, self_path, reset_if-false}
+use Rattle.usb_tree.proofs.Interface.{forgotten-nothing}
 use Rattle.usb_device.specs.{Answer, Content, Sent, Leaves, State, forgotten, reset_state, asks}
-use Rattle.usb_device.specs.{Ports, ended, vacant, taken, empty, full, acted, reach_at, state_at}
-use Rattle.usb_device.specs.{place_at, Location, place_on, reach_on, asked_by, answer_of, effect_of}
-use Rattle.usb_device.specs.{after_packet, listed, all_forgotten, forgotten_place, Place, answers}
+use Rattle.usb_device.specs.{Ports, ended, vacant, taken, full, reach_at, state_at, place_at}
+use Rattle.usb_device.specs.{Location, place_on, reach_on, asked_by, answer_of, effect_of}
+use Rattle.usb_device.specs.{after_packet, listed, all_forgotten, Place, answers, sent_in}
+use Rattle.usb_device.specs.{forgotten_in, changed_at, path_to}
 use Rattle.usb_device.specs.declared.transfer.RememberedPacket.TheVariants.{Nothing}
 use Rattle.usb_tree.specs.{address_of, same_number, same_path, resets_at, reset_if, after_sent}
 use Rattle.usb_tree.specs.{answers_to, after_attempt, deep_at, calls_on, IsTokenFor, IsDataOut}
 use Rattle.usb_tree.specs.{IsAckOut, IfOut, IsAttemptAt, sent_resets, attempt_resets, IsSettled}
-use Rattle.usb_tree.specs.{NobodyHolds, OneHolds, OthersForgot, OthersUncalled}
-use Rattle.usb_tree.proofs.Interface.{false_true, both, and_of, decided, is_twice-one_path}
-use Rattle.usb_tree.proofs.Interface.{equal_same, self_number, self_path, reset_if-false}
-use Rattle.usb_world.proofs.packets.PacketEffects.{packet_state, true_deep, heard_state}
+use Rattle.usb_tree.specs.{NobodyHolds, OneHolds, OthersForgot, Alone, AloneAt}
 use Rattle.usb_world.proofs.packets.AttemptPackets.{token_out, ack_out, calm_sent, rested_answer}
-use Rattle.usb_world.proofs.packets.AttemptPackets.{forgotten_state, forgotten_at, ack_calls}
-use Rattle.usb_world.proofs.packets.PacketPlaces.{way_place, way_reach, is_left, way_rests}
-use Rattle.usb_world.proofs.packets.PacketPlaces.{heard_place, place_after_sent}
+use Rattle.usb_world.proofs.packets.AttemptPackets.{forgotten_state, ack_calls}
+use Rattle.usb_world.proofs.courses.StepInvariants.{each_settled}
+use Rattle.usb_world.proofs.ways.LoneWalks.{Each, Others, along_way}
+use Rattle.usb_world.proofs.ways.WayChanges.{place_at-changed}
+use Rattle.usb_device.proofs.Interface.{changed_at-same, changed_at-twice}
+use Rattle.usb_port.specs.{PortState}
 
 -- a device's answer
 abbrev pub answer_at : Sent → Bool → Option Place → List Answer
@@ -28,11 +34,15 @@ abbrev pub answers_at : Option Sent → Bool → Option Place → List Answer
 answers_at None deep x = []
 answers_at (Some q) deep x = answer_at q deep x
 
--- a reached device with its ports after an attempt, where no other holds the address
+-- a reached device with its ports after a packet, where all others are at rest
+abbrev pub step_in : Option Sent → Bool → Place → Place
+step_in None deep x = x
+step_in (Some q) deep x = sent_in q deep x
+
+-- and after an attempt
 abbrev pub place_after : Option Sent → Option Sent → Option Sent → Bool → Place → Place
 place_after token payload reply deep x =
-    forgotten_place (place_after_sent reply deep
-    (place_after_sent payload deep (place_after_sent token deep x)))
+    forgotten_in (step_in reply deep (step_in payload deep (step_in token deep x)))
 
 -- What an attempt does where one device holds its address: that device's answers are heard, and it
 -- is then as one
@@ -40,7 +50,7 @@ place_after token payload reply deep x =
 pub record OneActs (t d r : Option Sent) (k : Ports) (x : Location) : Type 0 where
   pub first : answers_to t k ≡ answers_at t (deep_at false x.rest) (place_on k x)
   pub second : answers_to d (after_sent t k) ≡ answers_at d (deep_at false x.rest)
-      (option_map (place_after_sent t (deep_at false x.rest)) (place_on k x))
+      (option_map (step_in t (deep_at false x.rest)) (place_on k x))
   pub place : place_on (after_attempt t d r k) x
       ≡ option_map (place_after t d r (deep_at false x.rest)) (place_on k x)
   pub on : reach_on (after_sent r (after_sent d (after_sent t k))) x ≡ true
@@ -69,124 +79,91 @@ rested_effect q deep s n = grind (arith, rested_asks)
 abbrev pub IsRested : Sent → State → Type 0
 IsRested q s = (s.memory ≡ Nothing) × (calls_on q.content s ≡ false)
 
+-- so each that it reaches
+abbrev pub Resting : Sent → Bool → State → Type 0
+Resting q on t = on ≡ true → IsRested q t
+
 -- Where the packet is for nobody
 
-abbrev pub AllRest : Sent → Ports → Type 0
-AllRest q k = (i : ℕ) (e : List ℕ) (t : State) → state_at k i e ≡ Some t → reach_at k i e ≡ true
-    → IsRested q t
+-- it changes nothing, and nothing is answered
+abbrev Unmoved : Sent → Bool → Ports → Type 0
+Unmoved q deep k = (after_packet q deep k ≡ k) × (answers q deep k ≡ [])
 
-pub rest_packet : (q : Sent) (deep : Bool) (k : Ports) → AllRest q k → after_packet q deep k ≡ k
-unfolding after_packet state_at reach_at
-rest_packet q deep ended c = refl
-rest_packet q deep (vacant b k) c = ap (vacant b) (rest_packet q deep k (λ i e. c (suc i) e))
-rest_packet q deep (taken b s a k) c =
-    split b.enable refl (λ on. rest_packet q true a
-    (λ i e t h o. c zero (suc i ∷ e) t h (and_of b.enable _ on o)))
-    (rest_packet q deep k (λ i e. c (suc i) e))
-  where
-    split : (x : Bool) → b.enable ≡ x → (b.enable ≡ true → after_packet q true a ≡ a)
-        → after_packet q deep k ≡ k → (if x then taken b (answer_of q deep s a).1
-        (acted (effect_of q deep s) (after_packet q true a)) (after_packet q deep k)
-        else taken b s a (after_packet q deep k)) ≡ taken b s a k
-    split true on below further =
-        let rest : IsRested q s = c zero [] s refl on in
-        rw (
-          rested_answer q deep s a rest.0 rest.1,
-          rested_effect q deep s rest.0,
-          below on,
-          further,
-        ) refl
-    split false on below further = ap (taken b s a) further
+rest_device : (q : Sent) (deep : Bool) (b : PortState) (s : State) (a k : Ports)
+    → Resting q b.enable s → (b.enable ≡ true → Unmoved q true a)
+    → (after_packet q deep (taken b s a k) ≡ taken b s a (after_packet q deep k))
+    × (answers q deep (taken b s a k) ≡ answers q deep k)
+unfolding after_packet answers
+rest_device q deep b s a k own below = grind (arith, rested_answer, rested_effect)
 
-pub rest_answers : (q : Sent) (deep : Bool) (k : Ports) → AllRest q k → answers q deep k ≡ []
-unfolding answers state_at reach_at
-rest_answers q deep ended c = refl
-rest_answers q deep (vacant b k) c = rest_answers q deep k (λ i e. c (suc i) e)
-rest_answers q deep (taken b s a k) c =
-    split b.enable refl (λ on. rest_answers q true a
-    (λ i e t h o. c zero (suc i ∷ e) t h (and_of b.enable _ on o)))
-    (rest_answers q deep k (λ i e. c (suc i) e))
-  where
-    split : (x : Bool) → b.enable ≡ x → (b.enable ≡ true → answers q true a ≡ [])
-        → answers q deep k ≡ []
-        → (if x then listed (answer_of q deep s a).0 (answers q true a ++ answers q deep k)
-        else answers q deep k) ≡ []
-    split true on below further =
-        let rest : IsRested q s = c zero [] s refl on in
-        rw (rested_answer q deep s a rest.0 rest.1, below on, further) refl
-    split false on below further = further
+pub rest_all : (q : Sent) (deep : Bool) (k : Ports) → Each (Resting q) true k → Unmoved q deep k
+unfolding after_packet answers state_at reach_at
+rest_all q deep ended c = (refl, refl)
+rest_all q deep (vacant b k) c =
+    let more : _ = rest_all q deep k (λ i e. c (suc i) e) in (ap (vacant b) more.0, more.1)
+rest_all q deep (taken b s a k) c =
+    let more : _ = rest_all q deep k (λ i e. c (suc i) e) in
+    let own : _ = rest_device q deep b s a k (c zero [] s refl) (λ on. rest_all q true a
+    (subst (λ x. Each (Resting q) x a) on (λ i e. c zero (suc i ∷ e)))) in
+    (own.0 ∙ ap (taken b s a) more.0, own.1 ∙ more.1)
 
 -- Where it is for one device at most
 
-abbrev pub OthersRest : Sent → Ports → ℕ → List ℕ → Type 0
-OthersRest q k j p = (i : ℕ) (e : List ℕ) (t : State) → (same_number i j && same_path e p) ≡ false
-    → state_at k i e ≡ Some t → reach_at k i e ≡ true → IsRested q t
+-- it changes the place of that device alone, and that device's is the answer
+pub record LonePacket (q : Sent) (deep : Bool) (k : Ports) (j : ℕ) (p : List ℕ) : Type 0 where
+  pub ports : after_packet q deep k ≡ changed_at (sent_in q (deep_at deep p)) k j p
+  pub answer : answers q deep k ≡ answer_at q (deep_at deep p) (place_at k j p)
+  pub on : reach_at (after_packet q deep k) j p ≡ true
 
-pub others_way : (q : Sent) (deep : Bool) (k : Ports) (j : ℕ) (p : List ℕ) → OthersRest q k j p
-    → way_rests q deep k j p ≡ true
-unfolding way_rests state_at reach_at
-others_way q deep (vacant b k) (suc j) p c = others_way q deep k j p (λ i e. c (suc i) e)
-others_way q deep (taken b s a k) zero (suc j ∷ p) c =
-    split b.enable refl (λ on. others_way q true a j p
-    (λ i e t d h o. c zero (suc i ∷ e) t d h (and_of b.enable _ on o)))
-  where
-    split : (x : Bool) → b.enable ≡ x → (b.enable ≡ true → way_rests q true a j p ≡ true)
-        → (not x || (is_left (effect_of q deep s) && way_rests q true a j p)) ≡ true
-    split true on below = rw (rested_effect q deep s (c zero [] s refl refl on).0, below on) refl
-    split false on below = refl
-others_way q deep (taken b s a k) (suc j) p c = others_way q deep k j p (λ i e. c (suc i) e)
-others_way q deep k j p c = refl
+pub lone_packet : (q : Sent) (deep : Bool) (k : Ports) (j : ℕ) (p : List ℕ)
+    → reach_at k j p ≡ true → Others (Resting q) k j p → LonePacket q deep k j p
+unfolding after_packet answers changed_at place_at reach_at
+lone_packet q = along_way {S = Resting q} {P = LonePacket q} (record {
+  here = λ deep b s a k on below more.
+      let lower : _ = rest_all q true a below in
+      let rest : _ = rest_all q deep k more in
+      record {
+        ports = rw (on, lower.0, rest.0) refl;
+        answer = rw (on, lower.1, rest.1) refl;
+        on = rw on refl;
+      };
+  below = λ deep b s a k j p on own more ih.
+      let rest : _ = rest_all q deep k more in
+      let quiet : _ = rested_answer q deep s a (own refl).0 (own refl).1 in
+      let left : _ = rested_effect q deep s (own refl).0 in
+      record {
+        ports = rw (on, quiet, left, ih.ports, rest.0, true_deep p) refl;
+        answer = rw (on, quiet, ih.answer, rest.1, true_deep p)
+            (append-nil (answer_at q true (place_at a j p)));
+        on = rw (on, left) ih.on;
+      };
+  past_port = λ deep b k j p ih.
+      record { ports = ap (vacant b) ih.ports; answer = ih.answer; on = ih.on };
+  past_device = λ deep b s a k j p own below ih.
+      let same : _ = rest_device q deep b s a k own
+      (λ on. rest_all q true a (subst (λ x. Each (Resting q) x a) on below)) in
+      record {
+        ports = same.0 ∙ ap (taken b s a) ih.ports;
+        answer = same.1 ∙ ih.answer;
+        on = ap (λ m. reach_at m (suc j) p) same.0 ∙ ih.on;
+      };
+})
 
-pub append_nil : (xs : List Answer) → xs ++ [] ≡ xs
-append_nil [] = refl
-append_nil (x ∷ xs) = ap (λ y. x ∷ y) (append_nil xs)
-
-pub others_answer : (q : Sent) (deep : Bool) (k : Ports) (j : ℕ) (p : List ℕ)
-    → reach_at k j p ≡ true → OthersRest q k j p
-    → answers q deep k ≡ answer_at q (deep_at deep p) (place_at k j p)
-unfolding answers state_at reach_at place_at
-others_answer q deep (vacant b k) (suc j) p h c = others_answer q deep k j p h (λ i e. c (suc i) e)
-others_answer q deep (taken b s a k) zero [] h c =
-    rw (
-      h,
-      rest_answers q true a (λ i e t f on. c zero (suc i ∷ e) t refl f (and_of b.enable _ h on)),
-      rest_answers q deep k (λ i e t f on. c (suc i) e t refl f on),
-    ) refl
-others_answer q deep (taken b s a k) zero (suc j ∷ p) h c =
-    let on : _ = both b.enable (reach_at a j p) h in
-    found on.0 (others_answer q true a j p on.1
-    (λ i e t d f o. c zero (suc i ∷ e) t d f (and_of b.enable _ on.0 o)))
-  where
-    found : b.enable ≡ true → answers q true a ≡ answer_at q (deep_at true p) (place_at a j p)
-        → (if b.enable then listed (answer_of q deep s a).0 (answers q true a ++ answers q deep k)
-        else answers q deep k) ≡ answer_at q true (place_at a j p)
-    found e ih =
-        let rest : IsRested q s = c zero [] s refl refl e in
-        rw (
-          e,
-          rested_answer q deep s a rest.0 rest.1,
-          ih,
-          rest_answers q deep k (λ i e t f on. c (suc i) e t refl f on),
-          true_deep p,
-        )
-        (append_nil (answer_at q true (place_at a j p)))
-others_answer q deep (taken b s a k) (suc j) p h c =
-    split b.enable refl (others_answer q deep k j p h (λ i e. c (suc i) e))
-  where
-    split : (x : Bool) → b.enable ≡ x → answers q deep k ≡ answer_at q (deep_at deep p)
-        (place_at k j p)
-        → (if x then listed (answer_of q deep s a).0 (answers q true a ++ answers q deep k)
-        else answers q deep k) ≡ answer_at q (deep_at deep p) (place_at k j p)
-    split true e ih =
-        let rest : IsRested q s = c zero [] s refl refl e in
-        rw (
-          rested_answer q deep s a rest.0 rest.1,
-          rest_answers q true a
-              (λ i x t f on. c zero (suc i ∷ x) t refl f (and_of b.enable _ e on)),
-          ih,
-        ) refl
-    split false e ih = ih
-others_answer q deep k j p h c = false_true h
+-- where no other remembers anything, forgetting changes that device alone
+pub others_forget : (k : Ports) (j : ℕ) (p : List ℕ) → reach_at k j p ≡ true
+    → OthersForgot k (record { row = j; rest = p })
+    → all_forgotten k ≡ changed_at forgotten_in k j p
+unfolding all_forgotten changed_at
+others_forget = along_way {S = λ on t. t.memory ≡ Nothing}
+    {P = λ deep k j p. all_forgotten k ≡ changed_at forgotten_in k j p} (record {
+      here = λ deep b s a k on below more.
+          rw (each_settled a below, each_settled k more) refl;
+      below = λ deep b s a k j p on own more ih.
+          rw (forgotten-nothing s own, ih, each_settled k more) refl;
+      past_port = λ deep b k j p ih. ap (vacant b) ih;
+      past_device = λ deep b s a k j p own below ih.
+          rw (forgotten-nothing s own, each_settled a below, ih) refl;
+    }) false
 
 -- For whom a packet is meant
 
@@ -203,7 +180,9 @@ pub sent_to_nobody : (o : Option Sent) (k : Ports) → IsSettled k
     → ((q : Sent) → o ≡ Some q → (t : State) → ((i : ℕ) × (e : List ℕ) × (state_at k i e ≡ Some t)
     × (reach_at k i e ≡ true)) → calls_on q.content t ≡ false)
     → (after_sent o k ≡ k) × (answers_to o k ≡ [])
-sent_to_nobody o k s c = grind (arith, rest_answers, rest_packet, settled_memory)
+sent_to_nobody None k s c = (refl, refl)
+sent_to_nobody (Some q) k s c = rest_all q false k
+    (λ i e t h on. (settled_memory k i e t s h, c q refl t (i, e, h, on)))
 
 pub nobody_answers : (n : ℕ) (t d r : Option Sent) → IsAttemptAt n t d r → (k : Ports) → IsSettled k
     → NobodyHolds n k
@@ -227,30 +206,34 @@ pub other_address : (n : ℕ) (k : Ports) (j : ℕ) (p : List ℕ)
     → OneHolds n k (record { row = j; rest = p }) → (i : ℕ) (e : List ℕ) (t : State)
     → (same_number i j && same_path e p) ≡ false → state_at k i e ≡ Some t → reach_at k i e ≡ true
     → (n == address_of t) ≡ false
-other_address n k j p o i e t d h on = pick (decided (n == address_of t))
-  where
-    same_place : (i ≡ j) × (e ≡ p) → (same_number i j && same_path e p) ≡ true
-    same_place w = rw (w.0, w.1) (and_of (same_number j j) _ (self_number j) (self_path p))
+other_address n k j p o i e t d h on = elim (decided (n == address_of t)) [
+  | inl y ↦
+      let same : _ = is_twice-one_path k i e j p n o.single on (ap (option_map address_of) h
+      ∙ ap (λ x. Some x) (sym (equal_same n (address_of t) y))) o.on o.at in
+      false_true (sym d ∙ rw (same.0, same.1) (and_of (same_number j j) _ (self_number j)
+      (self_path p)))
+  | inr y ↦ y
+]
 
-    pick : ((n == address_of t) ≡ true) ⊎ ((n == address_of t) ≡ false)
-        → (n == address_of t) ≡ false
-    pick (inl y) = false_true (sym d
-        ∙ same_place (is_twice-one_path k i e j p n o.single on (ap (option_map address_of) h
-        ∙ ap (λ x. Some x) (sym (equal_same n (address_of t) y))) o.on o.at))
-    pick (inr y) = y
+-- a device that is reached, with its port and its own ports
+pub record IsFull (x : Option Place) : Type 0 where
+  pub port : PortState
+  pub own : State
+  pub below : Ports
+  pub at : x ≡ Some (full port own below)
 
-abbrev pub stands : Option Place → Option State
-stands None = None
-stands (Some (empty b)) = None
-stands (Some (full b s a)) = Some s
+pub reach-full : (k : Ports) (j : ℕ) (p : List ℕ) → reach_at k j p ≡ true → IsFull (place_at k j p)
+unfolding reach_at place_at
+reach-full (vacant b k) (suc j) p h = reach-full k j p h
+reach-full (taken b s a k) zero [] h = record { port = b; own = s; below = a; at = refl }
+reach-full (taken b s a k) zero (suc j ∷ p) h =
+    reach-full a j p (both b.enable (reach_at a j p) h).1
+reach-full (taken b s a k) (suc j) p h = reach-full k j p h
+reach-full k j p h = false_true h
 
-pub state_stands : (k : Ports) (j : ℕ) (p : List ℕ) → stands (place_at k j p) ≡ state_at k j p
-unfolding state_at place_at
-state_stands (vacant b k) zero [] = refl
-state_stands (vacant b k) (suc j) p = state_stands k j p
-state_stands (taken b s a k) zero (suc j ∷ p) = state_stands a j p
-state_stands (taken b s a k) (suc j) p = state_stands k j p
-state_stands k j p = refl
+pub full_state : (k : Ports) (j : ℕ) (p : List ℕ) (x : IsFull (place_at k j p))
+    → state_at k j p ≡ Some x.own
+full_state k j p x = sym (state_stands k j p) ∙ ap stands x.at
 
 heard_rest : (q : Sent) (d on : Bool) (x : Option Place)
     → ((t : State) → stands x ≡ Some t → on ≡ true → IsRested q t) → heard_state q d on x ≡ stands x
@@ -275,59 +258,120 @@ reset_forgot b o t c h = grind arith
 
 -- what one packet does then
 pub record SentToOne (o : Option Sent) (k : Ports) (x : Location) : Type 0 where
-  pub place : place_on (after_sent o k) x ≡ option_map (place_after_sent o (deep_at false x.rest))
-      (place_on k x)
+  pub ports : after_sent o k ≡ changed_at (step_in o (deep_at false x.rest)) k x.row x.rest
   pub on : reach_on (after_sent o k) x ≡ true
   pub answer : answers_to o k ≡ answers_at o (deep_at false x.rest) (place_on k x)
   pub forgot : OthersForgot (after_sent o k) x
   pub others : (i : ℕ) (e : List ℕ) → (same_number i x.row && same_path e x.rest) ≡ false
       → state_at (after_sent o k) i e ≡ option_map (reset_if (sent_resets o k i e)) (state_at k i e)
 
-unsent : (x : Option Place) (d : Bool) → x ≡ option_map (place_after_sent None d) x
-unsent x d = grind arith
+pub sent_place : {o : Option Sent} {k : Ports} {x : Location} → SentToOne o k x
+    → place_on (after_sent o k) x ≡ option_map (step_in o (deep_at false x.rest)) (place_on k x)
+sent_place {o} {k} {x} z = ap (λ m. place_on m x) z.ports
+    ∙ place_at-changed _ k x.row x.rest
 
-pub sent_to_one : (o : Option Sent) (k : Ports) (x : Location) → reach_on k x ≡ true
-    → OthersForgot k x → OthersUncalled o k x → SentToOne o k x
-sent_to_one None k x on f c = grind (arith, reset_if-false, unsent)
-sent_to_one (Some q) k x on f c = record {
-  place = way_place q false k x.row x.rest way
-      ∙ ap (λ y. option_map (heard_place q (deep_at false x.rest) y) (place_on k x)) on;
-  on = way_reach q false k x.row x.rest way ∙ on;
-  answer = others_answer q false k x.row x.rest on rest;
-  forgot = λ i e t d h. reset_forgot (resets_at q false k i e) (state_at k i e) t (λ s. f i e s d)
-      (sym (others i e d) ∙ h);
+pub others_rest : (q : Sent) (k : Ports) (x : Location) → Alone (Some q) k x
+    → Others (Resting q) k x.row x.rest
+others_rest q k x h i e t d f on = (h.forgot i e t d f, h.uncalled q refl i e t d f on)
+
+pub sent_to_one : (o : Option Sent) (k : Ports) (x : Location) → Alone o k x → SentToOne o k x
+sent_to_one None k x h = record {
+  ports = sym (changed_at-same k x.row x.rest);
+  on = h.on;
+  answer = refl;
+  forgot = h.forgot;
+  others = λ i e d. reset_if-false (state_at k i e);
+}
+sent_to_one (Some q) k x h = record {
+  ports = lone.ports;
+  on = lone.on;
+  answer = lone.answer;
+  forgot = λ i e t d g. reset_forgot (resets_at q false k i e) (state_at k i e) t
+      (λ s. h.forgot i e s d) (sym (others i e d) ∙ g);
   others = others;
 }
   where
-    rest : OthersRest q k x.row x.rest
-    rest i e t d h g = (f i e t d h, c q refl i e t d h g)
-
-    way : way_rests q false k x.row x.rest ≡ true
-    way = others_way q false k x.row x.rest rest
+    lone : LonePacket q false k x.row x.rest
+    lone = lone_packet q false k x.row x.rest h.on (others_rest q k x h)
 
     others : (i : ℕ) (e : List ℕ) → (same_number i x.row && same_path e x.rest) ≡ false
         → state_at (after_packet q false k) i e ≡ option_map (reset_if (resets_at q false k i e))
         (state_at k i e)
-    others i e d = rest_state q false k i e (λ t. rest i e t d)
+    others i e d = rest_state q false k i e (λ t. others_rest q k x h i e t d)
 
-thrice : (f g h i : Place → Place) (o : Option Place)
-    → option_map f (option_map g (option_map h (option_map i o)))
-    ≡ option_map (λ x. f (g (h (i x)))) o
-thrice f g h i o = grind arith
+-- The packets of an attempt
+
+pub alone_holder : (n : ℕ) (t : Option Sent) → IfOut (IsTokenFor n) t → (k : Ports) (x : Location)
+    → IsSettled k → OneHolds n k x → Alone t k x
+alone_holder n t is k x s o = record {
+  on = o.on;
+  forgot = λ i e v w h. settled_memory k i e v s h;
+  uncalled = λ q eq i e v w h on. token_calls n q.content v (subst (IfOut (IsTokenFor n)) eq is)
+      (other_address n k x.row x.rest o i e v w h on);
+}
+
+pub alone_sent : (o : Option Sent) (k : Ports) (p : List ℕ) → AloneAt o k p
+    → AloneAt None (after_sent o k) p
+alone_sent o k [] h = tt
+alone_sent o k (zero ∷ p) h = h
+alone_sent o k (suc j ∷ p) h =
+    let x : _ = sent_to_one o k (record { row = j; rest = p }) h in
+    record {
+      on = x.on;
+      forgot = x.forgot;
+      uncalled = λ q e i x t d f on. false_true (ap is_some e);
+    }
+
+pub alone_data : (o : Option Sent) (k : Ports) (p : List ℕ) → AloneAt None k p → IfOut IsDataOut o
+    → AloneAt o k p
+alone_data o k p h is = grind arith
+
+pub alone_ack : (o : Option Sent) (k : Ports) (p : List ℕ) → AloneAt None k p → IfOut IsAckOut o
+    → AloneAt o k p
+alone_ack o k p h is = grind arith
+
+module _ (n : ℕ) (t d r : Option Sent) (is : IsAttemptAt n t d r) (k : Ports) (x : Location)
+    (one : Alone t k x) where
+  abbrev deep : Bool
+  deep = deep_at false x.rest
+
+  pub second_alone : Alone d (after_sent t k) x
+  second_alone = alone_data d (after_sent t k) (path_to x) (alone_sent t k (path_to x) one)
+      is.payload
+
+  pub third_alone : Alone r (after_sent d (after_sent t k)) x
+  third_alone = alone_ack r (after_sent d (after_sent t k)) (path_to x)
+      (alone_sent d (after_sent t k) (path_to x) second_alone) is.reply
+
+  pub last_alone : Alone None (after_sent r (after_sent d (after_sent t k))) x
+  last_alone = alone_sent r (after_sent d (after_sent t k)) (path_to x) third_alone
+
+  data_is : after_sent d (after_sent t k)
+      ≡ changed_at (λ y. step_in d deep (step_in t deep y)) k x.row x.rest
+  data_is = (sent_to_one d (after_sent t k) x second_alone).ports
+      ∙ ap (λ y. changed_at (step_in d deep) y x.row x.rest) (sent_to_one t k x one).ports
+      ∙ changed_at-twice (step_in d deep) (step_in t deep) k x.row x.rest
+
+  pub end_is : after_sent r (after_sent d (after_sent t k))
+      ≡ changed_at (λ y. step_in r deep (step_in d deep (step_in t deep y))) k x.row x.rest
+  end_is = (sent_to_one r (after_sent d (after_sent t k)) x third_alone).ports
+      ∙ ap (λ y. changed_at (step_in r deep) y x.row x.rest) data_is
+      ∙ changed_at-twice (step_in r deep) (λ y. step_in d deep (step_in t deep y)) k x.row x.rest
+
+  pub all_is : after_attempt t d r k ≡ changed_at (place_after t d r deep) k x.row x.rest
+  all_is = others_forget (after_sent r (after_sent d (after_sent t k))) x.row x.rest last_alone.on
+      last_alone.forgot ∙ ap (λ y. changed_at forgotten_in y x.row x.rest) end_is
+      ∙ changed_at-twice forgotten_in (λ y. step_in r deep (step_in d deep (step_in t deep y))) k
+      x.row x.rest
 
 pub one_device : (n : ℕ) (t d r : Option Sent) → IsAttemptAt n t d r → (k : Ports) (at : Location)
     → IsSettled k → OneHolds n k at → OneActs t d r k at
 unfolding reset_state
 one_device n t d r is k at s o = record {
   first = x.answer;
-  second = y.answer ∙ ap (answers_at d (deep_at false at.rest)) x.place;
-  place = forgotten_at (after_sent r (after_sent d (after_sent t k))) at.row at.rest
-      ∙ ap (option_map forgotten_place) (z.place
-      ∙ ap (option_map (place_after_sent r (deep_at false at.rest))) (y.place
-      ∙ ap (option_map (place_after_sent d (deep_at false at.rest))) x.place))
-      ∙ thrice forgotten_place (place_after_sent r (deep_at false at.rest))
-      (place_after_sent d (deep_at false at.rest)) (place_after_sent t (deep_at false at.rest))
-      (place_on k at);
+  second = y.answer ∙ ap (answers_at d (deep_at false at.rest)) (sent_place x);
+  place = ap (λ m. place_on m at) (all_is n t d r is k at one)
+      ∙ place_at-changed (place_after t d r (deep_at false at.rest)) k at.row at.rest;
   on = z.on;
   others = λ i e v w h.
       forgotten_state (after_sent r (after_sent d (after_sent t k))) i e
@@ -347,15 +391,14 @@ one_device n t d r is k at s o = record {
     forgot_reset true v m = refl
     forgot_reset false v m = ap (λ u. record v { memory = u }) (sym m)
 
+    one : Alone t k at
+    one = alone_holder n t is.token k at s o
+
     x : SentToOne t k at
-    x = sent_to_one t k at o.on (λ i e v w h. settled_memory k i e v s h)
-        (λ q eq i e v w h on. token_calls n q.content v (subst (IfOut (IsTokenFor n)) eq is.token)
-        (other_address n k at.row at.rest o i e v w h on))
+    x = sent_to_one t k at one
 
     y : SentToOne d (after_sent t k) at
-    y = sent_to_one d (after_sent t k) at x.on x.forgot
-        (λ q eq i e v w h on. payload_calls q.content v (subst (IfOut IsDataOut) eq is.payload))
+    y = sent_to_one d (after_sent t k) at (second_alone n t d r is k at one)
 
     z : SentToOne r (after_sent d (after_sent t k)) at
-    z = sent_to_one r (after_sent d (after_sent t k)) at y.on y.forgot
-        (λ q eq i e v w h on. ack_calls q.content v (subst (IfOut IsAckOut) eq is.reply))
+    z = sent_to_one r (after_sent d (after_sent t k)) at (third_alone n t d r is k at one)

@@ -1,7 +1,7 @@
 -- An attempt, where one reachable device holds its address or none does.
-use Rattle.std.proofs.Common.{arith, ◌≡◌, ℕ, ◌+◌, ◌&&◌, if◌then◌else◌, Bool, true, false, List, []}
-use Rattle.std.proofs.Common.{◌++◌, length, Option, None, Some, option_map, refl, ap, ap₂, sym}
-use Rattle.std.proofs.Common.{subst, ◌∙◌}
+use Rattle.std.proofs.Common.{append-nil, arith, ◌≡◌, ℕ, ◌+◌, ◌&&◌, if◌then◌else◌, Bool, true}
+use Rattle.std.proofs.Common.{false, List, [], ◌++◌, length, Option, None, Some, option_map, refl}
+use Rattle.std.proofs.Common.{ap, ap₂, sym, subst, ◌∙◌}
 use Rattle.arrayvec.specs.ArrayVec.{ArrayVec}
 use Rattle.usb_packet.specs.{Packet, Token, Toggle, Zero, TokenKind, OutTok, InTok, SetupTok}
 use Rattle.usb_packet.specs.declared.Packet.TheVariants as packet
@@ -10,29 +10,30 @@ use Rattle.usb_device.specs.{Answer, Sent, State, Reply, received, unread, forgo
 use Rattle.usb_device.specs.{data_row, Way, is_whole, through, heard, is_good, sends, acked}
 use Rattle.usb_device.specs.{setup_exchange, out_exchange, in_exchange, setup_law, out_law, in_law}
 use Rattle.usb_device.specs.{Ports, full, acted, row_of, state_at, place_at, state_on, answer_of}
-use Rattle.usb_device.specs.{effect_of, after_packet, listed, held_addresses, repeats}
-use Rattle.usb_device.specs.{forgotten_place}
+use Rattle.usb_device.specs.{effect_of, listed, held_addresses, repeats, Effect, Leaves}
+use Rattle.usb_device.specs.{forgotten_in}
 use Rattle.usb_device.specs.declared.answer.Answer.TheVariants as answer
 use Rattle.usb_device.specs.declared.transfer.RememberedPacket.TheVariants as memory
 use Rattle.usb_request.specs.{setup_of}
 use Rattle.usb_device.specs.Attempt.{whole}
-use Rattle.usb_device.proofs.Interface.{in_is, keeps-received, out_is, row_of-after, setup_is}
-use Rattle.usb_world.specs.{Attempt, Damage, ExchangeAnswer, Mark, is_read, mark_of, harm_to}
-use Rattle.usb_world.specs.{marked, marked_some, token_of, payload_of, reply_of, outcome_of}
-use Rattle.usb_world.specs.{sent_as, goes_out, heard_all, token_out, payload_out, reply_out}
-use Rattle.usb_world.specs.{heard_in, mark_in, place_of_answer, ports_in, way_to, way_back, got}
-use Rattle.usb_world.specs.{token_way, payload_way, answer_way, reply_way, out_alone, in_alone}
-use Rattle.usb_world.specs.{IsSetup, IsOut, IsIn}
+use Rattle.usb_device.proofs.Interface.{in_is, keeps-received, out_is, setup_is}
+use Rattle.usb_world.specs.{Attempt, Damage, ExchangeAnswer, Mark, is_read, marked, marked_some}
+use Rattle.usb_world.specs.{token_of, payload_of, reply_of, outcome_of, sent_as, goes_out}
+use Rattle.usb_world.specs.{heard_all, token_out, payload_out, reply_out, heard_in, mark_in}
+use Rattle.usb_world.specs.{place_of_answer, ports_in, way_to, way_back, got, token_way}
+use Rattle.usb_world.specs.{payload_way, answer_way, reply_way, out_alone, in_alone, IsSetup, IsOut}
+use Rattle.usb_world.specs.{IsIn}
 use Rattle.usb_world.specs.declared.types.Outcome.TheVariants as outcome
 use Rattle.usb_world.specs.declared.exchange.ExchangeAnswer.TheVariants.{Nothing}
 use Rattle.usb_tree.specs.{address_of, after_sent, answers_to, heard_by, deep_at, IsSettled}
 use Rattle.usb_tree.specs.{NobodyHolds, OneHolds, Found}
 use Rattle.usb_world.proofs.packets.AttemptPackets.{CalmOut, token_out as token_calm}
-use Rattle.usb_world.proofs.holders.OneDevice.{settled_memory, nobody_answers, one_device, stands}
-use Rattle.usb_world.proofs.holders.OneDevice.{state_stands, append_nil, answers_at, place_after}
-use Rattle.usb_world.proofs.holders.OneDevice.{OneActs}
+use Rattle.usb_world.proofs.packets.AttemptPackets.{ack_out as ack_calm}
+use Rattle.std.proofs.lemmas.Option.{same_Some}
+use Rattle.usb_world.proofs.holders.OneDevice.{settled_memory, nobody_answers, one_device}
+use Rattle.usb_world.proofs.holders.OneDevice.{answers_at, place_after, OneActs, step_in}
+use Rattle.usb_world.proofs.packets.PacketEffects.{stands, state_stands}
 use Rattle.usb_world.proofs.courses.Courses.{goes}
-use Rattle.usb_world.proofs.packets.PacketPlaces.{place_after_sent}
 
 -- what a device that stands deep or not, with these ports, makes of an attempt with it alone
 abbrev pub setup_alone : Attempt → Option Damage → Ports → Bool → State → List PortState → List ℕ
@@ -80,13 +81,18 @@ nobody a d k s n =
 
 -- One packet at the device that it is for
 
+-- what it asks of its ports
+abbrev pub asked_of : Option Sent → Bool → State → Effect
+asked_of None deep s = Leaves
+asked_of (Some q) deep s = effect_of q deep s
+
 module _ (deep : Bool) (b : PortState) where
   -- its ports after the packet
   abbrev pub ports_by : Option Sent → State → Ports → Ports
   ports_by None s a = a
-  ports_by (Some q) s a = acted (effect_of q deep s) (after_packet q true a)
+  ports_by (Some q) s a = acted (effect_of q deep s) a
 
-  pub sent_stands : (o : Option Sent) (s : State) (a : Ports) → place_after_sent o deep (full b s a)
+  pub sent_stands : (o : Option Sent) (s : State) (a : Ports) → step_in o deep (full b s a)
       ≡ full b (heard_by o deep s (row_of a)).1 (ports_by o s a)
   unfolding answer_of
   sent_stands o s a = grind arith
@@ -96,9 +102,12 @@ module _ (deep : Bool) (b : PortState) where
   unfolding answer_of
   told_stands o s a = grind arith
 
-  calm_row : (o : Option Sent) → CalmOut o → (s : State) (a : Ports)
-      → row_of (ports_by o s a) ≡ row_of a
-  calm_row o c s a = grind (arith, row_of-after)
+  calm_ports : (o : Option Sent) → CalmOut o → (s : State) (a : Ports) → ports_by o s a ≡ a
+  calm_ports o c s a = grind arith
+
+  asked_ports : (o : Option Sent) (s : State) (a : Ports)
+      → ports_by o s a ≡ acted (asked_of o deep s) a
+  asked_ports o s a = grind arith
 
 comes : (l pre : Bool) (m : Mark) (p : Packet) (deep : Bool) (s : State) (row : List PortState)
     → heard_by (sent_as l pre m p) deep s row ≡ through (way_to deep s (sent_as l pre m p)) s row p
@@ -113,7 +122,7 @@ some_comes : (a : Attempt) (d : Option Damage) (n : ℕ) (p : Packet) (deep : Bo
     (row : List PortState) → heard_by (goes_out a (marked_some d n a.pre (Some p))) deep s row
     ≡ through (way_to deep s (goes_out a (marked_some d n a.pre (Some p)))) s row p
 unfolding marked marked_some
-some_comes a d n p deep s row = comes a.low a.pre (mark_of (harm_to d n) a.pre p) p deep s row
+some_comes a d n p deep s row = comes a.low a.pre _ p deep s row
 
 payload_comes : (a : Attempt) (d : Option Damage) (p : Packet) → payload_of a ≡ Some p
     → (deep : Bool) (s : State) (row : List PortState)
@@ -154,7 +163,7 @@ unfolding reply_of is_read
 reply_told o m max = grind arith
 
 -- the answer is no data
-abbrev gives_no_data : Option Answer → Bool
+abbrev pub gives_no_data : Option Answer → Bool
 gives_no_data (Some (answer.Data t bytes)) = false
 gives_no_data o = true
 
@@ -194,8 +203,8 @@ module _ (a : Attempt) (d : Option Damage) (k : Ports) (h : Holder a.addr k) whe
   abbrev pub first_below : Ports
   first_below = ports_by is_deep b (token_out a d) s below
 
-  first_row : row_of first_below ≡ own_row
-  first_row = calm_row is_deep b (token_out a d)
+  first_same : first_below ≡ below
+  first_same = calm_ports is_deep b (token_out a d)
       (token_calm a.addr (token_out a d) (goes a d k).token) s below
 
   abbrev pub second : Reply
@@ -207,40 +216,58 @@ module _ (a : Attempt) (d : Option Damage) (k : Ports) (h : Holder a.addr k) whe
   abbrev pub third : Reply
   third = heard_by (reply_out a d k) is_deep second.1 (row_of second_below)
 
-  first_place : option_map (place_after_sent (token_out a d) is_deep) (place_at k j p)
-      ≡ Some (full b first.1 first_below)
-  first_place = grind (arith, place_after_sent, sent_stands, stands)
+  abbrev third_below : Ports
+  third_below = ports_by is_deep b (reply_out a d k) second.1 second_below
 
-  pub second_place : place_after_sent (payload_out a d) is_deep (full b first.1 first_below)
+  first_place : option_map (step_in (token_out a d) is_deep) (place_at k j p)
+      ≡ Some (full b first.1 first_below)
+  first_place = ap (option_map (step_in (token_out a d) is_deep)) h.stands
+      ∙ ap (λ x. Some x) (sent_stands is_deep b (token_out a d) s below)
+
+  second_place : step_in (payload_out a d) is_deep (full b first.1 first_below)
       ≡ full b second.1 second_below
-  second_place = grind (arith, first_row, sent_stands)
+  second_place = sent_stands is_deep b (payload_out a d) first.1 first_below
+      ∙ ap (λ x. full b (heard_by (payload_out a d) is_deep first.1 (row_of x)).1 second_below)
+      first_same
 
   first_told : answers_to (token_out a d) k ≡ listed first.0 []
-  first_told = acts.first ∙ ap (answers_at (token_out a d) is_deep) h.stands
-      ∙ told_stands is_deep b (token_out a d) s below
+  first_told =
+      grind (arith, acts, told_stands)
 
   second_told : answers_to (payload_out a d) (after_sent (token_out a d) k) ≡ listed second.0 []
-  second_told = acts.second ∙ ap (answers_at (payload_out a d) is_deep) first_place
-      ∙ told_stands is_deep b (payload_out a d) first.1 first_below
-      ∙ ap (λ r. listed (heard_by (payload_out a d) is_deep first.1 r).0 []) first_row
+  second_told =
+      grind (arith, acts, first_place, first_same, told_stands)
 
   pub is_heard_in : heard_in a d k ≡ heard_all (listed first.0 [] ++ listed second.0 [])
   is_heard_in = ap₂ (λ x y. heard_all (x ++ y)) first_told second_told
 
-  pub is_state : state_at (ports_in a d k) j p ≡ Some (forgotten third.1)
+  is_place : place_at (ports_in a d k) j p ≡ Some (full b (forgotten third.1) third_below)
   unfolding ports_in
-  is_state =
-      sym (state_stands (ports_in a d k) j p)
-      ∙ ap stands (acts.place ∙ ap (option_map
-      (place_after (token_out a d) (payload_out a d) (reply_out a d k) is_deep)) h.stands)
-      ∙ ap (λ x. stands (Some (forgotten_place
-      (place_after_sent (reply_out a d k) is_deep
-      (place_after_sent (payload_out a d) is_deep x)))))
-      (sent_stands is_deep b (token_out a d) s below)
-      ∙ ap (λ x. stands (Some (forgotten_place (place_after_sent (reply_out a d k) is_deep x))))
-      second_place
-      ∙ ap (λ x. stands (Some (forgotten_place x)))
+  is_place =
+      acts.place ∙ ap (option_map
+      (place_after (token_out a d) (payload_out a d) (reply_out a d k) is_deep)) h.stands
+      ∙ ap (λ x. Some (forgotten_in (step_in (reply_out a d k) is_deep
+      (step_in (payload_out a d) is_deep x)))) (sent_stands is_deep b (token_out a d) s below)
+      ∙ ap (λ x. Some (forgotten_in (step_in (reply_out a d k) is_deep x))) second_place
+      ∙ ap (λ x. Some (forgotten_in x))
       (sent_stands is_deep b (reply_out a d k) second.1 second_below)
+
+  pub is_state : state_at (ports_in a d k) j p ≡ Some (forgotten third.1)
+  is_state = sym (state_stands (ports_in a d k) j p) ∙ ap stands is_place
+
+  -- what the holder asks of its ports, which stay but for that
+  abbrev pub effect : Effect
+  effect = asked_of (payload_out a d) is_deep first.1
+
+  below_then : third_below ≡ acted effect below
+  below_then = calm_ports is_deep b (reply_out a d k)
+      (ack_calm (reply_out a d k) (goes a d k).reply) second.1 second_below
+      ∙ asked_ports is_deep b (payload_out a d) first.1 first_below ∙ ap (acted effect) first_same
+
+  pub placed : (r : Reply) → ExchangedWithHolder a d k h r → place_at (ports_in a d k) j p
+      ≡ Some (full b r.1 (acted effect below))
+  placed r x = is_place ∙ ap₂ (λ u y. Some (full b u y))
+      (same_Some (forgotten third.1) r.1 (sym is_state ∙ x.state)) below_then
 
   -- SETUP and OUT: the token T is not answered, and X is not answered by data
   module _ (T X : Packet) (token_is : token_of a ≡ T) (payload_is : payload_of a ≡ Some X)
@@ -260,7 +287,7 @@ module _ (a : Attempt) (d : Option Damage) (k : Ports) (h : Holder a.addr k) whe
         ∙ payload_comes a d X payload_is is_deep to_token.1 own_row
         ∙ ap (λ w. through w to_token.1 own_row X)
         (way_same is_deep (payload_out a d) s to_token.1
-        (through_spec (token_way a d is_deep s) s own_row T))
+        (through_spec _ s own_row T))
 
     pub sent_heard : heard_in a d k ≡ heard_all (listed to_data.0 [])
     sent_heard = grind (arith, first_sent, is_heard_in, second_sent)
@@ -294,10 +321,10 @@ module _ (a : Attempt) (d : Option Damage) (k : Ports) (h : Holder a.addr k) whe
     second_asked = ap₂ (λ o r. heard_by o is_deep r.1 own_row) (no_payload a d none) first_asked
 
     below_asked : row_of second_below ≡ own_row
-    below_asked = grind (arith, first_row, no_payload)
+    below_asked = grind (arith, first_same, no_payload)
 
     pub asked_heard : heard_in a d k ≡ heard_all (listed to_in.0 [])
-    asked_heard = grind (arith, append_nil, first_asked, is_heard_in, second_asked)
+    asked_heard = grind (arith, append-nil {A = Answer}, first_asked, is_heard_in, second_asked)
 
     pub asked_reply : reply_of (heard_in a d k) (mark_in a d k) a.max
         ≡ (if good then Some packet.Ack else None)
@@ -350,11 +377,11 @@ out_quiet s row n e w = grind arith
 
 -- setup data and OUT data are not answered by data
 
-if_no_data : (x : Bool) (r q : Reply) → gives_no_data r.0 ≡ true → gives_no_data q.0 ≡ true
+pub if_no_data : (x : Bool) (r q : Reply) → gives_no_data r.0 ≡ true → gives_no_data q.0 ≡ true
     → gives_no_data (if x then r else q).0 ≡ true
 if_no_data x r q h g = grind arith
 
-data_no_data : (s : State) (e : ℕ) (t : Toggle) (bytes : List ℕ)
+pub data_no_data : (s : State) (e : ℕ) (t : Toggle) (bytes : List ℕ)
     → gives_no_data (data_row s e t bytes).0 ≡ true
 data_no_data s e t bytes = grind arith
 
@@ -409,15 +436,12 @@ module _ (a : Attempt) (d : Option Damage) (k : Ports) (h : Holder a.addr k) whe
         → ExchangedWithHolder a d k h (out_alone a d k (deep_at false p) s t bytes)
     out_one t bytes i =
         subst (ExchangedWithHolder a d k h) (out_same a.ep t bytes t1 t2 t3)
-        (sent a d k h (Token OutTok s.registers.address a.ep)
-        (packet.Payload t (record { items = bytes }))
+        (sent a d k h _ (packet.Payload t (record { items = bytes }))
         (token_of-fields a OutTok s.registers.address a.ep i.kind (sym h.at) refl)
         (data_is a t (record { items = bytes }) i.payload)
         (out_quiet s (row_of below) s.registers.address a.ep)
         (ap (λ r. gives_no_data r.0) (out_same a.ep t bytes t1 t2 whole)
-        ∙ if_no_data (is_whole t1 && is_whole t2)
-        (replied (data_row s a.ep t bytes).0 (forgotten (data_row s a.ep t bytes).1))
-        (replied None s) (data_no_data s a.ep t bytes) refl))
+        ∙ if_no_data _ _ (replied None s) (data_no_data s a.ep t bytes) refl))
 
     pub in_one : IsIn a → ExchangedWithHolder a d k h
         (in_alone a d k (deep_at false p) s (row_of below))
@@ -426,32 +450,3 @@ module _ (a : Attempt) (d : Option Damage) (k : Ports) (h : Holder a.addr k) whe
         (asked a d k h (Token InTok s.registers.address a.ep)
         (token_of-fields a InTok s.registers.address a.ep i.kind (sym h.at) refl)
         (none_is a i.payload))
-
-    -- what is heard of the device
-    pub setup_heard : (bytes : List ℕ) → IsSetup a bytes
-        → heard_in a d k ≡ heard_all (listed (setup_law s (row_of below) bytes t1 t2 whole).0 [])
-    setup_heard bytes i =
-        sent_heard a d k h (Token SetupTok s.registers.address 0)
-        (packet.Payload Zero (record { items = bytes }))
-        (token_of-fields a SetupTok s.registers.address 0 i.kind (sym h.at) i.ep)
-        (data_is a Zero (record { items = bytes }) i.payload)
-        (setup_quiet s (row_of below) s.registers.address 0)
-        ∙ ap (λ r. heard_all (listed r.0 [])) (setup_same bytes i.whole t1 t2 whole)
-
-    pub out_heard : (t : Toggle) (bytes : List ℕ) → IsOut a t bytes
-        → heard_in a d k ≡ heard_all (listed (out_law s a.ep t bytes t1 t2 whole).0 [])
-    out_heard t bytes i =
-        sent_heard a d k h (Token OutTok s.registers.address a.ep)
-        (packet.Payload t (record { items = bytes }))
-        (token_of-fields a OutTok s.registers.address a.ep i.kind (sym h.at) refl)
-        (data_is a t (record { items = bytes }) i.payload)
-        (out_quiet s (row_of below) s.registers.address a.ep)
-        ∙ ap (λ r. heard_all (listed r.0 [])) (out_same a.ep t bytes t1 t2 whole)
-
-    pub in_heard : IsIn a → heard_in a d k
-        ≡ heard_all (listed (in_law s (row_of below) a.ep a.max t1 whole whole).0 [])
-    in_heard i =
-        asked_heard a d k h (Token InTok s.registers.address a.ep)
-        (token_of-fields a InTok s.registers.address a.ep i.kind (sym h.at) refl)
-        (none_is a i.payload)
-        ∙ ap (λ r. heard_all (listed r.0 [])) (in_same a.ep a.max t1 whole whole)

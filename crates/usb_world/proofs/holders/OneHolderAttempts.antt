@@ -1,24 +1,25 @@
 -- A silent holder, attempts without damage, and the attempts of a world.
-use Rattle.std.proofs.Common.{arith, ◌≡◌, ℕ, suc, ◌+◌, ◌&&◌, if◌then◌else◌, Bool, true, false}
-use Rattle.std.proofs.Common.{List, [], ◌∷◌, ◌++◌, Option, None, Some, is_some, refl, ap, ap₂, sym}
-use Rattle.std.proofs.Common.{subst, ◌∙◌}
+use Rattle.usb_device.specs.{setup_law, Content, Sent, State, Reply, forgotten, accepted, Way, lost}
+use Rattle.usb_device.specs.{heard, is_good, acked, in_law, Ports, row_of, state_at, state_on}
+use Rattle.usb_device.specs.{reply_to, listed, held_addresses, repeats}
+use Rattle.std.proofs.Common.{inl, inr, arith, ◌≡◌, ℕ, suc, ◌+◌, ◌&&◌, if◌then◌else◌, Bool, true}
+use Rattle.std.proofs.Common.{false, List, [], ◌∷◌, ◌++◌, Option, None, Some, is_some, refl, ap}
+use Rattle.std.proofs.Common.{ap₂, sym, subst, ◌∙◌}
+use Rattle.usb_tree.proofs.Interface.{decided, unequal, same_equal}
 use Rattle.usb_packet.specs.{Packet, Token, Toggle, InTok}
 use Rattle.usb_packet.specs.declared.Packet.TheVariants as packet
 use Rattle.usb_port.specs.{PortState}
 use Rattle.usb_request.specs.{setup_of}
 use Rattle.usb_device.specs.declared.answer.Answer.TheVariants as answer
-use Rattle.usb_device.specs.{Content, Sent, State, Reply, forgotten, accepted, data_row, Way, lost}
-use Rattle.usb_device.specs.{through, heard, is_good, acked, setup_law, out_law, in_law, Ports}
-use Rattle.usb_device.specs.{row_of, state_at, state_on, reply_to, listed, held_addresses, repeats}
 use Rattle.usb_device.specs.Attempt.{whole}
 use Rattle.usb_device.proofs.Interface.{silent-stays, silent-unread}
 use Rattle.usb_world.specs.{Attempt, Limit, Damage, ExchangeAnswer, mark_of, harm_to, marked}
-use Rattle.usb_world.specs.{marked_some, token_of, payload_of, reply_of, answer_mark, goes_out}
-use Rattle.usb_world.specs.{heard_all, token_out, payload_out, heard_in, mark_in, place_of_answer}
-use Rattle.usb_world.specs.{ports_in, reply_in, World, Made, is_made, resets, AnyStep, at_attempt}
-use Rattle.usb_world.specs.{damage_in, with_attempt, outcome_in, attempt, after, way_to, token_way}
-use Rattle.usb_world.specs.{answer_way, reply_way, out_alone, in_alone, IsSetup, IsOut, IsIn}
-use Rattle.usb_world.specs.{hears_attempt, IsMade, HolderIn, payload_way, got}
+use Rattle.usb_world.specs.{marked_some, token_of, payload_of, answer_mark, goes_out, heard_all}
+use Rattle.usb_world.specs.{token_out, payload_out, heard_in, mark_in, place_of_answer, ports_in}
+use Rattle.usb_world.specs.{reply_in, World, Made, is_made, resets, AnyStep, at_attempt, damage_in}
+use Rattle.usb_world.specs.{with_attempt, outcome_in, attempt, after, way_to, token_way, answer_way}
+use Rattle.usb_world.specs.{reply_way, out_alone, in_alone, IsSetup, IsOut, IsIn, hears_attempt}
+use Rattle.usb_world.specs.{IsMade, HolderIn, payload_way, got}
 use Rattle.usb_world.specs.declared.types.Outcome.TheVariants as outcome
 use Rattle.usb_world.specs.declared.wire.Mark.TheVariants as mark
 use Rattle.usb_tree.specs.{same_number, same_path, reset_if, heard_by, deep_at, attempt_resets}
@@ -28,9 +29,8 @@ use Rattle.usb_world.proofs.courses.LiftedSteps.{over_ready}
 use Rattle.usb_world.proofs.holders.OneHolder.{replied, outcome_unread, remembers, acts, rests}
 use Rattle.usb_world.proofs.holders.OneHolder.{first, second, third, second_below, is_heard_in}
 use Rattle.usb_world.proofs.holders.OneHolder.{is_state, token_of-fields, none_is, in_same, asked}
-use Rattle.usb_world.proofs.holders.OneHolder.{asked_reply, nobody, setup_one, out_one, in_one}
-use Rattle.usb_world.proofs.holders.OneHolder.{setup_alone, Holder, ExchangedWithHolder}
-use Rattle.usb_tree.proofs.Interface.{unequal, same_equal}
+use Rattle.usb_world.proofs.holders.OneHolder.{good, asked_reply, nobody, setup_one, out_one}
+use Rattle.usb_world.proofs.holders.OneHolder.{in_one, setup_alone, Holder, ExchangedWithHolder}
 use Rattle.usb_world.proofs.events.DueEvents.{ready_beside}
 
 -- each packet of an attempt that goes out comes whole
@@ -101,14 +101,14 @@ payload_some : (a : Attempt) → is_some a.payload ≡ true → is_some (payload
 unfolding payload_of
 payload_some a g = grind arith
 
-sound_answer : (n : ℕ) (h : ExchangeAnswer) → answer_mark (harm_to None n) h ≡ mark.Whole
+pub sound_answer : (n : ℕ) (h : ExchangeAnswer) → answer_mark (harm_to None n) h ≡ mark.Whole
 unfolding answer_mark mark_of harm_to
 sound_answer n h = grind arith
 
-marked_is : (n : ℕ) (pre : Bool) (o : Option Packet) → is_some (marked_some None n pre o)
-    ≡ is_some o
+marked_is : (d : Option Damage) (n : ℕ) (pre : Bool) (o : Option Packet)
+    → is_some (marked_some d n pre o) ≡ is_some o
 unfolding marked_some
-marked_is n pre o = grind arith
+marked_is d n pre o = grind arith
 
 pub undamaged : (a : Attempt) (k : Ports) (deep : Bool) (s : State) → hears_attempt a deep s ≡ true
     → AllWhole a None k deep s
@@ -116,10 +116,44 @@ undamaged a k deep s h =
     grind (arith, marked_is, payload_some, sound_answer, sound_packet, sound_some)
 
 -- the host's ACK does not matter where it does not go out
-ack_whole : (row : List PortState) (max : ℕ) (t2 t3 : Way) (r : Reply)
-    → (is_good max (heard t2 r.0) ≡ true → t3 ≡ whole)
-    → acked row max t2 t3 r ≡ acked row max t2 whole r
-ack_whole row max t2 t3 r c = grind arith
+ack_gone : (row : List PortState) (max : ℕ) (t2 t3 : Way) (r : Reply)
+    → acked row max t2 t3 r
+    ≡ acked row max t2 (if is_good max (heard t2 r.0) then t3 else whole) r
+ack_gone row max t2 t3 r = grind arith
+
+-- IN, with the way of the host's ACK where that goes out
+module _ (a : Attempt) (d : Option Damage) (k : Ports) (h : Holder a.addr k) (into : IsIn a) where
+  open h use {spot.{row as j, rest as p}, own as s, below}
+
+  abbrev pub token : Packet
+  token = Token InTok s.registers.address a.ep
+
+  pub of_token : token_of a ≡ token
+  of_token = token_of-fields a InTok _ a.ep into.kind (sym h.at) refl
+
+  abbrev pub goes_back : Bool
+  goes_back = good a d k h token of_token (none_is a into.payload)
+
+  abbrev pub reply_gone : Way
+  reply_gone = if goes_back then reply_way a d k (deep_at false p) s else whole
+
+  in_gone : s.spec.silent ≡ false → ExchangedWithHolder a d k h
+      (in_law s (row_of below) a.ep a.max (token_way a d (deep_at false p) s) (answer_way a d k)
+      reply_gone)
+  in_gone loud =
+      subst (ExchangedWithHolder a d k h)
+      (ack_gone (row_of below) a.max (answer_way a d k) _ _
+      ∙ in_same a d k h loud a.ep a.max _ (answer_way a d k)
+      reply_gone)
+      (asked a d k h token of_token (none_is a into.payload))
+
+  pub gone_whole : AllWhole a d k (deep_at false p) s → reply_gone ≡ whole
+  gone_whole ways = elim (decided goes_back) [
+    | inl e ↦ rw e (ways.reply (marked_is d (place_of_answer a d + 1) a.pre _
+        ∙ ap is_some (asked_reply a d k h token of_token (none_is a into.payload))
+        ∙ ap (λ x. is_some (if x then Some packet.Ack else None)) e))
+    | inr e ↦ rw e refl
+  ]
 
 module _ (a : Attempt) (k : Ports) (h : Holder a.addr k) (loud : h.own.spec.silent ≡ false)
     (hears_it : hears_attempt a (deep_at false h.spot.rest) h.own ≡ true) where
@@ -136,48 +170,6 @@ module _ (a : Attempt) (k : Ports) (h : Holder a.addr k) (loud : h.own.spec.sile
       (ways.payload (ap is_some i.payload))
       ∙ ap (setup_law s (row_of below) bytes whole whole) ways.answer)
       (setup_one a None k h loud bytes i)
-
-  pub out_sound : (t : Toggle) (bytes : List ℕ) → IsOut a t bytes → ExchangedWithHolder a None k h (
-    (data_row s a.ep t bytes).0,
-    forgotten (data_row s a.ep t bytes).1,
-  )
-  out_sound t bytes i =
-      subst (ExchangedWithHolder a None k h)
-      (ap₂ (λ x y. out_law s a.ep t bytes x y (answer_way a None k)) ways.token
-      (ways.payload (ap is_some i.payload))
-      ∙ ap (out_law s a.ep t bytes whole whole) ways.answer)
-      (out_one a None k h loud t bytes i)
-
-  pub in_sound : IsIn a → ExchangedWithHolder a None k h
-      (in_law s (row_of below) a.ep a.max whole whole whole)
-  in_sound i =
-      subst (ExchangedWithHolder a None k h)
-      (ack_whole (row_of below) a.max (answer_way a None k) (reply_way a None k (deep_at false p) s)
-      own ack_due
-      ∙ ap₂ (λ x y. acked (row_of below) a.max y whole
-      (through x s (row_of below) (Token InTok s.registers.address a.ep))) ways.token
-      ways.answer
-      ∙ in_same a None k h loud a.ep a.max whole whole whole)
-      (asked a None k h (Token InTok s.registers.address a.ep) of_token (none_is a i.payload))
-    where
-      own : Reply
-      own = through (token_way a None (deep_at false p) s) s (row_of below)
-          (Token InTok s.registers.address a.ep)
-
-      of_token : token_of a ≡ Token InTok s.registers.address a.ep
-      of_token = token_of-fields a InTok s.registers.address a.ep i.kind (sym h.at) refl
-
-      due_of : (g : Bool) → g ≡ true → is_some (if g then Some packet.Ack else None) ≡ true
-      due_of true c = refl
-      due_of false c = c
-
-      ack_due : is_good a.max (heard (answer_way a None k) own.0) ≡ true
-          → reply_way a None k (deep_at false p) s ≡ whole
-      ack_due g = ways.reply (marked_is (place_of_answer a None + 1) a.pre
-          (reply_of (heard_in a None k) (mark_in a None k) a.max)
-          ∙ ap is_some (asked_reply a None k h (Token InTok s.registers.address a.ep) of_token
-          (none_is a i.payload))
-          ∙ due_of (is_good a.max (heard (answer_way a None k) own.0)) g)
 
 -- Worlds
 
@@ -213,7 +205,7 @@ pub nobody_in : (a : Attempt) (w : World) → IsMade a w → NobodyHolds a.addr 
     → (outcome_in a w ≡ outcome.Nothing) × ((after (attempt a) w).roots ≡ (at_attempt w).roots)
 unfolding outcome_in with_attempt
 nobody_in a w m n =
-    let r : _ = nobody a (damage_in (at_attempt w)) (at_attempt w).roots (ready_settled w m.settled)
+    let r : _ = nobody a _ (at_attempt w).roots (ready_settled w m.settled)
     n in
     (r.0, ap (λ v. v.roots) (made_is a w m) ∙ r.1)
 
@@ -239,30 +231,28 @@ module _ (a : Attempt) (w : World) (h : HolderIn a w) where
   pub setup_in : s.spec.silent ≡ false → (bytes : List ℕ) → IsSetup a bytes
       → ExchangedIn a w h (setup_alone a (damage_in (at_attempt w)) (at_attempt w).roots
       (deep_at false p) s (row_of below) bytes)
-  setup_in loud bytes i =
-      exchanged_in (setup_alone a (damage_in (at_attempt w)) (at_attempt w).roots (deep_at false p)
-      s (row_of below) bytes)
-      (setup_one a (damage_in (at_attempt w)) (at_attempt w).roots holder_in loud bytes i)
+  setup_in loud bytes i = exchanged_in _ (setup_one a _ _ holder_in loud bytes i)
 
   pub out_in : s.spec.silent ≡ false → (t : Toggle) (bytes : List ℕ) → IsOut a t bytes
       → ExchangedIn a w h (out_alone a (damage_in (at_attempt w)) (at_attempt w).roots
       (deep_at false p) s t bytes)
-  out_in loud t bytes i =
-      exchanged_in (out_alone a (damage_in (at_attempt w)) (at_attempt w).roots (deep_at false p) s
-      t bytes)
-      (out_one a (damage_in (at_attempt w)) (at_attempt w).roots holder_in loud t bytes i)
+  out_in loud t bytes i = exchanged_in _ (out_one a _ _ holder_in loud t bytes i)
 
   pub in_in : s.spec.silent ≡ false → IsIn a
       → ExchangedIn a w h (in_alone a (damage_in (at_attempt w)) (at_attempt w).roots
       (deep_at false p) s (row_of below))
-  in_in loud i =
-      exchanged_in (in_alone a (damage_in (at_attempt w)) (at_attempt w).roots (deep_at false p) s
-      (row_of below))
-      (in_one a (damage_in (at_attempt w)) (at_attempt w).roots holder_in loud i)
+  in_in loud i = exchanged_in _ (in_one a _ _ holder_in loud i)
+
+  -- IN, where the way of the host's ACK is whole if it does not go out
+  pub in_gone_in : s.spec.silent ≡ false → (into : IsIn a) → ExchangedIn a w h
+      (in_law s (row_of below) a.ep a.max
+      (token_way a (damage_in (at_attempt w)) (deep_at false p) s)
+      (answer_way a (damage_in (at_attempt w)) (at_attempt w).roots)
+      (reply_gone a (damage_in (at_attempt w)) (at_attempt w).roots holder_in into))
+  in_gone_in loud into = exchanged_in _ (in_gone a _ _ holder_in into loud)
 
   pub silent_in : s.spec.silent ≡ true → ExchangedIn a w h (None, s)
-  silent_in silent = exchanged_in (None, s)
-      (silent_one a (damage_in (at_attempt w)) (at_attempt w).roots holder_in silent)
+  silent_in silent = exchanged_in _ (silent_one a _ _ holder_in silent)
 
   pub others_in : (i : ℕ) (e : List ℕ) (v : State) → (same_number i j && same_path e p) ≡ false
       → state_at (at_attempt w).roots i e ≡ Some v → state_at (after (attempt a) w).roots i e
@@ -288,14 +278,3 @@ module _ (a : Attempt) (w : World) (h : HolderIn a w) where
       Some answer.Ack,
       accepted s (row_of below) (setup_of bytes),
     ) (setup_sound a (at_attempt w).roots holder_in loud hears_it bytes i)
-
-    pub out_sound_in : (t : Toggle) (bytes : List ℕ) → IsOut a t bytes
-        → ExchangedIn a w h ((data_row s a.ep t bytes).0, forgotten (data_row s a.ep t bytes).1)
-    out_sound_in t bytes i =
-        undamaged_in ((data_row s a.ep t bytes).0, forgotten (data_row s a.ep t bytes).1)
-        (out_sound a (at_attempt w).roots holder_in loud hears_it t bytes i)
-
-    pub in_sound_in : IsIn a → ExchangedIn a w h
-        (in_law s (row_of below) a.ep a.max whole whole whole)
-    in_sound_in i = undamaged_in (in_law s (row_of below) a.ep a.max whole whole whole)
-        (in_sound a (at_attempt w).roots holder_in loud hears_it i)

@@ -5,10 +5,9 @@ use Rattle.std.proofs.Common.{◌∙◌}
 use Rattle.std.proofs.lemmas.Option.{same_Some}
 use Rattle.usb_device.specs.{State, Ports, reach_at, state_at, Location, path_to, reach_on}
 use Rattle.usb_device.specs.{state_on, held_addresses, repeats}
-use Rattle.usb_world.specs.{Attempt, Damage, token_out, payload_out, reply_out, ports_in, World}
-use Rattle.usb_world.specs.{at_attempt, damage_in, with_attempt, attempt, after, IsMade, HolderIn}
-use Rattle.usb_world.specs.{is_setup}
-use Rattle.usb_tree.specs.{after_sent, address_of}
+use Rattle.usb_world.specs.{Attempt, Damage, ports_in, World, at_attempt, with_attempt, attempt}
+use Rattle.usb_world.specs.{after, IsMade, HolderIn, is_setup}
+use Rattle.usb_tree.specs.{address_of}
 use Rattle.usb_world.proofs.addresses.AddressesInTransfers.{data_calm}
 use Rattle.usb_world.proofs.addresses.AddressesKept.{ready_stood}
 use Rattle.usb_world.proofs.packets.AttemptPackets.{forgotten_ports}
@@ -22,8 +21,7 @@ pub stays_reachable : (a : Attempt) (d : Option Damage) (k : Ports) (h : Holder 
     → reach_on (ports_in a d k) h.spot ≡ true
 unfolding ports_in
 stays_reachable a d k h =
-    (forgotten_ports (after_sent (reply_out a d k)
-    (after_sent (payload_out a d) (after_sent (token_out a d) k))) h.spot.row h.spot.rest).0
+    (forgotten_ports _ h.spot.row h.spot.rest).0
     ∙ (acts a d k h).on
 
 pub stays_reachable_in : (a : Attempt) (w : World) (h : HolderIn a w)
@@ -31,7 +29,7 @@ pub stays_reachable_in : (a : Attempt) (w : World) (h : HolderIn a w)
 unfolding with_attempt
 stays_reachable_in a w h =
     ap (λ v. reach_on v.roots h.spot) (made_is a w h.made)
-    ∙ stays_reachable a (damage_in (at_attempt w)) (at_attempt w).roots (holder_in a w h)
+    ∙ stays_reachable a _ (at_attempt w).roots (holder_in a w h)
 
 -- before the events that were due
 pub due_back : (w : World) (j : Location) → reach_on (at_attempt w).roots j ≡ true
@@ -43,7 +41,7 @@ pub data_back : (a : Attempt) (w : World) → IsMade a w → is_setup a.kind ≡
     → reach_on (after (attempt a) w).roots j ≡ true → reach_on (at_attempt w).roots j ≡ true
 data_back a w m kind j on =
     made_reach a (at_attempt w) (path_to j)
-    (data_calm a (damage_in (at_attempt w)) (at_attempt w).roots (ready_settled w m.settled)
+    (data_calm a _ (at_attempt w).roots (ready_settled w m.settled)
     kind j.row j.rest) (ap (λ x. reach_on x.roots j) (sym (made_is a w m)) ∙ on)
 
 -- where no address is held twice, two reachable devices at one address are one

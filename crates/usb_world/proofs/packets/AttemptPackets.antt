@@ -6,7 +6,7 @@ use Rattle.usb_port.specs.{PortState, powered_off}
 use Rattle.usb_device.specs.{Content, Whole, Broken, Sent, Leaves, State, forgotten, received}
 use Rattle.usb_device.specs.{unread, asks, Ports, ended, vacant, taken, all_off, reach_at, state_at}
 use Rattle.usb_device.specs.{port_at, place_at, reply_to, answer_of, asked_by, effect_of}
-use Rattle.usb_device.specs.{after_packet, all_forgotten, forgotten_place}
+use Rattle.usb_device.specs.{after_packet, all_forgotten}
 use Rattle.usb_device.specs.declared.transfer.RememberedPacket.TheVariants.{Nothing}
 use Rattle.usb_world.specs.{Mark, sent_as, Consistent}
 use Rattle.usb_tree.specs.{has_power_at, pending_at, IsNew, after_sent, after_attempt, calls_on}
@@ -95,21 +95,16 @@ abbrev ForgottenWay : Ports → ℕ → List ℕ → Type 0
 ForgottenWay k j p =
     SamePorts k (all_forgotten k) j p
     × (state_at (all_forgotten k) j p ≡ option_map forgotten (state_at k j p))
-    × (place_at (all_forgotten k) j p ≡ option_map forgotten_place (place_at k j p))
     × (IsNew (place_at k j p) → IsNew (place_at (all_forgotten k) j p))
 
 forgotten_way : (k : Ports) (j : ℕ) (p : List ℕ) → ForgottenWay k j p
 unfolding all_forgotten reach_at has_power_at pending_at port_at state_at place_at
-forgotten_way ended j p = (same_ports ended j p, refl, refl, λ h. h)
-forgotten_way (vacant b k) zero [] = (same_ports (vacant b k) zero [], refl, refl, λ h. h)
-forgotten_way (vacant b k) zero (n ∷ p) = (same_ports (vacant b k) zero (n ∷ p), refl, refl, λ h. h)
+forgotten_way ended j p = (same_ports ended j p, refl, λ h. h)
+forgotten_way (vacant b k) zero p = grind (arith, same_ports)
 forgotten_way (vacant b k) (suc j) p = forgotten_way k j p
-forgotten_way (taken b s a k) zero [] = grind (arith, forgotten_off, same_ports)
-forgotten_way (taken b s a k) zero (zero ∷ p) =
-    (same_ports (taken b s a k) zero (zero ∷ p), refl, refl, λ h. h)
 forgotten_way (taken b s a k) zero (suc j ∷ p) =
-    let x : _ = forgotten_way a j p in
-    (passed_ports b s (forgotten s) a (all_forgotten a) k (all_forgotten k) j p x.0, x.1, x.2, x.3)
+    grind (arith, forgotten_way a j p, passed_ports)
+forgotten_way (taken b s a k) zero p = grind (arith, forgotten_off, same_ports)
 forgotten_way (taken b s a k) (suc j) p = forgotten_way k j p
 
 pub forgotten_ports : (k : Ports) (j : ℕ) (p : List ℕ) → SamePorts k (all_forgotten k) j p
@@ -118,10 +113,6 @@ forgotten_ports k j p = (forgotten_way k j p).0
 pub forgotten_state : (k : Ports) (j : ℕ) (p : List ℕ)
     → state_at (all_forgotten k) j p ≡ option_map forgotten (state_at k j p)
 forgotten_state k j p = (forgotten_way k j p).1
-
-pub forgotten_at : (k : Ports) (j : ℕ) (p : List ℕ)
-    → place_at (all_forgotten k) j p ≡ option_map forgotten_place (place_at k j p)
-forgotten_at k j p = (forgotten_way k j p).2
 
 pub forgotten_twice : (k : Ports) → all_forgotten (all_forgotten k) ≡ all_forgotten k
 unfolding all_forgotten
@@ -189,7 +180,7 @@ pub attempt_new : (n : ℕ) (t d r : Option Sent) → IsAttemptAt n t d r
     → (k : Ports) (j : ℕ) (p : List ℕ)
     → attempt_resets t d k j p ≡ true → IsNew (place_at (after_attempt t d r k) j p)
 attempt_new n t d r is k j p h =
-    (forgotten_way (after_sent r (after_sent d (after_sent t k))) j p).3
+    (forgotten_way (after_sent r (after_sent d (after_sent t k))) j p).2
     (ack_sent_new r is.reply (after_sent d (after_sent t k)) j p
     (sent_new d (after_sent t k) j p h))
 
@@ -200,9 +191,9 @@ pub attempt_kept : (n : ℕ) (t d r : Option Sent) → IsAttemptAt n t d r
 attempt_kept n t d r is k j p f =
     let first : _ = sent_kept t k j p (calm_sent_spares t (token_out n t is.token) k j p) in
     let second : _ = sent_kept d (after_sent t k) j p f in
-    let third : _ = sent_kept r (after_sent d (after_sent t k)) j p
-    (calm_sent_spares r (ack_out r is.reply) (after_sent d (after_sent t k)) j p) in
-    let same : _ = forgotten_ports (after_sent r (after_sent d (after_sent t k))) j p in
+    let third : _ = sent_kept r _ j p
+    (calm_sent_spares r (ack_out r is.reply) _ j p) in
+    let same : _ = forgotten_ports _ j p in
     (λ h. same.1 ∙ third.0 (second.0 (first.0 h)), λ h. same.2 ∙ third.1 (second.1 (first.1 h)))
 
 pub attempt_sane : (t d r : Option Sent) (k : Ports) → Consistent k
@@ -210,4 +201,4 @@ pub attempt_sane : (t d r : Option Sent) (k : Ports) → Consistent k
 attempt_sane t d r k h = grind (arith, sane_forgotten, sent_sane)
 
 pub after_attempt-settled : (t d r : Option Sent) (k : Ports) → IsSettled (after_attempt t d r k)
-after_attempt-settled t d r k = forgotten_twice (after_sent r (after_sent d (after_sent t k)))
+after_attempt-settled t d r k = forgotten_twice _

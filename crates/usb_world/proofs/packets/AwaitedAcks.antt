@@ -1,19 +1,20 @@
 -- Which packets leave no device that awaits the ACK at which it would take an address.
-use Rattle.std.proofs.Common.{◌≡◌, ℕ, zero, suc, ◌==◌, ◌&&◌, ◌||◌, if◌then◌else◌, Bool, true, false}
-use Rattle.std.proofs.Common.{List, [], Option, None, Some, ◌⊎◌, inl, inr, refl, ap, ◌∙◌, arith}
+use Rattle.std.proofs.Common.{◌||◌, ◌≡◌, ℕ, zero, suc, ◌==◌, ◌&&◌, if◌then◌else◌, Bool, true, false}
+use Rattle.std.proofs.Common.{List, [], Option, Some, ◌⊎◌, refl, ap, ◌∙◌, arith}
 use Rattle.usb_packet.specs.{Toggle, TokenKind, InTok, Packet, Token}
 use Rattle.usb_packet.specs.declared.Packet.TheVariants as packet
 use Rattle.usb_port.specs.{PortState, PortCall}
 use Rattle.usb_device.specs.{Content, Whole, Broken, Sent, Effect, Leaves, Calls, PortsOff}
 use Rattle.usb_device.specs.{RememberedPacket, Outcome, State, Reply, received, unread, answered}
-use Rattle.usb_device.specs.{forgotten, reset_state, begun, payload_row, data_row, in_other_row}
-use Rattle.usb_device.specs.{after_memory, awaits_control, ends_with_address, awaits_address, Ports}
-use Rattle.usb_device.specs.{ended, vacant, taken, all_off, acted, called, changed_at}
-use Rattle.usb_device.specs.{row_of, hears, reply_to, answer_of, effect_of, after_packet, has_loss}
+use Rattle.usb_device.specs.{reset_state, begun, payload_row, data_row, in_other_row, after_memory}
+use Rattle.usb_device.specs.{awaits_control, ends_with_address, awaits_address, Ports, ended}
+use Rattle.usb_device.specs.{vacant, taken, all_off, acted, called, changed_at, row_of, hears}
+use Rattle.usb_device.specs.{reply_to, answer_of, after_packet, has_loss}
 use Rattle.usb_tree.specs.{after_sent, IfOut, IsDataOut, IsAckOut}
 use Rattle.usb_world.proofs.courses.StepInvariants.{Rests}
 use Rattle.usb_world.proofs.packets.AttemptPackets.{token_out as token_rests}
 use Rattle.usb_device.proofs.Interface.{answer-spec}
+use Rattle.usb_device.specs.declared.transfer.RememberedPacket.TheVariants.{Nothing}
 
 -- A device after a packet that is no IN token of endpoint 0 awaits no ACK of that endpoint
 
@@ -54,6 +55,10 @@ module _ (d : State) (row : List PortState) (h : AwaitsNone d) where
 pub none_awaited : (d : State) → AwaitsNone d → awaits_address d ≡ false
 unfolding awaits_address
 none_awaited d h = ap (λ x. x && ends_with_address d.stage) h
+
+-- nor one that remembers nothing
+pub rest_awaits : (s : State) → s.memory ≡ Nothing → awaits_address s ≡ false
+rest_awaits s m = none_awaited s (ap awaits_control m)
 
 -- what devices can read as no IN of endpoint 0
 abbrev pub ReadsNoControlIn : Content → Type 0
@@ -105,8 +110,8 @@ loss_changed : (c : PortCall) (k : Ports) (i : ℕ) → has_loss k ≡ false
 unfolding has_loss changed_at reset_state awaits_address
 loss_changed c (vacant b k) (suc i) h = loss_changed c k i h
 loss_changed c (taken b s a k) zero h = grind (arith, loss_off, no_loss, three_none)
-loss_changed c (taken b s a k) (suc i) h = let l : _ = no_loss b s a k h in
-    three_none _ _ _ l.own l.below (loss_changed c k i l.more)
+loss_changed c (taken b s a k) (suc i) h =
+    grind (arith, loss_changed c k i, no_loss, three_none)
 loss_changed c k i h = h
 
 loss_acted : (e : Effect) (a : Ports) → has_loss a ≡ false → has_loss (acted e a) ≡ false
@@ -122,18 +127,15 @@ unfolding has_loss after_packet
 no_loss_packet q c deep ended h = h
 no_loss_packet q c deep (vacant b k) h = no_loss_packet q c deep k h
 no_loss_packet q c deep (taken b s a k) h =
-    let l : _ = no_loss b s a k h in
-    split b.enable l (loss_acted (effect_of q deep s) (after_packet q true a)
-    (no_loss_packet q c true a l.below)) (no_loss_packet q c deep k l.more)
-  where
-    split : (x : Bool) → NoLoss s a k
-        → has_loss (acted (effect_of q deep s) (after_packet q true a)) ≡ false
-        → has_loss (after_packet q deep k) ≡ false
-        → has_loss (if x then taken b (answer_of q deep s a).1
-        (acted (effect_of q deep s) (after_packet q true a)) (after_packet q deep k)
-        else taken b s a (after_packet q deep k)) ≡ false
-    split true l f g = three_none _ _ _ (none_awaited_answer q c deep s a l.own) f g
-    split false l f g = three_none _ _ _ l.own l.below g
+    grind (
+      arith,
+      no_loss_packet q c true a,
+      no_loss_packet q c deep k,
+      loss_acted,
+      no_loss,
+      none_awaited_answer,
+      three_none,
+    )
 
 pub no_loss_sent : (o : Option Sent) → IfOut ReadsNoControlIn o → (k : Ports) → has_loss k ≡ false
     → has_loss (after_sent o k) ≡ false
@@ -144,8 +146,8 @@ pub rests_loss : (k : Ports) → Rests k → has_loss k ≡ false
 unfolding has_loss Rests
 rests_loss ended h = refl
 rests_loss (vacant b k) h = rests_loss k h
-rests_loss (taken b s a k) h = three_none _ _ _ (none_awaited s (ap awaits_control h.0))
-    (rests_loss a h.1) (rests_loss k h.2)
+rests_loss (taken b s a k) h = three_none _ _ _ (rest_awaits s h.0) (rests_loss a h.1)
+    (rests_loss k h.2)
 
 -- A token and then an ACK, both whole: who hears the one hears the other
 
@@ -168,17 +170,8 @@ ack_answer : (q : Sent) → q.content ≡ Whole packet.Ack → (deep : Bool) (s 
     → ((s.spec.silent ≡ true) ⊎ (hears q deep s ≡ false) → awaits_address s ≡ false)
     → awaits_address (answer_of q deep s a).1 ≡ false
 unfolding answer_of received
-ack_answer q e deep s a f = rw e (by_hearing (hears q deep s) s.spec.silent f
-    (ack_received s (row_of a)))
-  where
-    by_hearing : (x y : Bool) → ((y ≡ true) ⊎ (x ≡ false) → awaits_address s ≡ false)
-        → (y ≡ false → awaits_address (if y then (None, s) else answered (forgotten s) (row_of a)
-        s.memory packet.Ack).1 ≡ false)
-        → awaits_address (if x then (if y then (None, s) else answered (forgotten s) (row_of a)
-        s.memory packet.Ack) else (None, s)).1 ≡ false
-    by_hearing true true f g = f (inl refl)
-    by_hearing true false f g = g refl
-    by_hearing false y f g = f (inr refl)
+ack_answer q e deep s a f =
+    grind (arith, ack_received s (row_of a))
 
 acked_answer : (low pre : Bool) (t : Packet) (deep : Bool) (s : State) (a x : Ports)
     → awaits_address s ≡ false → awaits_address (answer_of (whole_sent low pre packet.Ack) deep
@@ -193,25 +186,13 @@ unfolding has_loss after_packet
 acked_loss low pre kind n e deep ended h = h
 acked_loss low pre kind n e deep (vacant b k) h = acked_loss low pre kind n e deep k h
 acked_loss low pre kind n e deep (taken b s a k) h =
-    let l : _ = no_loss b s a k h in
-    split b.enable refl l (acked_loss low pre kind n e true a l.below)
-    (acked_loss low pre kind n e deep k l.more)
-  where
-    t : Sent
-    t = whole_sent low pre (Token kind n e)
-
-    r : Sent
-    r = whole_sent low pre packet.Ack
-
-    split : (x : Bool) → b.enable ≡ x → NoLoss s a k
-        → has_loss (after_packet r true (after_packet t true a)) ≡ false
-        → has_loss (after_packet r deep (after_packet t deep k)) ≡ false
-        → has_loss (after_packet r deep (if x then taken b (answer_of t deep s a).1
-        (acted (effect_of t deep s) (after_packet t true a)) (after_packet t deep k)
-        else taken b s a (after_packet t deep k))) ≡ false
-    split true on l f g =
-        rw (on, token_rests n (Some t) refl deep s)
-        (three_none _ _ _ (acked_answer low pre (Token kind n e) deep s a (after_packet t true a)
-        l.own) (loss_acted (effect_of r deep (answer_of t deep s a).1)
-        (after_packet r true (after_packet t true a)) f) g)
-    split false off l f g = rw off (three_none _ _ _ l.own l.below g)
+    grind (
+      arith,
+      acked_answer low pre (Token kind n e) deep s a,
+      acked_loss low pre kind n e deep k,
+      acked_loss low pre kind n e true a,
+      loss_acted,
+      no_loss,
+      three_none,
+      token_rests n (Some (whole_sent low pre (Token kind n e))) refl deep s,
+    )

@@ -1,4 +1,7 @@
 -- What a refused packet leaves.
+use Rattle.usb_device.specs.{effect_of, answer_of, Sent, Effect, Leaves, RememberedPacket, State}
+use Rattle.usb_device.specs.{Ports, ended, vacant, taken, full, before, acted, after_packet}
+use Rattle.usb_device.specs.{delivered_device, on_port, Stopped, behind_empty, behind, below, here}
 use Rattle.std.proofs.Common.{arith, ◌≡◌, if◌then◌else◌, Bool, true, false, Option, None, Some}
 use Rattle.std.proofs.Common.{is_some, refl, sym, subst, ap, ◌∙◌}
 use Rattle.usb_packet.specs.{Packet, TokenKind, OutTok, InTok, SetupTok}
@@ -6,9 +9,6 @@ use Rattle.usb_packet.specs.declared.Packet.TheVariants as packet
 use Rattle.usb_port.specs.{PortState}
 use Rattle.usb_device.specs.declared.delivery.Content.TheVariants as content
 use Rattle.usb_device.specs.declared.delivery.Heard.TheVariants.{NoAnswer}
-use Rattle.usb_device.specs.{Sent, Effect, Leaves, RememberedPacket, State, Ports, ended, vacant}
-use Rattle.usb_device.specs.{taken, full, before, acted, answer_of, effect_of, after_packet}
-use Rattle.usb_device.specs.{delivered_device, on_port, Stopped, behind_empty, behind, below, here}
 use Rattle.usb_device.specs.declared.transfer.RememberedPacket.TheVariants.{Nothing}
 use Rattle.usb_world.specs.{Damage, Attempt, Mark, marked, marked_some, token_of, payload_of}
 use Rattle.usb_world.specs.{sent_as, token_out, payload_out, IsAttempt, sends_data, IsCut}
@@ -65,7 +65,7 @@ unfolding All after_packet
 mild_packet q c deep ended h = record { all = tt; alike = alike_self ended }
 mild_packet q c deep (vacant b k) h =
     let rest = mild_packet q c deep k h in
-    record { all = rest.all; alike = alike_vacant b k (after_packet q deep k) rest.alike }
+    record { all = rest.all; alike = alike_vacant b k _ rest.alike }
 mild_packet {old} {new} q c deep (taken b s a k) h =
     split b.enable (mild_packet q c true a h.1) (mild_packet q c deep k h.2)
   where
@@ -77,10 +77,9 @@ mild_packet {old} {new} q c deep (taken b s a k) h =
         → MildPacket new (taken b s a k) (if x then taken b (answer_of q deep s a).1
         (acted (effect_of q deep s) (after_packet q true a)) (after_packet q deep k) else taken b
         s a (after_packet q deep k))
-    split true lower rest = mild_taken b s (answer_of q deep s a).1 (effect_of q deep s) a
-        (after_packet q true a) k (after_packet q deep k) reply.own reply.after reply.calm lower
+    split true lower rest = mild_taken b s _ _ a _ k _ reply.own reply.after reply.calm lower
         rest
-    split false lower rest = mild_taken b s s Leaves a a k (after_packet q deep k) refl
+    split false lower rest = mild_taken b s s Leaves a a k _ refl
         (c.wider s.memory h.0) refl (record { all = all_wider c.wider a h.1; alike = alike_self a })
         rest
 
@@ -98,8 +97,8 @@ mild_stopped {old} {new} q w (behind {deep} {k} {m} b s a st) h =
     split : (x : Bool) → SameDevices k m → SameDevices (taken b s a k) (before
         (if x then on_port b (delivered_device q deep (record { own = s; ports = a }))
         else (NoAnswer, full b s a)).1 m)
-    split true rest = rw reply.calm (alike_taken b s (answer_of q deep s a).1 a
-        (after_packet q true a) k m reply.own (mild_packet q w true a h.1).alike rest)
+    split true rest = rw reply.calm (alike_taken b s _ a
+        _ k m reply.own (mild_packet q w true a h.1).alike rest)
     split false rest = alike_taken b s s a a k m refl (alike_self a) rest
 mild_stopped q w (below {deep} {a} {c} b s k on st) h =
     alike_taken b s s a c k k refl (mild_stopped q w st h.1) (alike_self k)

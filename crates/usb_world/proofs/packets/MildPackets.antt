@@ -1,8 +1,7 @@
 -- Tokens, and data after an OUT token, ask nothing of ports and leave each device its address and
 -- configuration.
 use Rattle.std.proofs.Common.{arith, ◌≡◌, ℕ, if◌then◌else◌, Bool, true, false, List, refl}
-use Rattle.usb_packet.specs.{Packet, Token, Payload, Toggle, OutTok}
-use Rattle.usb_packet.specs.{SetupTok}
+use Rattle.usb_packet.specs.{Packet, Token, Payload, Toggle, OutTok, SetupTok}
 use Rattle.usb_port.specs.{PortState}
 use Rattle.usb_device.specs.{Content, Whole, Broken, Sent, Leaves, RememberedPacket, asks}
 use Rattle.usb_device.specs.{asked_by_data, State, Reply, received, unread, payload_row, status_row}

@@ -1,5 +1,5 @@
 -- What a packet does to reachable, live and pending, and to the devices and ports.
-use Rattle.std.proofs.Common.{arith, ◌≡◌, ℕ, zero, suc, ◌&&◌, ◌||◌, not, if◌then◌else◌, inl, inr}
+use Rattle.std.proofs.Common.{◌||◌, arith, ◌≡◌, ℕ, zero, suc, ◌&&◌, not, if◌then◌else◌, inl, inr}
 use Rattle.std.proofs.Common.{Bool, true, false, List, [], ◌∷◌, Option, None, Some, option_map}
 use Rattle.std.proofs.Common.{refl, ap, sym, ◌∙◌}
 use Rattle.usb_port.specs.{PortState}
@@ -8,8 +8,7 @@ use Rattle.usb_device.specs.{full, reach_at, state_at, place_at, acted, empty, a
 use Rattle.usb_device.specs.{after_packet, Sent, Place}
 use Rattle.usb_tree.specs.{has_power_at, pending_at, IsNew, takes_reset, effect_resets, resets_at}
 use Rattle.usb_tree.specs.{reset_if, effect_keeps_pending, packet_keeps_pending, deep_at}
-use Rattle.usb_tree.proofs.Interface.{and_kept, or-rises, either_of, neither, false_true}
-use Rattle.usb_tree.proofs.Interface.{reset_if-false}
+use Rattle.usb_tree.proofs.Interface.{and_kept, either_of, neither, false_true, reset_if-false}
 use Rattle.usb_world.proofs.ports.PortCalls.{off_way, ResetIf, same_reset, call_way, KeepsPending}
 use Rattle.usb_world.proofs.ports.PortCalls.{pending_kept, call_kept}
 use Rattle.usb_world.proofs.ways.WayChanges.{same_way-behind}
@@ -38,12 +37,7 @@ acted_way : (e : Effect) (x : Ports) (j : ℕ) (p : List ℕ)
 acted_way Leaves x j p = same_reset false x j p refl
 acted_way (Calls c i) x j p = call_way c x i j p
 acted_way PortsOff x j p =
-    let off : _ = off_way x j p in (
-      off.1 ∙ reset_if-false (state_at x j p),
-      λ f h. false_true (sym off.0 ∙ h),
-      λ f. false_true f,
-      off.2,
-    )
+    grind (arith, off_way x j p)
 
 acted_kept : (e : Effect) (x : Ports) (j : ℕ) (p : List ℕ) → effect_keeps_pending e j p ≡ true
     → KeepsPending x (acted e x) j p
@@ -90,41 +84,39 @@ pub packet_kept : (q : Sent) (deep : Bool) (k : Ports) (j : ℕ) (p : List ℕ)
 unfolding after_packet has_power_at pending_at packet_keeps_pending
 packet_kept q deep ended j p h = (λ g. g, λ g. g)
 packet_kept q deep (vacant b k) zero p h =
-    pending_kept (vacant b k) (vacant b (after_packet q deep k)) zero p
+    pending_kept (vacant b k) _ zero p
     (same_way-behind (empty b) k (after_packet q deep k) p).0
 packet_kept q deep (vacant b k) (suc j) p h = packet_kept q deep k j p h
-packet_kept q deep (taken b s a k) zero [] h =
-    met_either (λ m. KeepsPending (taken b s a k) m zero [])
-    b.enable q deep b s a (after_packet q deep k) (λ g. g, λ g. g) (λ g. g, λ g. g)
-packet_kept q deep (taken b s a k) zero (zero ∷ p) h =
-    met_either (λ m. KeepsPending (taken b s a k) m zero (zero ∷ p))
-    b.enable q deep b s a (after_packet q deep k) (λ g. g, λ g. g) (λ g. g, λ g. g)
 packet_kept q deep (taken b s a k) zero (suc j ∷ p) h =
-    split b.enable refl (packet_kept q true a j p)
-  where
-    split : (x : Bool) → b.enable ≡ x
-        → (packet_keeps_pending q true a j p ≡ true → KeepsPending a (after_packet q true a) j p)
-        → KeepsPending (taken b s a k) (met x q deep b s a (after_packet q deep k)) zero (suc j ∷ p)
-    split true e ih =
-        let on : _ = spared b.enable (effect_keeps_pending (effect_of q deep s) j p)
-        (packet_keeps_pending q true a j p) e h in
-        let asked : _ = acted_kept (effect_of q deep s) (after_packet q true a) j p on.0 in (
-          and_kept b.power _ _ (λ g. asked.0 ((ih on.1).0 g)),
-          and_kept b.power _ _
-              (or-rises b.connection_changed (pending_at a j p) _ (λ g. asked.1 ((ih on.1).1 g))),
-        )
-    split false e ih = (λ g. g, λ g. g)
+    grind (
+      arith,
+      acted_kept (effect_of q deep s) (after_packet q true a) j p,
+      met,
+      packet_kept q true a j p,
+    )
+packet_kept q deep (taken b s a k) zero p h = grind (arith, met_either)
 packet_kept q deep (taken b s a k) (suc j) p h =
     grind (arith, packet_kept q deep k j p h, met_either)
 
-pub heard_state-unheard : (q : Sent) (d : Bool) (k : Ports) (j : ℕ) (p : List ℕ)
-    → state_at k j p ≡ heard_state q d false (place_at k j p)
+abbrev pub stands : Option Place → Option State
+stands None = None
+stands (Some (empty b)) = None
+stands (Some (full b s a)) = Some s
+
+pub state_stands : (k : Ports) (j : ℕ) (p : List ℕ) → stands (place_at k j p) ≡ state_at k j p
 unfolding state_at place_at
-heard_state-unheard q d (vacant b k) zero [] = refl
-heard_state-unheard q d (vacant b k) (suc j) p = heard_state-unheard q d k j p
-heard_state-unheard q d (taken b s a k) zero (suc j ∷ p) = heard_state-unheard q d a j p
-heard_state-unheard q d (taken b s a k) (suc j) p = heard_state-unheard q d k j p
-heard_state-unheard q d k j p = refl
+state_stands (vacant b k) zero [] = refl
+state_stands (vacant b k) (suc j) p = state_stands k j p
+state_stands (taken b s a k) zero (suc j ∷ p) = state_stands a j p
+state_stands (taken b s a k) (suc j) p = state_stands k j p
+state_stands k j p = refl
+
+unheard : (q : Sent) (d : Bool) (x : Option Place) → stands x ≡ heard_state q d false x
+unheard q d x = grind arith
+
+heard_state-unheard : (q : Sent) (d : Bool) (k : Ports) (j : ℕ) (p : List ℕ)
+    → state_at k j p ≡ heard_state q d false (place_at k j p)
+heard_state-unheard q d k j p = sym (state_stands k j p) ∙ unheard q d (place_at k j p)
 
 pub true_deep : (p : List ℕ) → deep_at true p ≡ true
 true_deep p = grind arith
@@ -151,8 +143,6 @@ pub packet_way : (q : Sent) (deep : Bool) (k : Ports) (j : ℕ) (p : List ℕ)
 unfolding after_packet reach_at place_at resets_at state_at
 packet_way q deep (vacant b k) zero [] = (refl, λ f h. h, λ f. false_true f)
 packet_way q deep (vacant b k) (suc j) p = packet_way q deep k j p
-packet_way q deep (taken b s a k) zero [] = grind arith
-packet_way q deep (taken b s a k) zero (zero ∷ p) = grind (arith, met_either)
 packet_way q deep (taken b s a k) zero (suc j ∷ p) = split b.enable (packet_way q true a j p)
   where
     split : (x : Bool) → HeardIf q (deep_at true p) (reach_at a j p) (resets_at q true a j p) a
@@ -160,8 +150,8 @@ packet_way q deep (taken b s a k) zero (suc j ∷ p) = split b.enable (packet_wa
         (x && (effect_resets (effect_of q deep s) a j p || resets_at q true a j p))
         (taken b s a k) (met x q deep b s a (after_packet q deep k)) zero (suc j ∷ p)
     split true ih =
-        let asked : _ = acted_way (effect_of q deep s) (after_packet q true a) j p in
-        let same : _ = packet_asks (effect_of q deep s) q true a j p in (
+        let asked : _ = acted_way _ _ j p in
+        let same : _ = packet_asks _ q true a j p in (
           asked.0 ∙ ap (λ x. option_map (reset_if x) (state_at (after_packet q true a) j p)) same
               ∙ ap (option_map (reset_if (effect_resets (effect_of q deep s) a j p))) ih.0
               ∙ reset_then (effect_resets (effect_of q deep s) a j p) (resets_at q true a j p)
@@ -183,6 +173,7 @@ packet_way q deep (taken b s a k) zero (suc j ∷ p) = split b.enable (packet_wa
       λ f h. h,
       λ f. false_true f,
     )
+packet_way q deep (taken b s a k) zero p = grind (arith, met_either)
 packet_way q deep (taken b s a k) (suc j) p = grind (arith, packet_way q deep k j p, met_either)
 packet_way q deep k j p = (refl, λ f h. h, λ f. false_true f)
 

@@ -1,6 +1,5 @@
 -- Attempts that ask nothing of ports.
-use Rattle.std.proofs.Common.{◌≡◌, ℕ, true, false, List, Option, refl, ap, subst, Bool}
-use Rattle.usb_packet.specs.{TokenKind, OutTok, InTok, SetupTok, Toggle}
+use Rattle.std.proofs.Common.{◌≡◌, ℕ, true, false, List, Option, refl, subst}
 use Rattle.usb_device.specs.{Sent, Ports, effect_of}
 use Rattle.usb_world.specs.{Damage, Attempt, token_out, payload_out, World, at_attempt, damage_in}
 use Rattle.usb_world.specs.{attempt, is_setup, AsksNothing}
@@ -12,24 +11,16 @@ use Rattle.usb_world.proofs.ports.PortRequests.{AllowsOut, sent_allowed, payload
 use Rattle.usb_world.proofs.ports.PortRequests.{payload_no_port_allows, payload_asks_no_port}
 use Rattle.usb_world.proofs.packets.PacketWays.{NoneAsks, none_asks_nothing}
 use Rattle.usb_world.proofs.packets.PacketPlaces.{left_is, is_left}
-use Rattle.arrayvec.specs.ArrayVec.{ArrayVec}
-
--- an attempt that asks nothing of ports, where no device remembers a packet before it
-abbrev pub data_asks_no_port : TokenKind → Option (Toggle × ArrayVec ℕ) → Bool
-data_asks_no_port SetupTok o = payload_asks_no_port o
-data_asks_no_port t o = true
 
 allowed_none : (o : Option Sent) (k : Ports) → IfOut (AllowsOut is_left) o → NoneAsks o k
 allowed_none o k h q e j x t at dp = left_is (effect_of q dp t)
-    (sent_allowed is_left refl q (subst (IfOut (AllowsOut is_left)) e h) dp t)
+    (sent_allowed is_left refl q (subst (IfOut _) e h) dp t)
 
 -- whoever hears them
 pub payload_asks_nothing : (a : Attempt) (w : World) (p : List ℕ) → payload_asks_no_port a.payload
     ≡ true → AsksNothing (attempt a) w p
 payload_asks_nothing a w p h =
-    none_asks_nothing a w p (allowed_none (payload_out a (damage_in (at_attempt w)))
-    (after_sent (token_out a (damage_in (at_attempt w))) (at_attempt w).roots)
-    (payload_allowed is_left refl a (damage_in (at_attempt w))
+    none_asks_nothing a w p (allowed_none _ _ (payload_allowed is_left refl a _
     (payload_no_port_allows a.payload h)))
 
 -- IN and OUT, where no device remembers a packet before them
@@ -45,14 +36,3 @@ data_asks_none a w kind h q o j e t at dp =
 pub data_asks_nothing : (a : Attempt) (w : World) (p : List ℕ) → is_setup a.kind ≡ false
     → IsSettled w.roots → AsksNothing (attempt a) w p
 data_asks_nothing a w p kind h = none_asks_nothing a w p (data_asks_none a w kind h)
-
--- where no device remembers a packet before it
-pub settled_asks_nothing : (a : Attempt) (w : World) (p : List ℕ)
-    → data_asks_no_port a.kind a.payload ≡ true → IsSettled w.roots → AsksNothing (attempt a) w p
-settled_asks_nothing a w p h settled = pick a.kind refl h
-  where
-    pick : (t : TokenKind) → a.kind ≡ t → data_asks_no_port t a.payload ≡ true
-        → AsksNothing (attempt a) w p
-    pick SetupTok e g = payload_asks_nothing a w p g
-    pick OutTok e g = data_asks_nothing a w p (ap is_setup e) settled
-    pick InTok e g = data_asks_nothing a w p (ap is_setup e) settled

@@ -1,20 +1,20 @@
 -- A port of which nothing is asked keeps its change bits and its power, where the device above it
 -- is still reached.
-use Rattle.std.proofs.Common.{arith, ◌≡◌, ℕ, zero, suc, ◌&&◌, Bool, true, false, List, [], ◌∷◌}
-use Rattle.std.proofs.Common.{◌++◌, Option, None, Some, refl, ap, sym, subst, ◌∙◌, inl, inr}
+use Rattle.usb_world.proofs.ways.WayChanges.{ports_then, SamePorts, same_ports, changed_there}
+use Rattle.usb_world.proofs.ways.WayChanges.{root_there}
+use Rattle.std.proofs.Common.{arith, ◌≡◌, ℕ, zero, suc, Bool, true, false, List, [], ◌∷◌, ◌++◌}
+use Rattle.std.proofs.Common.{Option, None, Some, refl, ap, sym, subst, ◌∙◌, inl, inr}
 use Rattle.usb_port.specs.{PortState, PortCall}
-use Rattle.usb_device.specs.{Sent, Effect, fresh, Spec, Ports, vacant, taken, empty, full}
-use Rattle.usb_device.specs.{before, port_of, called, replaced, changed, changed_at, port_at}
-use Rattle.usb_device.specs.{port_there, Place}
-use Rattle.usb_world.specs.{Action, Attempt, token_out, payload_out, reply_out, ports_in, World}
-use Rattle.usb_world.specs.{after_change, way_of, names_path, after_event, at_attempt, damage_in}
-use Rattle.usb_world.specs.{with_attempt, Course, made_resets, root_resets, sent_leaves}
-use Rattle.usb_world.specs.{made_leaves, root_leaves, leaves_step, LeavesPort, row_reached}
-use Rattle.usb_world.specs.{StillSet}
+use Rattle.usb_device.specs.{Sent, Effect, fresh, Spec, Ports, vacant, taken, empty, full, before}
+use Rattle.usb_device.specs.{port_of, called, replaced, changed, changed_at, port_at, port_there}
+use Rattle.usb_device.specs.{Place}
+use Rattle.usb_world.specs.{Action, Attempt, ports_in, World, after_change, way_of, names_path}
+use Rattle.usb_world.specs.{after_event, at_attempt, damage_in, with_attempt, Course, made_resets}
+use Rattle.usb_world.specs.{root_resets, sent_leaves, made_leaves, root_leaves, leaves_step}
+use Rattle.usb_world.specs.{LeavesPort, row_reached, StillSet}
 use Rattle.usb_tree.specs.{is_way, same_number, after_sent, after_attempt, sent_resets, IsAttemptAt}
 use Rattle.usb_tree.specs.{effect_resets, resets_at, leaves_port, way_leaves}
 use Rattle.usb_tree.proofs.Interface.{false_true, both, decided}
-use Rattle.usb_world.proofs.ways.WayChanges.{SamePorts, same_ports, changed_there, root_there}
 use Rattle.usb_world.proofs.ports.RootResets.{same_number-is}
 use Rattle.usb_world.proofs.packets.PacketPlaces.{way_ports}
 use Rattle.usb_world.proofs.packets.AttemptPackets.{token_out as token_calm, ack_out as ack_calm}
@@ -71,9 +71,7 @@ last_step (m ∷ []) [] n w h = ap (λ y. y ∷ [])
     (sym (same_number-is m n (both (same_number m n) true h).0))
 last_step (m ∷ y ∷ x) [] n w h = false_true (both (same_number m n) false h).1
 last_step (m ∷ x) (k ∷ q) n w h =
-    let on : _ = both (same_number m k) (is_way x (q ++ (n ∷ []))) h in
-    ap (λ y. y ∷ x) (sym (same_number-is m k on.0))
-    ∙ ap (λ l. k ∷ l) (last_step x q n (sym (ap (λ y. y && is_way x q) on.0) ∙ w) on.1)
+    grind (arith, last_step x q, same_number-is)
 
 replaced_bits : (o : Option Spec) (k : Ports) (x q : List ℕ) (n : ℕ) (b : PortState)
     → way_of x q ≡ false → port_there k (q ++ (n ∷ [])) ≡ Some b
@@ -120,21 +118,15 @@ pub attempt_ports : (n : ℕ) (t d r : Option Sent) → IsAttemptAt n t d r
     → sent_leaves d (after_sent t k) j p ≡ true → SamePorts k (after_attempt t d r k) j p
 attempt_ports n t d r is k j p h =
     let heard : Ports = after_sent d (after_sent t k) in
-    let first : _ = sent_ports t k j p (calm_leaves t (token_calm n t is.token) k j p) in
-    let second : _ = sent_ports d (after_sent t k) j p h in
-    let third : _ = sent_ports r heard j p (calm_leaves r (ack_calm r is.reply) heard j p) in
-    let last : _ = forgotten_ports (after_sent r heard) j p in (
-      last.0 ∙ third.0 ∙ second.0 ∙ first.0,
-      last.1 ∙ third.1 ∙ second.1 ∙ first.1,
-      last.2 ∙ third.2 ∙ second.2 ∙ first.2,
-      last.3 ∙ third.3 ∙ second.3 ∙ first.3,
-    )
+    ports_then _ _ _ j p (sent_ports t k j p (calm_leaves t (token_calm n t is.token) k j p))
+    (ports_then _ _ _ j p (sent_ports d (after_sent t k) j p h)
+    (ports_then _ _ _ j p (sent_ports r heard j p (calm_leaves r (ack_calm r is.reply) heard j p))
+    (forgotten_ports (after_sent r heard) j p)))
 
 pub made_port : (a : Attempt) (w : World) (p : List ℕ) → made_leaves a w p ≡ true
     → port_there (with_attempt a w).roots p ≡ port_there w.roots p
 unfolding with_attempt ports_in
-made_port a w (suc j ∷ p) h = (attempt_ports a.addr (token_out a (damage_in w))
-    (payload_out a (damage_in w)) (reply_out a (damage_in w) w.roots)
+made_port a w (suc j ∷ p) h = (attempt_ports a.addr _ _ _
     (goes a (damage_in w) w.roots) w.roots j p h).3
 made_port a w p h = refl
 

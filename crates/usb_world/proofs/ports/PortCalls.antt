@@ -1,13 +1,12 @@
 -- What a call at a port does to reachable, live and pending, and to the devices and ports.
 use Rattle.std.proofs.Common.{arith, ◌≡◌, ℕ, zero, suc, ◌&&◌, Bool, true, false, List, [], ◌∷◌}
-use Rattle.std.proofs.Common.{option_map, refl, ap, sym, ◌∙◌}
+use Rattle.std.proofs.Common.{option_map, refl, ap, ◌∙◌}
 use Rattle.usb_port.specs.{PortState, is_attached, powered_off, PortCall, called_port, is_reset}
-use Rattle.usb_device.specs.{reset_state, Ports, ended, vacant, taken, empty, full, called}
-use Rattle.usb_device.specs.{reset_where, before, all_off, changed_at, reach_at, state_at, place_at}
-use Rattle.usb_tree.specs.{has_power_at, pending_at, same_number, IsNew, call_resets, reset_if}
-use Rattle.usb_tree.specs.{keeps_pending, call_keeps_pending}
-use Rattle.usb_tree.proofs.Interface.{both, and_false, and_wider, or_wider, false_true}
-use Rattle.usb_tree.proofs.Interface.{reset_if-false}
+use Rattle.usb_device.specs.{reset_state, Ports, ended, vacant, taken, called, all_off, changed_at}
+use Rattle.usb_device.specs.{reach_at, state_at, place_at}
+use Rattle.usb_tree.specs.{has_power_at, pending_at, IsNew, call_resets, reset_if, keeps_pending}
+use Rattle.usb_tree.specs.{call_keeps_pending}
+use Rattle.usb_tree.proofs.Interface.{and_false, and_wider, or_wider}
 use Rattle.usb_world.proofs.ways.WayChanges.{SamePorts, same_way-other_port, same_way-behind}
 
 pub all_off_twice : (k : Ports) → all_off (all_off k) ≡ all_off k
@@ -52,42 +51,16 @@ same_reset r k j p e = grind arith
 pub call_way : (c : PortCall) (k : Ports) (i j : ℕ) (p : List ℕ)
     → ResetIf (call_resets c k i j p) k (changed_at (called c) k i []) j p
 unfolding changed_at reach_at state_at place_at reset_state
-call_way c ended i j [] = same_reset _ ended j [] (and-false_inside (is_reset c) (same_number i j))
-call_way c ended i j (n ∷ p) = same_reset false ended j (n ∷ p) refl
-call_way c (vacant b k) zero zero [] = same_reset _ ended zero [] (and_false (is_reset c))
-call_way c (vacant b k) zero zero (n ∷ p) = same_reset false (vacant b k) zero (n ∷ p) refl
-call_way c (vacant b k) zero (suc j) [] = same_reset _ k j [] (and_false (is_reset c))
-call_way c (vacant b k) zero (suc j) (n ∷ p) = same_reset false k j (n ∷ p) refl
-call_way c (vacant b k) (suc i) zero [] = same_reset _ (vacant b k) zero [] (and_false (is_reset c))
-call_way c (vacant b k) (suc i) zero (n ∷ p) = same_reset false (vacant b k) zero (n ∷ p) refl
+call_way c ended i j p = grind (arith, and-false_inside, same_reset)
+call_way c (vacant b k) zero j p = grind (arith, and_false, same_reset)
+call_way c (vacant b k) (suc i) zero p = grind (arith, and_false, same_reset)
 call_way c (vacant b k) (suc i) (suc j) [] = call_way c k i j []
 call_way c (vacant b k) (suc i) (suc j) (n ∷ p) = call_way c k i j (n ∷ p)
 call_way c (taken b s a k) zero zero [] = grind (arith, all_off_twice, called_port-enable)
-call_way c (taken b s a k) zero zero (n ∷ p) = split n (is_reset c && sees b) refl
-  where
-    split : (n : ℕ) (x : Bool) → (is_reset c && sees b) ≡ x
-        → ResetIf false (taken b s a k) (before (reset_where x (called_port c b) s a) k) zero
-        (n ∷ p)
-    split zero true e = same_reset false (taken b s a k) zero (zero ∷ p) refl
-    split zero false e = same_reset false (taken b s a k) zero (zero ∷ p) refl
-    split (suc n) true e =
-        let off : _ = off_way a n p in (
-          off.1 ∙ reset_if-false (state_at a n p),
-          λ f h. false_true (sym off.0 ∙ (both (called_port c b).enable _ h).1),
-          λ f. false_true f,
-          off.2,
-        )
-    split (suc n) false e = (
-      reset_if-false (state_at a n p),
-      λ f. and_wider (called_port c b).enable b.enable _ _ (called_port-enable c b e) (λ g. g),
-      λ f. false_true f,
-      λ h. h,
-    )
-call_way c (taken b s a k) (suc i) zero [] =
-    same_reset _ (taken b s a k) zero [] (and_false (is_reset c))
-call_way c (taken b s a k) (suc i) zero (zero ∷ p) = same_reset false ended zero [] refl
-call_way c (taken b s a k) (suc i) zero (suc n ∷ p) =
-    same_reset false (taken b s a k) zero (suc n ∷ p) refl
+call_way c (taken b s a k) zero zero (zero ∷ p) = grind (arith, same_reset)
+call_way c (taken b s a k) zero zero (suc n ∷ p) =
+    grind (arith, called_port-enable, off_way a n p)
+call_way c (taken b s a k) (suc i) zero p = grind (arith, and_false, same_reset)
 call_way c (taken b s a k) (suc i) (suc j) [] = call_way c k i j []
 call_way c (taken b s a k) (suc i) (suc j) (n ∷ p) = call_way c k i j (n ∷ p)
 call_way c (taken b s a k) zero (suc j) _ = grind (arith, same_reset)
@@ -139,19 +112,14 @@ pending_kept k m j p x = (λ g. x.1 ∙ g, λ g. x.2 ∙ g)
 pub call_kept : (c : PortCall) (k : Ports) (i j : ℕ) (p : List ℕ)
     → call_keeps_pending c i j p ≡ true → KeepsPending k (changed_at (called c) k i []) j p
 unfolding changed_at has_power_at pending_at
-call_kept c (vacant b k) zero zero [] h = (called_power c b [] h, called_pend c b [] h)
+call_kept c (vacant b k) zero zero [] h =
+    grind (arith, called_pend, called_power)
 call_kept c (vacant b k) zero zero (n ∷ p) h = (λ g. g, called_pend c b (n ∷ p) h)
-call_kept c (vacant b k) (suc i) zero p h =
-    pending_kept (vacant b k) (vacant b (changed_at (called c) k i [])) zero p
-    (same_way-behind (empty b) k (changed_at (called c) k i []) p).0
+call_kept c (vacant b k) (suc i) zero p h = grind (arith, pending_kept, same_way-behind)
 call_kept c (vacant b k) (suc i) (suc j) p h = call_kept c k i j p h
 call_kept c (taken b s a k) zero zero p h =
     grind (arith, and_wider, called_change, called_pend, called_power, or_wider, spares-no_reset)
-call_kept c (taken b s a k) zero (suc j) p h =
-    pending_kept (taken b s a k) (changed_at (called c) (taken b s a k) zero []) (suc j) p
-    (same_way-other_port (full b s a) (called c (full b s a)) k j p).0
-call_kept c (taken b s a k) (suc i) zero p h =
-    pending_kept (taken b s a k) (taken b s a (changed_at (called c) k i [])) zero p
-    (same_way-behind (full b s a) k (changed_at (called c) k i []) p).0
+call_kept c (taken b s a k) zero (suc j) p h = grind (arith, pending_kept, same_way-other_port)
+call_kept c (taken b s a k) (suc i) zero p h = grind (arith, pending_kept, same_way-behind)
 call_kept c (taken b s a k) (suc i) (suc j) p h = call_kept c k i j p h
 call_kept c k i j p h = (λ g. g, λ g. g)

@@ -12,11 +12,10 @@ use Rattle.usb_device.specs.{PortsOff, Registers, RememberedPacket, Spec, Hub, O
 use Rattle.usb_device.specs.{takes_address, takes_configuration, halts, unhalts, Is, unless}
 use Rattle.usb_device.specs.{asked_descriptor, asked_status, asked_address, asked_configuration}
 use Rattle.usb_device.specs.{asked_interface_status, asked_setting, asked_interface}
-use Rattle.usb_device.specs.{asked_endpoint_status}
-use Rattle.usb_device.specs.{endpoint_of, on_endpoint, asked_hub_descriptor, port_named, told_port}
-use Rattle.usb_device.specs.{called_at, asked_port_status, port_feature, outcome, is_value, State}
-use Rattle.usb_device.specs.{asks, asked_by_data, asked_by_setup, effect_of_request, asked_by}
-use Rattle.usb_device.specs.{effect_of}
+use Rattle.usb_device.specs.{asked_endpoint_status, endpoint_of, on_endpoint, asked_hub_descriptor}
+use Rattle.usb_device.specs.{port_named, told_port, asked_port_status, port_feature, outcome}
+use Rattle.usb_device.specs.{is_value, State, asks, asked_by_data, asked_by_setup}
+use Rattle.usb_device.specs.{effect_of_request, asked_by, effect_of}
 use Rattle.usb_port.specs.{PortCall, set_call, clear_call}
 use Rattle.usb_device.specs.declared.transfer.RememberedPacket.TheVariants.{SetupSeen}
 use Rattle.usb_device.specs.Request.{answers}
@@ -49,9 +48,6 @@ module _ (T : Effect → Bool) (r : Setup) (h : Allows T r) where
   branch : (b : Bool) (x y : Outcome) → (b ≡ true → Good x) → Good y → Good (if b then x else y)
   branch b x y f g = grind arith
 
-  by_text : (o : Option (List ℕ)) → Good (elim o [ None ↦ stalled | Some text ↦ answers text ])
-  by_text o = grind arith
-
   by_descriptor : (s : Spec) (v : ℕ) → Good (asked_descriptor s v)
   by_descriptor s v = grind arith
 
@@ -78,10 +74,6 @@ module _ (T : Effect → Bool) (r : Setup) (h : Allows T r) where
   by_status : (o : Option ℕ) → Good (told_port o)
   by_status o = grind arith
 
-  by_call : (c : Option PortCall) (o : Option ℕ) → ((x : PortCall) (i : ℕ) → c ≡ Some x → o ≡ Some i
-      → T (Calls x i) ≡ true) → Good (called_at c o)
-  by_call c o f = grind arith
-
   by_feature : (c : Option PortCall) (s : Spec) (g : Registers)
       → ((x : PortCall) (i : ℕ) → c ≡ Some x → r.index ≡ suc i → T (Calls x i) ≡ true)
       → Good (port_feature c s g r)
@@ -105,8 +97,7 @@ module _ (T : Effect → Bool) (r : Setup) (h : Allows T r) where
       (λ e. both_ways s.stalls.set_config stalled (asked_configuration s g r) h.rests
       (both_ways (not (g.address == 0) && is_value s.configs r.value && r.length == 0)
       (takes_configuration r.value) stalled (h.off e) h.rests))
-      (both_ways (Is r INTERFACE_IN GET_STATUS) (asked_interface_status s g r) _
-      (by_interface s g)
+      (both_ways (Is r INTERFACE_IN GET_STATUS) (asked_interface_status s g r) _ (by_interface s g)
       (both_ways (Is r INTERFACE_IN GET_INTERFACE) (asked_setting s g r) _ (by_setting s g)
       (both_ways (Is r INTERFACE_OUT SET_INTERFACE)
       (unless s.stalls.interface (asked_interface s g r)) _ (by_new_setting s g)

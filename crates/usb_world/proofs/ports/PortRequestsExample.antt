@@ -2,32 +2,14 @@
 use Rattle.std.proofs.Common.{◌≡◌, true, false, [], ◌∷◌, None, Some, refl}
 use Rattle.usb_packet.specs.{OutTok, Zero}
 use Rattle.usb_device.specs.declared.transfer.RememberedPacket.TheVariants.{SetupSeen}
-use Rattle.usb_device.specs.{Spec, function, usual_hub, Ports, ended, vacant, taken, place_at}
-use Rattle.usb_device.specs.{fresh, received, unread, outcome, asks, answer_of, effect_of}
-use Rattle.usb_device.specs.{after_packet, at_reset}
+use Rattle.usb_device.specs.{Spec, function, usual_hub, ended, taken, place_at, fresh, received}
+use Rattle.usb_device.specs.{unread, outcome, asks, answer_of, effect_of, after_packet, at_reset}
 use Rattle.usb_request.specs.{setup_of}
-use Rattle.usb_port.specs.{full, nothing}
+use Rattle.usb_port.specs.{full}
 use Rattle.usb_world.specs.{Lose, Attempt, damage_of, harm_to, mark_of, bit_count, marked}
 use Rattle.usb_world.specs.{marked_some, token_of, payload_of, no_losses, World, after_due_events}
-use Rattle.usb_world.specs.{at_attempt, attempt, resets}
-use Rattle.usb_tree.specs.{pending_at, pending, resets_at}
-use Rattle.usb_world.proofs.ports.ToldChanges.{change_told_at, change_told}
-use Rattle.usb_world.proofs.packets.RestingAttempts.{data_asks_no_port}
-
--- a port without power whose change bit is set: it is told there and not pending
-abbrev unpowered : Ports
-unpowered = vacant (record {
-  attached = nothing;
-  power = false;
-  enable = false;
-  connection_changed = true;
-  enable_changed = false;
-  reset_changed = false;
-}) ended
-
-told_alone : (change_told unpowered (1 ∷ []) ≡ true) × (pending unpowered (1 ∷ []) ≡ false)
-unfolding change_told_at pending_at
-told_alone = (refl, refl)
+use Rattle.usb_world.specs.{at_attempt, attempt, is_setup, resets}
+use Rattle.usb_tree.specs.{resets_at}
 
 -- a hub that saw a SETUP token, and then OUT whose token is lost: it takes the data for setup data
 abbrev asked_hub : Spec
@@ -81,7 +63,7 @@ sends_out = record {
   payload = Some (Zero, record { items = 0x23 ∷ 3 ∷ 4 ∷ 0 ∷ 1 ∷ 0 ∷ 0 ∷ 0 ∷ [] });
 }
 
-resets_by_out : (data_asks_no_port sends_out.kind sends_out.payload ≡ true)
+resets_by_out : (is_setup sends_out.kind ≡ false)
     × (resets (attempt sends_out) awaiting (1 ∷ 1 ∷ []) ≡ true)
 unfolding resets resets_at after_due_events at_attempt marked marked_some mark_of harm_to damage_of
     bit_count token_of payload_of place_at received unread fresh asks answer_of effect_of

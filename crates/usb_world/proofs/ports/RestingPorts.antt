@@ -4,11 +4,10 @@ use Rattle.std.proofs.Common.{arith, ◌≡◌, ℕ, suc, true, false, List, [],
 use Rattle.std.proofs.Common.{sym, ◌∙◌}
 use Rattle.usb_port.specs.{PortCall}
 use Rattle.usb_device.specs.{Spec, Ports, called, changed, reach, state_there}
-use Rattle.usb_world.specs.{Action, Attempt, token_out, payload_out, reply_out, ports_in, spec_of}
-use Rattle.usb_world.specs.{World, after_change, names_path, after_event, at_attempt, damage_in}
-use Rattle.usb_world.specs.{with_attempt, Course, KeepsPendingAt, made_leaves, root_leaves}
-use Rattle.usb_world.specs.{leaves_step, SameAt, LeavesPortAlone, UnchangedOrPending}
-use Rattle.usb_world.specs.{SameDeviceOrPending}
+use Rattle.usb_world.specs.{Action, Attempt, ports_in, spec_of, World, after_change, names_path}
+use Rattle.usb_world.specs.{after_event, at_attempt, damage_in, with_attempt, Course}
+use Rattle.usb_world.specs.{KeepsPendingAt, made_leaves, root_leaves, leaves_step, SameAt}
+use Rattle.usb_world.specs.{LeavesPortAlone, UnchangedOrPending, SameDeviceOrPending}
 use Rattle.usb_tree.specs.{has_power}
 use Rattle.usb_world.proofs.ways.WayChanges.{root_there}
 use Rattle.usb_world.proofs.events.PlugEvents.{happened_there}
@@ -45,8 +44,7 @@ happened_same a d k p h =
 made_on : (a : Attempt) (w : World) (p : List ℕ) → made_leaves a w p ≡ true
     → reach (with_attempt a w).roots p ≡ reach w.roots p
 unfolding with_attempt ports_in
-made_on a w (suc j ∷ p) h = (attempt_ports a.addr (token_out a (damage_in w))
-    (payload_out a (damage_in w)) (reply_out a (damage_in w) w.roots)
+made_on a w (suc j ∷ p) h = (attempt_ports a.addr _ _ _
     (goes a (damage_in w) w.roots) w.roots j p h).0
 made_on a w p h = refl
 
@@ -69,7 +67,7 @@ root_same c m w p h =
     record {
       port = same.1;
       on = same.0;
-      what = shaped w.roots (changed (called c) w.roots (m ∷ [])) p (shape_root c w.roots (m ∷ []));
+      what = shaped w.roots _ p (shape_root c w.roots (m ∷ []));
     }
 
 rests_steps : (p : List ℕ)

@@ -5,13 +5,12 @@ use Rattle.std.proofs.Common.{◌∙◌}
 use Rattle.usb_port.specs.{PortCall, SetReset}
 use Rattle.usb_device.specs.{Ports, vacant, taken, called, changed_at, reach_at, state_at, place_at}
 use Rattle.usb_device.specs.{Place}
-use Rattle.usb_tree.specs.{address_of, same_number, same_path, is_way, IsNew, takes_reset}
-use Rattle.usb_tree.specs.{call_resets}
+use Rattle.usb_tree.specs.{address_of, same_number, same_path, is_way, IsNew, call_resets}
 use Rattle.usb_world.specs.{World, root_call, after, root_resets, resets, HoldsMapped, Injective}
 use Rattle.usb_world.specs.{after_reset, after_taking}
-use Rattle.usb_tree.proofs.Interface.{false_true, both, and_false, self_path, kept_address}
+use Rattle.usb_tree.proofs.Interface.{false_true, both, self_path, kept_address}
 use Rattle.usb_world.proofs.ports.PortCalls.{off_way, call_new, call_reach, call_state}
-use Rattle.usb_world.proofs.holders.OneDevice.{stands, state_stands}
+use Rattle.usb_world.proofs.packets.PacketEffects.{stands, state_stands}
 use Rattle.usb_world.proofs.courses.Courses.{unreset_reach}
 
 -- below a device that was just reset none is reached
@@ -20,10 +19,9 @@ pub new_below : (k : Ports) (i : ℕ) (p : List ℕ) (m : ℕ) (r : List ℕ) �
 unfolding place_at reach_at
 new_below (vacant b k) (suc i) p m r h = new_below k i p m r h
 new_below (taken b s a k) zero [] (suc m) r h =
-    ap (λ x. b.enable && x) (ap (λ x. reach_at x m r) (sym h.3) ∙ (off_way a m r).0)
-    ∙ and_false b.enable
-new_below (taken b s a k) zero (suc j ∷ p) m r h = ap (λ x. b.enable && x) (new_below a j p m r h)
-    ∙ and_false b.enable
+    grind (arith, off_way a m r)
+new_below (taken b s a k) zero (suc j ∷ p) m r h =
+    grind (arith, new_below a j p m r h)
 new_below (taken b s a k) (suc i) p m r h = new_below k i p m r h
 new_below k i p m r h = refl
 
@@ -40,7 +38,7 @@ call_address : (c : PortCall) (k : Ports) (i j : ℕ) (p : List ℕ) → call_re
     → option_map address_of (state_at (changed_at (called c) k i []) j p)
     ≡ option_map address_of (state_at k j p)
 call_address c k i j p h = ap (option_map address_of) (call_state c k i j p)
-    ∙ kept_address (call_resets c k i j p) (state_at k j p) h
+    ∙ kept_address _ (state_at k j p) h
 
 module _ (f : List ℕ → Option ℕ) (k : Ports) (i : ℕ) where
   abbrev reset_ports : Ports
@@ -57,16 +55,13 @@ module _ (f : List ℕ → Option ℕ) (k : Ports) (i : ℕ) where
 
     zero_there : option_map address_of (state_at reset_ports i []) ≡ Some 0
     zero_there = ap (option_map address_of) (sym (state_stands reset_ports i []))
-        ∙ is_new-zero (place_at reset_ports i []) new
+        ∙ is_new-zero _ new
 
     elsewhere : (j : ℕ) (p : List ℕ) → same_number i j ≡ false → reach_at reset_ports j p ≡ true
         → Given j p
     unfolding is_way
     elsewhere j [] d h =
-        let kept : call_resets SetReset k i j [] ≡ false =
-        ap (λ x. x && takes_reset (place_at k j [])) d in
-        call_address SetReset k i j [] kept ∙ own j [] (call_reach SetReset k i j [] kept h)
-        ∙ ap (λ x. if x && true then Some 0 else if x && true then None else f (suc j ∷ [])) (sym d)
+        grind (arith, call_address SetReset k i j [], call_reach SetReset k i j [])
     elsewhere j (n ∷ p) d h =
         call_address SetReset k i j (n ∷ p) refl
         ∙ own j (n ∷ p) (call_reach SetReset k i j (n ∷ p) refl h)
@@ -101,10 +96,12 @@ unfolding resets after
 rest_own f zero w y own p h = own p (unreset_reach (root_call SetReset zero) w p
     (root_kept zero w.roots p y) h).0
 rest_own f (suc i) w y own (suc j ∷ p) h =
-    let kept : call_resets SetReset w.roots i j p ≡ false =
-    root_kept (suc i) w.roots (suc j ∷ p) y in
-    call_address SetReset w.roots i j p kept
-    ∙ own (suc j ∷ p) (call_reach SetReset w.roots i j p kept h)
+    grind (
+      arith,
+      call_address SetReset w.roots i j p,
+      call_reach SetReset w.roots i j p,
+      root_kept (suc i) w.roots (suc j ∷ p) y,
+    )
 rest_own f n w y own p h = false_true h
 
 -- Injectivity

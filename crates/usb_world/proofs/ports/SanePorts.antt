@@ -3,8 +3,7 @@ use Rattle.std.proofs.Common.{◌≡◌, ℕ, zero, suc, Bool, true, List, [], �
 use Rattle.std.proofs.Common.{Option, Some, is_some, option_map, refl, ap, subst, ◌∙◌, arith}
 use Rattle.std.specs.Option.{IfSome}
 use Rattle.std.specs.Prelude.{⊤}
-use Rattle.usb_port.specs.{PortState, is_attached, plugged, unplugged, powered_off, PortCall}
-use Rattle.usb_port.specs.{called_port}
+use Rattle.usb_port.specs.{PortState, plugged, unplugged, powered_off, PortCall, called_port}
 use Rattle.usb_device.specs.{Effect, Sent, Spec, Hub, IsSpec, State, fresh, reset_state, Ports}
 use Rattle.usb_device.specs.{ended, vacant, taken, empty, full, before, all_off, new_ports}
 use Rattle.usb_device.specs.{first_ports, called, replaced, changed, changed_at, acted, reach_at}
@@ -14,7 +13,7 @@ use Rattle.usb_device.proofs.Interface.{answer-spec, row_of-after, row_of-forgot
 use Rattle.usb_tree.specs.{has_power_at}
 use Rattle.usb_world.specs.{hub_ports, spec_of, IsSanePort, Consistent, ConsistentPlace}
 use Rattle.usb_world.specs.{HasItsPorts}
-use Rattle.usb_tree.proofs.Interface.{both, and_of, false_true}
+use Rattle.usb_tree.proofs.Interface.{both, false_true}
 use Rattle.usb_world.proofs.courses.Counts.{acted_long, first_long, off_long, row_long_at}
 
 -- Ports
@@ -79,7 +78,7 @@ sane_changed f c (vacant b k) (suc i) p h = (h.0, h.1, sane_changed f c k i p h.
 sane_changed f c (taken b s a k) zero [] h =
     sane_before (f (full b s a)) k (c (full b s a) (h.0, h.1, h.2, h.4, h.5)) h.3
 sane_changed f c (taken b s a k) zero (suc j ∷ p) h =
-    (h.0, h.1, sane_changed f c a j p h.2, h.3, h.4, row_long_at f a j p ∙ h.5)
+    grind (arith, sane_changed f c a j p h.2, row_long_at f a j p)
 sane_changed f c (taken b s a k) (suc i) p h = (h.0, h.1, h.2, sane_changed f c k i p h.3, h.4, h.5)
 sane_changed f c k i p h = h
 
@@ -123,11 +122,9 @@ pub reach_live : (k : Ports) (i : ℕ) (p : List ℕ) → Consistent k → reach
     → has_power_at k i p ≡ true
 unfolding Consistent reach_at has_power_at
 reach_live (vacant b k) (suc i) p h g = reach_live k i p h.2 g
-reach_live (taken b s a k) zero [] h g = (both b.power (is_attached b.attached) (h.0.enabled g)).0
+reach_live (taken b s a k) zero [] h g = (both b.power _ (h.0.enabled g)).0
 reach_live (taken b s a k) zero (suc j ∷ p) h g =
-    let on : _ = both b.enable (reach_at a j p) g in
-    and_of b.power _ (both b.power (is_attached b.attached) (h.0.enabled on.0)).0
-    (reach_live a j p h.2 on.1)
+    grind (arith, reach_live a j p h.2)
 reach_live (taken b s a k) (suc i) p h g = reach_live k i p h.3 g
 reach_live k i p h g = false_true g
 

@@ -54,9 +54,9 @@ alike_taken b s z a c k m own below h = grind arith
 pub alike_forgotten : (k : Ports) → SameDevices k (all_forgotten k)
 unfolding all_forgotten
 alike_forgotten ended = alike_self ended
-alike_forgotten (vacant b k) = alike_vacant b k (all_forgotten k) (alike_forgotten k)
-alike_forgotten (taken b s a k) = alike_taken b s (forgotten s) a (all_forgotten a) k
-    (all_forgotten k) refl (alike_forgotten a) (alike_forgotten k)
+alike_forgotten (vacant b k) = alike_vacant b k _ (alike_forgotten k)
+alike_forgotten (taken b s a k) = alike_taken b s (forgotten s) a _ k
+    _ refl (alike_forgotten a) (alike_forgotten k)
 
 pub stand_alike : (k m : Ports) → SameDevices k m → StandAlike k m
 stand_alike k m h = grind arith

@@ -1,55 +1,39 @@
 -- An attempt of which nothing is damaged, at the one device that it is for and on one way down the
 -- tree, is the attempt in the whole tree.
+use Rattle.usb_world.proofs.attempts.Exchanges.{after_sent-plugged, heard_all_of, plugged_further}
+use Rattle.usb_world.proofs.attempts.Exchanges.{over_plugged, over_settled}
+use Rattle.usb_world.proofs.holders.OneHolderAttempts.{sound_answer}
+use Rattle.usb_world.proofs.ways.WayChanges.{changed_at-there}
 use Rattle.std.proofs.Common.{arith, ◌≡◌, ℕ, zero, suc, ◌+◌, ◌&&◌, if◌then◌else◌, Bool, true, false}
 use Rattle.std.proofs.Common.{List, [], ◌∷◌, ◌++◌, Option, None, Some, option_map, nat_eq, refl, ap}
 use Rattle.std.proofs.Common.{ap₂, sym, subst, ◌∙◌}
 use Rattle.std.specs.Option.{option_eq}
-use Rattle.std.proofs.lemmas.Option.{same_Some}
 use Rattle.usb_port.specs.{PortState}
-use Rattle.usb_device.specs.{HostSide, DeviceSide, Heard, Sent, Ports, vacant, taken, Plugged}
-use Rattle.usb_device.specs.{empty, full, before, changed_at, changed, plugged_at, device_there}
-use Rattle.usb_device.specs.{place_at, taken_sent, all_forgotten, heard_of, heard_from, both}
-use Rattle.usb_device.specs.{has_loss, asks_clearing, keeps_others, answer_by, effect_by, RefusedBy}
-use Rattle.usb_device.specs.{forgotten_in, address_by, token_sent, ack_sent, after_packet_at}
-use Rattle.usb_device.specs.{answer_from, asked_from, RefusedFrom, takes_data, after_token}
-use Rattle.usb_device.specs.{after_data, heard_of_both, acknowledges, after_reply, side_of}
-use Rattle.usb_device.specs.{heard_at, side_at, RefusedAt, left_in, cut_in, Place}
-use Rattle.usb_device.proofs.Interface.{changed_at-twice, heard_of-append, figure-after}
-use Rattle.usb_device.proofs.Interface.{row_of-after}
-use Rattle.usb_world.specs.{Attempt, Exchange, ExchangeAnswer, Whole, Outgoing, harm_to, mark_of}
-use Rattle.usb_world.specs.{is_read, marked, marked_some, ack_if, token_of, payload_of}
-use Rattle.usb_world.specs.{answer_place, answer_mark, reply_of, goes_out, token_out, payload_out}
-use Rattle.usb_world.specs.{heard_in, place_of_answer, mark_in, reply_in, reply_out, answered_in}
-use Rattle.usb_world.specs.{is_lost, lost_in, clears_at, cleared_in, exchange_in, ended_in}
-use Rattle.usb_world.specs.{ports_in, StaysPlugged, Exchanged, IsStopped, heard_above, host_side}
-use Rattle.usb_world.specs.{keeps_address, IsCut}
+use Rattle.usb_device.specs.{HostSide, DeviceSide, Heard, Sent, Ports, Plugged, full, changed_at}
+use Rattle.usb_device.specs.{changed, plugged_at, device_there, place_at, taken_sent, all_forgotten}
+use Rattle.usb_device.specs.{heard_of, heard_from, both, has_loss, asks_clearing, keeps_others}
+use Rattle.usb_device.specs.{RefusedBy, forgotten_in, address_by, token_sent, ack_sent}
+use Rattle.usb_device.specs.{after_packet_at, answer_from, asked_from, RefusedFrom, takes_data}
+use Rattle.usb_device.specs.{after_token, after_data, heard_of_both, acknowledges, after_reply}
+use Rattle.usb_device.specs.{side_of, heard_at, side_at, RefusedAt, left_in, cut_in, Place}
+use Rattle.usb_device.specs.{Location}
+use Rattle.usb_device.proofs.Interface.{changed_at-twice, heard_of-append}
+use Rattle.usb_world.specs.{Attempt, Exchange, Whole, Outgoing, harm_to, mark_of, is_read, marked}
+use Rattle.usb_world.specs.{marked_some, ack_if, token_of, payload_of, answer_place, reply_of}
+use Rattle.usb_world.specs.{goes_out, token_out, payload_out, heard_in, place_of_answer, mark_in}
+use Rattle.usb_world.specs.{reply_in, reply_out, answered_in, is_lost, lost_in, clears_at}
+use Rattle.usb_world.specs.{cleared_in, exchange_in, ended_in, ports_in, StaysPlugged, Exchanged}
+use Rattle.usb_world.specs.{IsStopped, heard_above, host_side, keeps_address, IsCut}
 use Rattle.usb_tree.specs.{IsSettled, after_sent, answers_to, deep_at, Alone, AloneAt, IsQuiet}
 use Rattle.usb_tree.specs.{KeptAt, is_whole_tree, is_deep}
 use Rattle.usb_tree.proofs.Interface.{false_true, both as both_true}
-use Rattle.usb_world.proofs.attempts.Exchanges.{heard_all_of, plugged_further, over_plugged}
-use Rattle.usb_world.proofs.attempts.Exchanges.{over_settled}
-use Rattle.usb_world.proofs.holders.OneDevice.{others_answer}
+use Rattle.usb_world.proofs.courses.Courses.{goes}
+use Rattle.usb_world.proofs.holders.OneDevice.{step_in, sent_to_one, sent_place, others_rest}
+use Rattle.usb_world.proofs.holders.OneDevice.{others_forget, alone_sent, second_alone, third_alone}
+use Rattle.usb_world.proofs.holders.OneDevice.{last_alone}
 use Rattle.usb_world.proofs.ways.Routes.{plugged_on, plugged_place, heard_place_by, others_clear}
-use Rattle.usb_world.proofs.ways.Routes.{others_loss, others_forget, others_rest, others_stop}
-use Rattle.usb_world.proofs.ways.Routes.{loss_by, alone_sent}
-use Rattle.usb_world.proofs.ways.RoutesKept.{step_in, place_at-changed, sent_one, two, three, four}
-use Rattle.usb_world.proofs.ways.RoutesKept.{till_end, all_is, here, kept_at}
-
--- ---- a change at a place, by what stands there
-
-changed_at-there : (f g : Place → Place) (k : Ports) (j : ℕ) (p : List ℕ) (x : Place)
-    → place_at k j p ≡ Some x → ((y : Place) → Some y ≡ Some x → f y ≡ g y)
-    → changed_at f k j p ≡ changed_at g k j p
-unfolding place_at changed_at
-changed_at-there f g (vacant b k) zero [] x at e = ap (λ y. before y k) (e (empty b) at)
-changed_at-there f g (vacant b k) (suc j) p x at e =
-    ap (vacant b) (changed_at-there f g k j p x at e)
-changed_at-there f g (taken b s a k) zero [] x at e = ap (λ y. before y k) (e (full b s a) at)
-changed_at-there f g (taken b s a k) zero (suc j ∷ p) x at e =
-    ap (λ y. taken b s y k) (changed_at-there f g a j p x at e)
-changed_at-there f g (taken b s a k) (suc j) p x at e =
-    ap (taken b s a) (changed_at-there f g k j p x at e)
-changed_at-there f g k j p x at e = refl
+use Rattle.usb_world.proofs.ways.Routes.{others_loss, others_stop, loss_by}
+use Rattle.usb_world.proofs.ways.RoutesKept.{till_end, left_is, here, kept_at}
 
 -- ---- one packet at the device
 
@@ -67,8 +51,7 @@ module _ (o : Option Sent) (k : Ports) (j : ℕ) (p : List ℕ) (b : PortState) 
     there_then : place_at (after_sent o k) j p
         ≡ Some (place_plugged b (after_packet_at o (deep_at false p) t))
     there_then =
-        ap (λ x. place_at x j p) (sent_one o k j p alone)
-        ∙ place_at-changed (step_in o (deep_at false p)) k j p
+        sent_place (sent_to_one o k (record { row = j; rest = p }) alone)
         ∙ ap (option_map (step_in o (deep_at false p))) at
         ∙ ap (λ x. Some x) (step_in-plugged o (deep_at false p) b t)
 
@@ -80,18 +63,22 @@ heard_of-alone : (o : Option Sent) (k : Ports) (j : ℕ) (p : List ℕ) (b : Por
     → heard_of (answers_to o k) ≡ heard_from (answer_from o (deep_at false p) t)
 heard_of-alone None k j p b t alone at = refl
 heard_of-alone (Some q) k j p b t alone at =
-    ap heard_of (others_answer q false k j p alone.on (others_rest q k j p alone))
-    ∙ heard_place_by q (deep_at false p) (place_at k j p)
-    ∙ ap (λ x. heard_from (answer_by q (deep_at false p) (plugged_on x))) at
+    grind (
+      arith,
+      heard_place_by q (deep_at false p) (place_at k j p),
+      sent_to_one (Some q) k (record { row = j; rest = p }) alone,
+    )
 
 clears_one : (o : Option Sent) (k : Ports) (j : ℕ) (p : List ℕ) (b : PortState) (t : Plugged)
     → Alone o k (record { row = j; rest = p }) → place_at k j p ≡ Some (place_plugged b t)
     → clears_at o k ≡ asks_clearing (asked_from o (deep_at false p) t)
 clears_one None k j p b t alone at = refl
 clears_one (Some q) k j p b t alone at =
-    others_clear q false k j p alone.on alone.forgot
-    ∙ ap (λ x. asks_clearing (effect_by q (deep_at false p) x))
-    (plugged_there (Some q) k j p b t alone at)
+    grind (
+      arith,
+      others_clear q false k j p alone.on alone.forgot,
+      plugged_there (Some q) k j p b t alone at,
+    )
 
 quiet_one : (port : ℕ) (o : Option Sent) (k : Ports) (j : ℕ) (p : List ℕ) (b : PortState)
     (t : Plugged)
@@ -99,9 +86,7 @@ quiet_one : (port : ℕ) (o : Option Sent) (k : Ports) (j : ℕ) (p : List ℕ) 
     → keeps_others port (asked_from o (deep_at false p) t) ≡ true → IsQuiet port o k (suc j ∷ p)
 quiet_one port None k j p b t alone at h = tt
 quiet_one port (Some q) k j p b t alone at h =
-    ap (λ x. keeps_others port (effect_by q (deep_at false p) x))
-    (plugged_there (Some q) k j p b t alone at)
-    ∙ h
+    grind (arith, plugged_there (Some q) k j p b t alone at)
 
 stopped_one : (o : Option Sent) (k : Ports) (j : ℕ) (p : List ℕ) (b : PortState) (t : Plugged)
     → Alone o k (record { row = j; rest = p }) → place_at k j p ≡ Some (place_plugged b t)
@@ -113,18 +98,11 @@ stopped_one (Some q) k j p b t alone at h =
       sent = q;
       went = refl;
       stopped =
-          others_stop q false k j p alone.on (others_rest q k j p alone)
+          others_stop q false k j p alone.on (others_rest q k _ alone)
           (subst (RefusedBy q (deep_at false p)) (sym there) h);
     }
 
-after_sent-plugged : (o : Option Sent) (k : Ports) → StaysPlugged k (after_sent o k)
-after_sent-plugged o k = grind (arith, figure-after, row_of-after)
-
 -- ---- no damage
-
-whole_answer : (n : ℕ) (h : ExchangeAnswer) → answer_mark (harm_to None n) h ≡ Whole
-unfolding answer_mark harm_to mark_of
-whole_answer n h = grind arith
 
 reply_taken : (g : Heard) (max : ℕ) → reply_of (heard_above g) Whole max ≡ ack_if (takes_data max g)
 unfolding reply_of is_read
@@ -172,6 +150,18 @@ module _ (a : Attempt) (k : Ports) (j : ℕ) (p : List ℕ)
   abbrev y : HostSide
   y = host_side a
 
+  abbrev spot : Location
+  spot = record { row = j; rest = p }
+
+  pub two : Alone q (after_sent t k) spot
+  two = second_alone a.addr t q r (goes a None k) k spot one
+
+  pub three : Alone r (answered_in a None k) spot
+  three = third_alone a.addr t q r (goes a None k) k spot one
+
+  pub four : Alone None (ended_in a None k) spot
+  four = last_alone a.addr t q r (goes a None k) k spot one
+
   abbrev b : PortState
   b = (here a None k j p one).port
 
@@ -201,7 +191,7 @@ module _ (a : Attempt) (k : Ports) (j : ℕ) (p : List ℕ)
       place_at (answered_in a None k) j p
       ≡ Some (place_plugged b (after_data y q deep_there device))
   second_at =
-      there_then q (after_sent t k) j p b (after_token y deep_there device) (two a None k j p one)
+      there_then q (after_sent t k) j p b _ two
       first_at
 
   pub heard_is : heard_in a None k ≡ heard_above (heard_of_both y q deep_there device)
@@ -209,15 +199,15 @@ module _ (a : Attempt) (k : Ports) (j : ℕ) (p : List ℕ)
   heard_is =
       sym (heard_all_of (answers_to t k ++ answers_to q (after_sent t k)))
       ∙ ap heard_above
-      (heard_of-append (answers_to t k) (answers_to q (after_sent t k))
+      (heard_of-append (answers_to t k) _
       ∙ ap₂ both
       (heard_of-alone t k j p b device one stands
       ∙ ap (λ o. heard_from (answer_from o deep_there device)) (token_out-undamaged a))
       (heard_of-alone q (after_sent t k) j p b (after_token y deep_there device)
-      (two a None k j p one) first_at))
+      two first_at))
 
   pub mark_is : mark_in a None k ≡ Whole
-  mark_is = whole_answer (place_of_answer a None) (heard_in a None k)
+  mark_is = sound_answer _ _
 
   pub reply_is : reply_in a None k ≡ marked_some None n a.pre (ack_if w)
   reply_is = grind (arith, heard_is, mark_is, reply_taken)
@@ -231,24 +221,22 @@ module _ (a : Attempt) (k : Ports) (j : ℕ) (p : List ℕ)
   unfolding after_reply
   replied =
       ap (λ o. after_packet_at o deep_there (after_data y q deep_there device)) reply_out_is
-      ∙ sent_to-ack y deep_there (after_data y q deep_there device) w
+      ∙ sent_to-ack y deep_there _ w
 
   end_at : place_at (ended_in a None k) j p
       ≡ Some (place_plugged b (after_reply y q deep_there device))
   end_at =
-      there_then r (answered_in a None k) j p b (after_data y q deep_there device)
-      (three a None k j p one) second_at
+      there_then r (answered_in a None k) j p b _ three second_at
       ∙ ap (λ x. Some (place_plugged b x)) replied
 
   pub end_there : plugged_at (ended_in a None k) j p ≡ Some (after_reply y q deep_there device)
   end_there =
-      plugged_there None (ended_in a None k) j p b (after_reply y q deep_there device)
-      (four a None k j p one) end_at
+      plugged_there None (ended_in a None k) j p b _ four end_at
 
   pub cleared_is : cleared_in a None k ≡ asks_clearing (side_of y q deep_there device).effect
   unfolding side_of
   cleared_is =
-      clears_one q (after_sent t k) j p b (after_token y deep_there device) (two a None k j p one)
+      clears_one q (after_sent t k) j p b _ two
       first_at
 
   pub lost_is : lost_in a None k ≡ (side_of y q deep_there device).address_lost
@@ -258,15 +246,14 @@ module _ (a : Attempt) (k : Ports) (j : ℕ) (p : List ℕ)
       ∙ lost_if a n (answered_in a None k) w
       ∙ ap (λ o. w && has_loss (after_sent o (answered_in a None k))) (sym reply_out_is)
       ∙ ap (λ x. w && x)
-      (others_loss (ended_in a None k) j p (four a None k j p one).on (four a None k j p one).forgot
+      (others_loss (ended_in a None k) j p four.on four.forgot
       ∙ ap loss_by end_there)
 
   pub quiet_is : (port : ℕ) → keeps_others port (side_of y q deep_there device).effect ≡ true
       → IsQuiet port q (after_sent t k) (suc j ∷ p)
   unfolding side_of
   quiet_is port h =
-      quiet_one port q (after_sent t k) j p b (after_token y deep_there device)
-      (two a None k j p one) first_at h
+      quiet_one port q (after_sent t k) j p b _ two first_at h
 
   till_end_is :
       till_end a None k j p one (place_plugged b device)
@@ -275,49 +262,32 @@ module _ (a : Attempt) (k : Ports) (j : ℕ) (p : List ℕ)
       ap (λ x. step_in r deep_there (step_in q deep_there x))
       (step_in-plugged t deep_there b device
       ∙ ap (λ o. place_plugged b (after_packet_at o deep_there device)) (token_out-undamaged a))
-      ∙ ap (step_in r deep_there) (step_in-plugged q deep_there b (after_token y deep_there device))
-      ∙ step_in-plugged r deep_there b (after_data y q deep_there device)
+      ∙ ap (step_in r deep_there) (step_in-plugged q deep_there b _)
+      ∙ step_in-plugged r deep_there b _
       ∙ ap (place_plugged b) replied
 
-  pub left_is : changed_at (left_in y q deep_there) k j p ≡ ports_in a None k
-  left_is =
+  pub walk_is : changed_at (left_in y q deep_there) k j p ≡ ports_in a None k
+  walk_is =
       changed_at-there (left_in y q deep_there) (λ x. forgotten_in (till_end a None k j p one x)) k
-      j p (place_plugged b device) stands
-      (λ x e. same_place x e (ap forgotten_in (sym till_end_is))) ∙ sym (all_is a None k j p one)
-    where
-      same_place : (x : Place) → Some x ≡ Some (place_plugged b device)
-          → left_in y q deep_there (place_plugged b device)
-          ≡ forgotten_in (till_end a None k j p one (place_plugged b device))
-          → left_in y q deep_there x ≡ forgotten_in (till_end a None k j p one x)
-      same_place x e h =
-          subst (λ z. left_in y q deep_there z ≡ forgotten_in (till_end a None k j p one z))
-          (sym (same_Some x (place_plugged b device) e)) h
+      j p _ stands (ap forgotten_in (sym till_end_is))
+      ∙ sym (left_is a None k j p one)
 
   pub cut_is : changed_at (cut_in y deep_there) k j p ≡ all_forgotten (after_sent t k)
   cut_is =
       let after : _ = alone_sent t k (suc j ∷ p) one in
       changed_at-there (cut_in y deep_there) (λ x. forgotten_in (step_in t deep_there x)) k j p
-      (place_plugged b device) stands
-      (λ x e. same_place x e (ap forgotten_in (sym
-      (step_in-plugged t deep_there b device
-      ∙ ap (λ o. place_plugged b (after_packet_at o deep_there device)) (token_out-undamaged a)))))
+      _ stands
+      (ap forgotten_in (sym (step_in-plugged t deep_there b device
+      ∙ ap (λ o. place_plugged b (after_packet_at o deep_there device)) (token_out-undamaged a))))
       ∙ sym
       (others_forget (after_sent t k) j p after.on after.forgot
-      ∙ ap (λ x. changed_at forgotten_in x j p) (sent_one t k j p one)
+      ∙ ap (λ x. changed_at forgotten_in x j p) (sent_to_one t k spot one).ports
       ∙ changed_at-twice forgotten_in (step_in t deep_there) k j p)
-    where
-      same_place : (x : Place) → Some x ≡ Some (place_plugged b device)
-          → cut_in y deep_there (place_plugged b device)
-          ≡ forgotten_in (step_in t deep_there (place_plugged b device))
-          → cut_in y deep_there x ≡ forgotten_in (step_in t deep_there x)
-      same_place x e h =
-          subst (λ z. cut_in y deep_there z ≡ forgotten_in (step_in t deep_there z))
-          (sym (same_Some x (place_plugged b device) e)) h
 
   pub stopped_is : RefusedFrom q deep_there (after_token y deep_there device)
       → IsStopped q (after_sent t k) (after_sent t k)
   stopped_is h =
-      stopped_one q (after_sent t k) j p b (after_token y deep_there device) (two a None k j p one)
+      stopped_one q (after_sent t k) j p b _ two
       first_at h
 
 -- ---- as the code makes it, by paths
@@ -378,7 +348,7 @@ module _ (a : Attempt) (k m : Ports) (j : ℕ) (p : List ℕ) (x : Exchange) (g 
   address_is = ap (λ s. s.address) side_is ∙ ap address_by (sym (end_there a k j p one))
 
   pub ports_there : m ≡ ports_in a None k
-  ports_there = grind (arith, data_then, left_is)
+  ports_there = grind (arith, data_then, walk_is)
 
   answer_is : x.answer ≡ heard_in a None k
   answer_is = walked.answer ∙ ap heard_above heard_then ∙ sym (heard_is a k j p one)
@@ -413,7 +383,7 @@ walked_kept port a k m [] x g side f h w kept = false_true (sym f)
 walked_kept port a k m (zero ∷ p) x g side f h w kept = absurd h
 walked_kept port a k m (suc j ∷ p) x g side f h w kept =
     let same : Bool = option_eq nat_eq side.address (Some a.addr) in
-    let is : _ = both_true (keeps_others port side.effect) same kept in
+    let is : _ = both_true _ same kept in
     kept_there a k m j p x g side h w port is.0 is.1
 
 -- ---- memory that was refused
@@ -491,7 +461,7 @@ made_plugged a k m e =
 pub cut_plugged : (a : Attempt) (k m : Ports) → m ≡ all_forgotten (after_sent (token_out a None) k)
     → StaysPlugged k m
 cut_plugged a k m e =
-    over_plugged k (after_sent (token_out a None) k) m e (after_sent-plugged (token_out a None) k)
+    over_plugged k _ m e (after_sent-plugged _ k)
 
 pub made_settled : (a : Attempt) (k m : Ports) → m ≡ ports_in a None k → IsSettled m
-made_settled a k m e = over_settled (ended_in a None k) m (e ∙ ports_in-undamaged a k)
+made_settled a k m e = over_settled _ m (e ∙ ports_in-undamaged a k)

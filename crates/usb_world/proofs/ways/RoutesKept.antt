@@ -1,4 +1,6 @@
 -- An attempt that goes straight to one device: whose addresses stay.
+use Rattle.usb_world.proofs.holders.OneDevice.{IsFull, reach-full, full_state, step_in, sent_to_one}
+use Rattle.usb_world.proofs.holders.OneDevice.{sent_place, end_is, all_is}
 use Rattle.std.proofs.Common.{arith, ◌≡◌, ℕ, zero, suc, Bool, true, false, List, [], ◌∷◌, ◌++◌}
 use Rattle.std.proofs.Common.{Option, None, Some, is_some, option_map, IsSome, nat_eq, refl, ap}
 use Rattle.std.proofs.Common.{sym, subst, ◌∙◌}
@@ -6,42 +8,24 @@ use Rattle.std.proofs.lemmas.Option.{same_Some}
 use Rattle.std.specs.Option.{option_eq}
 use Rattle.arrayvec.specs.ArrayVec.{ArrayVec}
 use Rattle.usb_port.specs.{PortState}
-use Rattle.usb_device.specs.{Sent, Leaves, State, Ports, vacant, taken, empty, full, before, acted}
-use Rattle.usb_device.specs.{put, changed, changed_at, changed_in, device_there, plugged_at}
-use Rattle.usb_device.specs.{reach_at, place_at, Location, state_at, answer_of, all_forgotten}
-use Rattle.usb_device.specs.{reached, all_reached, ReachedSame, keeps_others, IsIndexOf}
-use Rattle.usb_device.specs.{IsIndexWithout, sent_in, effect_by, forgotten_in, address_by, Place}
+use Rattle.usb_device.specs.{Sent, Leaves, State, Ports, full, acted, put, changed, changed_at}
+use Rattle.usb_device.specs.{changed_in, device_there, plugged_at, place_at, Location, state_at}
+use Rattle.usb_device.specs.{answer_of, all_forgotten, reached, all_reached, ReachedSame}
+use Rattle.usb_device.specs.{keeps_others, IsIndexOf, IsIndexWithout, forgotten_in, address_by}
+use Rattle.usb_device.specs.{Place}
 use Rattle.usb_device.specs.declared.holders.Holders.{Holders}
-use Rattle.usb_device.proofs.Interface.{changed_at-port, changed_at-same, changed_at-twice}
-use Rattle.usb_device.proofs.Interface.{changed_at-zero, index_around, reached-acted, reached-both}
-use Rattle.usb_device.proofs.Interface.{same_index}
+use Rattle.usb_device.proofs.Interface.{changed_at-port, changed_at-twice, changed_at-zero}
+use Rattle.usb_device.proofs.Interface.{index_around, reached-acted, reached-both, same_index}
 use Rattle.usb_world.specs.{Attempt, Damage, token_out, payload_out, reply_out, ended_in, ports_in}
 use Rattle.usb_tree.specs.{address_of, after_sent, deep_at, IsSettled, Alone, is_whole_tree}
 use Rattle.usb_tree.specs.{IsWayTo, without_port, IsQuiet, KeptAt}
-use Rattle.usb_tree.proofs.Interface.{false_true, both, equal_same}
+use Rattle.usb_tree.proofs.Interface.{false_true, equal_same}
 use Rattle.usb_world.proofs.packets.AttemptPackets.{token_out as token_calm, ack_out as ack_calm}
-use Rattle.usb_world.proofs.holders.OneDevice.{stands, state_stands}
-use Rattle.usb_world.proofs.holders.OneHolderPorts.{asked_of, calm_asked}
-use Rattle.usb_world.proofs.ways.Routes.{others_packet, others_rest, others_forget, plugged_on}
-use Rattle.usb_world.proofs.ways.Routes.{plugged_place, alone_token, alone_data, alone_ack}
-use Rattle.usb_world.proofs.ways.Routes.{alone_sent}
+use Rattle.usb_world.proofs.holders.OneHolderPorts.{calm_asked}
+use Rattle.usb_world.proofs.holders.OneHolder.{asked_of}
+use Rattle.usb_world.proofs.ways.WayChanges.{place_at-changed}
+use Rattle.usb_world.proofs.ways.Routes.{plugged_on, plugged_place, alone_token}
 use Rattle.usb_world.proofs.courses.Courses.{goes}
-
--- ---- changes at one place
-
-place_at-first : (q : Place) (k : Ports) → place_at (before q k) 0 [] ≡ Some q
-unfolding place_at
-place_at-first q k = grind arith
-
-pub place_at-changed : (f : Place → Place) (k : Ports) (j : ℕ) (p : List ℕ)
-    → place_at (changed_at f k j p) j p ≡ option_map f (place_at k j p)
-unfolding place_at changed_at
-place_at-changed f (vacant b k) zero [] = place_at-first (f (empty b)) k
-place_at-changed f (vacant b k) (suc j) p = place_at-changed f k j p
-place_at-changed f (taken b s a k) zero [] = place_at-first (f (full b s a)) k
-place_at-changed f (taken b s a k) zero (suc j ∷ p) = place_at-changed f a j p
-place_at-changed f (taken b s a k) (suc j) p = place_at-changed f k j p
-place_at-changed f k j p = refl
 
 -- a device with another state of the same address, and ports below which the same devices are
 -- reached, without what is on one of them
@@ -56,10 +40,6 @@ same_there port b s t a c e h = grind arith
 
 -- ---- one packet
 
-abbrev pub step_in : Option Sent → Bool → Place → Place
-step_in None = λ deep x. x
-step_in (Some q) = λ deep x. sent_in q deep x
-
 abbrev own_after : Option Sent → Bool → State → Ports → State
 own_after None deep s a = s
 own_after (Some q) deep s a = (answer_of q deep s a).1
@@ -72,38 +52,14 @@ step_in-full : (o : Option Sent) (deep : Bool) (b : PortState) (s : State) (a : 
     → step_in o deep (full b s a) ≡ full b (own_after o deep s a) (acted (asked_of o deep s) a)
 step_in-full o deep b s a = grind arith
 
-pub sent_one : (o : Option Sent) (k : Ports) (j : ℕ) (p : List ℕ)
-    → Alone o k (record { row = j; rest = p })
-    → after_sent o k ≡ changed_at (step_in o (deep_at false p)) k j p
-sent_one o k j p h = grind (arith, changed_at-same, others_packet, others_rest)
-
 quiet_keeps_others : (port : ℕ) (o : Option Sent) (k : Ports) (j : ℕ) (p : List ℕ) (b : PortState)
     (s : State) (a : Ports) → IsQuiet port o k (suc j ∷ p) → place_at k j p ≡ Some (full b s a)
     → keeps_others port (asked_of o (deep_at false p) s) ≡ true
 quiet_keeps_others port None k j p b s a h e = refl
 quiet_keeps_others port (Some q) k j p b s a h e =
-    sym (ap (λ x. keeps_others port (effect_by q (deep_at false p) (plugged_on x))) e)
-    ∙ ap (λ x. keeps_others port (effect_by q (deep_at false p) x)) (plugged_place k j p) ∙ h
+    grind (arith, plugged_place k j p)
 
 -- ---- an attempt
-
-pub record PlaceFull (k : Ports) (j : ℕ) (p : List ℕ) : Type 0 where
-  pub port : PortState
-  pub own : State
-  pub below : Ports
-  pub at : place_at k j p ≡ Some (full port own below)
-
-reach-full : (k : Ports) (j : ℕ) (p : List ℕ) → reach_at k j p ≡ true → PlaceFull k j p
-unfolding reach_at place_at
-reach-full (vacant b k) (suc j) p h = let x : _ = reach-full k j p h in
-    record { port = x.port; own = x.own; below = x.below; at = x.at }
-reach-full (taken b s a k) zero [] h = record { port = b; own = s; below = a; at = refl }
-reach-full (taken b s a k) zero (suc j ∷ p) h = let x : _ =
-    reach-full a j p (both b.enable (reach_at a j p) h).1 in
-    record { port = x.port; own = x.own; below = x.below; at = x.at }
-reach-full (taken b s a k) (suc j) p h = let x : _ = reach-full k j p h in
-    record { port = x.port; own = x.own; below = x.below; at = x.at }
-reach-full k j p h = false_true h
 
 module _ (a : Attempt) (d : Option Damage) (k : Ports) (j : ℕ) (p : List ℕ)
     (one : Alone (token_out a d) k (record { row = j; rest = p })) where
@@ -122,41 +78,15 @@ module _ (a : Attempt) (d : Option Damage) (k : Ports) (j : ℕ) (p : List ℕ)
   abbrev x : Location
   x = record { row = j; rest = p }
 
-  pub two : Alone q (after_sent t k) x
-  two = alone_data q (after_sent t k) (suc j ∷ p) (alone_sent t k (suc j ∷ p) one)
-      (goes a d k).payload
-
-  pub three : Alone r (after_sent q (after_sent t k)) x
-  three = alone_ack r (after_sent q (after_sent t k)) (suc j ∷ p)
-      (alone_sent q (after_sent t k) (suc j ∷ p) two) (goes a d k).reply
-
-  pub four : Alone None (ended_in a d k) x
-  four = alone_sent r (after_sent q (after_sent t k)) (suc j ∷ p) three
-
-  abbrev pub till_data : Place → Place
-  till_data x = step_in q deep (step_in t deep x)
-
   abbrev pub till_end : Place → Place
-  till_end x = step_in r deep (till_data x)
+  till_end x = step_in r deep (step_in q deep (step_in t deep x))
 
-  data_is : after_sent q (after_sent t k) ≡ changed_at till_data k j p
-  data_is = sent_one q (after_sent t k) j p two
-      ∙ ap (λ x. changed_at (step_in q deep) x j p) (sent_one t k j p one)
-      ∙ changed_at-twice (step_in q deep) (step_in t deep) k j p
-
-  pub end_is : ended_in a d k ≡ changed_at till_end k j p
-  end_is = sent_one r (after_sent q (after_sent t k)) j p three
-      ∙ ap (λ x. changed_at (step_in r deep) x j p) data_is
-      ∙ changed_at-twice (step_in r deep) till_data k j p
-
-  pub all_is : ports_in a d k ≡ changed_at (λ x. forgotten_in (till_end x)) k j p
-  unfolding ports_in
-  all_is = others_forget (ended_in a d k) j p four.on four.forgot
-      ∙ ap (λ x. changed_at forgotten_in x j p) end_is
-      ∙ changed_at-twice forgotten_in till_end k j p
-
-  pub here : PlaceFull k j p
+  pub here : IsFull (place_at k j p)
   here = reach-full k j p one.on
+
+  pub left_is : ports_in a d k ≡ changed_at (λ y. forgotten_in (till_end y)) k j p
+  unfolding ports_in
+  left_is = all_is a.addr t q r (goes a d k) k x one
 
   abbrev first : State
   first = own_after t deep here.own here.below
@@ -176,20 +106,21 @@ module _ (a : Attempt) (d : Option Damage) (k : Ports) (j : ℕ) (p : List ℕ)
       (calm_asked t (token_calm a.addr t (goes a d k).token) deep here.own)
 
   first_at : place_at (after_sent t k) j p ≡ Some (full here.port first here.below)
-  first_at =
-      ap (λ x. place_at x j p) (sent_one t k j p one) ∙ place_at-changed (step_in t deep) k j p
-      ∙ ap (option_map (step_in t deep)) here.at ∙ ap (λ x. Some x) first_place
+  first_at = sent_place (sent_to_one t k x one) ∙ ap (option_map (step_in t deep)) here.at
+      ∙ ap (λ x. Some x) first_place
 
   end_place : till_end (full here.port here.own here.below) ≡ full here.port third below_then
   end_place = grind (arith, ack_calm, calm_asked, first_place, goes, step_calm, step_in-full)
 
   end_at : place_at (ended_in a d k) j p ≡ Some (full here.port third below_then)
-  end_at = grind (arith, end_is, end_place, place_at-changed)
+  end_at = ap (λ y. place_at y j p) (end_is a.addr t q r (goes a d k) k x one)
+      ∙ place_at-changed till_end k j p ∙ ap (option_map till_end) here.at
+      ∙ ap (λ x. Some x) end_place
 
   module _ (at : option_map address_of (state_at k j p) ≡ Some a.addr) where
     here_address : here.own.registers.address ≡ a.addr
-    here_address = same_Some here.own.registers.address a.addr
-        (sym (ap (option_map address_of) (sym (state_stands k j p) ∙ ap stands here.at)) ∙ at)
+    here_address = same_Some _ a.addr
+        (sym (ap (option_map address_of) (full_state k j p here)) ∙ at)
 
     module _ (port : ℕ) (quiet : IsQuiet port q (after_sent t k) (suc j ∷ p)) where
       abbrev without : Place → Place
@@ -210,14 +141,14 @@ module _ (a : Attempt) (d : Option Damage) (k : Ports) (j : ℕ) (p : List ℕ)
           ≡ all_reached (without_port port k (suc j ∷ p))
       addresses_stay e =
           let address : third.registers.address ≡ a.addr =
-          same_Some third.registers.address a.addr (sym (ap (λ x. address_by (plugged_on x)) end_at)
+          same_Some _ a.addr (sym (ap (λ x. address_by (plugged_on x)) end_at)
           ∙ ap address_by (plugged_place (ended_in a d k) j p) ∙ e) in
           ap all_reached
           (changed_at-port (put None) (ports_in a d k) j p port
-          ∙ ap (λ x. changed_at without x j p) all_is
+          ∙ ap (λ y. changed_at without y j p) left_is
           ∙ changed_at-twice without (λ x. forgotten_in (till_end x)) k j p)
           ∙ reached-both (λ x. without (forgotten_in (till_end x))) without _ 1 k j p
-          (λ x at. left_same x (same_Some x (full here.port here.own here.below) (sym at ∙ here.at))
+          (λ x at. left_same x (same_Some x _ (sym at ∙ here.at))
           (address ∙ sym here_address))
           ∙ sym (ap all_reached (changed_at-port (put None) k j p port))
 
@@ -254,7 +185,7 @@ pub index_port : (n port : ℕ) (h : Holders) (k m : Ports) (p l : List ℕ) →
     → IsIndexWithout h m l
 index_port n port h k m (suc j ∷ p) l e s w kept is =
     subst (λ x. IsIndexWithout h m x) (sym e)
-    (same_index h (without_port port k (suc j ∷ p)) (without_port port m (suc j ∷ p)) (kept s w)
+    (same_index h _ _ (kept s w)
     (subst (λ x. IsIndexWithout h k x) e is))
 index_port n port h k m p l e s w kept is = absurd kept
 
@@ -265,4 +196,4 @@ pub index_beside : (a : Attempt) (d : Option Damage) (h : Holders) (k m : Ports)
 index_beside a d h k m [] f s w e is = false_true (sym f)
 index_beside a d h k m (zero ∷ p) f s w e is = absurd w
 index_beside a d h k m (suc j ∷ p) f s w e is =
-    index_around h _ k m (suc j ∷ p) (e ∙ all_is a d k j p (alone_token a d k (suc j ∷ p) s w)) is
+    index_around h _ k m (suc j ∷ p) (e ∙ left_is a d k j p (alone_token a d k (suc j ∷ p) s w)) is

@@ -1,13 +1,14 @@
--- A change at a place: a way that does not lead there stays. One walk answers all that is asked.
-use Rattle.std.proofs.Common.{arith, ◌≡◌, ℕ, zero, suc, ◌&&◌, false, List, [], ◌∷◌, not, true, refl}
-use Rattle.std.proofs.Common.{ap, sym}
+-- A change at a place: the place then, and that a way that does not lead there stays. One walk
+-- answers all that is asked.
+use Rattle.std.proofs.Common.{◌∙◌, arith, ◌≡◌, ℕ, zero, suc, ◌&&◌, false, List, [], ◌∷◌, not, true}
+use Rattle.std.proofs.Common.{refl, ap, Some, option_map}
 use Rattle.usb_port.specs.{PortState, PortCall}
 use Rattle.usb_device.specs.{State, Ports, ended, vacant, taken, empty, full, before, changed_at}
 use Rattle.usb_device.specs.{called, reach_at, state_at, port_at, changed, reach, port_there}
-use Rattle.usb_device.specs.{state_there, Place}
+use Rattle.usb_device.specs.{state_there, place_at, Place}
 use Rattle.usb_world.specs.{root_leaves, way_of}
 use Rattle.usb_tree.specs.{has_power_at, pending_at, is_way, on_way, same_number}
-use Rattle.usb_tree.proofs.Interface.{false_true, not-true}
+use Rattle.usb_tree.proofs.Interface.{not-true}
 
 -- the ports on the way to a path are what they were: it is reached, live and pending as it was, and
 -- its port is the same
@@ -22,6 +23,10 @@ SameWay k m j p = SamePorts k m j p × (state_at m j p ≡ state_at k j p)
 
 pub same_ports : (k : Ports) (j : ℕ) (p : List ℕ) → SamePorts k k j p
 same_ports k j p = (refl, refl, refl, refl)
+
+pub ports_then : (k m n : Ports) (j : ℕ) (p : List ℕ) → SamePorts k m j p → SamePorts m n j p
+    → SamePorts k n j p
+ports_then k m n j p x y = (y.0 ∙ x.0, y.1 ∙ x.1, y.2 ∙ x.2, y.3 ∙ x.3)
 
 same_way-refl : (k : Ports) (j : ℕ) (p : List ℕ) → SameWay k k j p
 same_way-refl k j p = (same_ports k j p, refl)
@@ -48,24 +53,45 @@ pub changed_apart : (f : Place → Place) (k : Ports) (i : ℕ) (e : List ℕ) (
     → on_way i e j p ≡ false → SameWay k (changed_at f k i e) j p
 unfolding changed_at reach_at has_power_at pending_at port_at state_at is_way
 changed_apart f ended i e j p h = same_way-refl ended j p
-changed_apart f (vacant b k) zero [] (suc j) p h = same_way-other_port (empty b) (f (empty b)) k j p
-changed_apart f (vacant b k) zero (n ∷ e) j p h = same_way-refl (vacant b k) j p
+changed_apart f (vacant b k) zero e j p h = grind (arith, same_way-other_port, same_way-refl)
 changed_apart f (vacant b k) (suc i) e zero p h = same_way-behind (empty b) k (changed_at f k i e) p
 changed_apart f (vacant b k) (suc i) e (suc j) p h = changed_apart f k i e j p h
-changed_apart f (taken b s a k) zero [] (suc j) p h =
-    same_way-other_port (full b s a) (f (full b s a)) k j p
-changed_apart f (taken b s a k) zero (zero ∷ e) j p h = same_way-refl (taken b s a k) j p
-changed_apart f (taken b s a k) zero (suc i ∷ e) zero [] h = same_way-refl (taken b s a k) zero []
-changed_apart f (taken b s a k) zero (suc i ∷ e) zero (zero ∷ p) h =
-    same_way-refl (taken b s a k) zero (zero ∷ p)
 changed_apart f (taken b s a k) zero (suc i ∷ e) zero (suc j ∷ p) h =
-    let x : _ = changed_apart f a i e j p h in
-    (passed_ports b s s a (changed_at f a i e) k k j p x.0, x.1)
-changed_apart f (taken b s a k) zero (suc i ∷ e) (suc j) p h = same_way-refl k j p
+    grind (arith, changed_apart f a i e j p h, passed_ports)
+changed_apart f (taken b s a k) zero e j p h = grind (arith, same_way-other_port, same_way-refl)
 changed_apart f (taken b s a k) (suc i) e zero p h =
     same_way-behind (full b s a) k (changed_at f k i e) p
 changed_apart f (taken b s a k) (suc i) e (suc j) p h = changed_apart f k i e j p h
-changed_apart f k i e j p h = false_true (sym h)
+
+-- the place itself
+
+place_at-first : (q : Place) (k : Ports) → place_at (before q k) 0 [] ≡ Some q
+unfolding place_at
+place_at-first q k = grind arith
+
+pub place_at-changed : (f : Place → Place) (k : Ports) (j : ℕ) (p : List ℕ)
+    → place_at (changed_at f k j p) j p ≡ option_map f (place_at k j p)
+unfolding place_at changed_at
+place_at-changed f (vacant b k) zero [] = place_at-first (f (empty b)) k
+place_at-changed f (vacant b k) (suc j) p = place_at-changed f k j p
+place_at-changed f (taken b s a k) zero [] = place_at-first (f (full b s a)) k
+place_at-changed f (taken b s a k) zero (suc j ∷ p) = place_at-changed f a j p
+place_at-changed f (taken b s a k) (suc j) p = place_at-changed f k j p
+place_at-changed f k j p = refl
+
+-- what stands there is all that the change hangs on
+pub changed_at-there : (f g : Place → Place) (k : Ports) (j : ℕ) (p : List ℕ) (x : Place)
+    → place_at k j p ≡ Some x → f x ≡ g x → changed_at f k j p ≡ changed_at g k j p
+unfolding place_at changed_at
+changed_at-there f g (vacant b k) zero [] x at e = cc
+changed_at-there f g (vacant b k) (suc j) p x at e =
+    ap (vacant b) (changed_at-there f g k j p x at e)
+changed_at-there f g (taken b s a k) zero [] x at e = cc
+changed_at-there f g (taken b s a k) zero (suc j ∷ p) x at e =
+    ap (λ y. taken b s y k) (changed_at-there f g a j p x at e)
+changed_at-there f g (taken b s a k) (suc j) p x at e =
+    ap (taken b s a) (changed_at-there f g k j p x at e)
+changed_at-there f g k j p x at e = refl
 
 pub called_apart : (c : PortCall) (k : Ports) (i j : ℕ) (p : List ℕ)
     → not (same_number i j) ≡ true → SameWay k (changed_at (called c) k i []) j p

@@ -1,11 +1,11 @@
 -- Which paths lead to which, and what is so on the way to a path.
-use Rattle.std.proofs.Common.{◌≡◌, ◌∙◌, refl, sym, ap, ap₂, subst, arith, append-nil, append_assoc}
-use Rattle.std.proofs.Common.{length-append, ℕ, zero, suc, ◌+◌, ◌<◌, inl, inr, Bool, true, false}
-use Rattle.std.proofs.Common.{◌&&◌, ◌||◌, List, [], ◌∷◌, ◌++◌, length, Some, nat_eq}
+use Rattle.std.proofs.Common.{◌||◌, ◌≡◌, ◌∙◌, refl, sym, ap, ap₂, subst, arith, append-nil}
+use Rattle.std.proofs.Common.{append_assoc, length-append, ℕ, zero, suc, ◌+◌, ◌<◌, inl, inr, Bool}
+use Rattle.std.proofs.Common.{true, false, ◌&&◌, List, [], ◌∷◌, ◌++◌, length, Some, nat_eq}
 use Rattle.std.specs.Cmp.Lexicographic.{pointwise, same_text, bytes_decides}
 use Rattle.std.specs.List.{starts_with}
 use Rattle.std.proofs.lemmas.Bool.{eqb-true, eq-eqb}
-use Rattle.usb_port.specs.{is_below as is_port_below, parent_of, port_on_hub}
+use Rattle.usb_port.specs.{is_below as is_port_below, parent_of}
 use Rattle.usb_port.proofs.Interface.{is_below-extension, rejoined}
 use Rattle.usb_device.specs.{Spec, Ports, vacant, taken, reach, reach_at}
 use Rattle.usb_world.specs.{Action, Event, NoneNames, Undisturbed, names_path, way_of, World}
@@ -39,7 +39,7 @@ pub way_trans : (p q x : List ℕ) → is_way p q ≡ true → is_way q x ≡ tr
 way_trans p q x pq qx =
     let first = way_rest p q pq in
     let second = way_rest q x qx in
-    way_of_rest p x (first.0 ++ second.0) (second.1 ∙ ap (λ (l : List ℕ). l ++ second.0) first.1
+    way_of_rest p x _ (second.1 ∙ ap (λ (l : List ℕ). l ++ second.0) first.1
     ∙ append_assoc p first.0 second.0)
 
 -- Other words for it
@@ -55,9 +55,8 @@ way_starts p x = refl
 
 rest_below : (x p rest : List ℕ) → x ≡ p ++ rest → (pointwise nat_eq x p || is_port_below x p)
     ≡ true
-rest_below x p [] e = or_left (pointwise nat_eq x p) (is_port_below x p)
-    ((bytes_decides x p).1 (e ∙ append-nil p))
-rest_below x p (n ∷ rest) e = or_right (pointwise nat_eq x p) (is_port_below x p)
+rest_below x p [] e = or_left (pointwise nat_eq x p) _ ((bytes_decides x p).1 (e ∙ append-nil p))
+rest_below x p (n ∷ rest) e = or_right (pointwise nat_eq x p) _
     ((is_below-extension x p).1 (n ∷ rest, e, omega arith))
 
 below_rest : (x p : List ℕ) → (pointwise nat_eq x p || is_port_below x p) ≡ true → is_way p x ≡ true
@@ -84,7 +83,7 @@ pub way_shorter : (p x : List ℕ) → length x < length p → is_way p x ≡ fa
 way_shorter p x shorter = shorter_by p x shorter (is_way p x) refl
 
 pub way_parent : (path hub : List ℕ) → parent_of path ≡ Some hub → is_way hub path ≡ true
-way_parent path hub is = way_of_rest hub path (port_on_hub path ∷ []) (rejoined path hub is)
+way_parent path hub is = way_of_rest hub path _ (rejoined path hub is)
 
 not_so : (a b : Bool) → (a ≡ true → b ≡ true) → b ≡ false → a ≡ false
 not_so a b f h = grind arith
@@ -100,7 +99,7 @@ reached_above : (k : Ports) (j : ℕ) (x rest : List ℕ)
 unfolding reach_at
 reached_above (vacant b k) (suc j) x rest h = reached_above k j x rest h
 reached_above (taken b s a k) zero [] [] h = h
-reached_above (taken b s a k) zero [] (suc n ∷ rest) h = (both b.enable (reach_at a n rest) h).0
+reached_above (taken b s a k) zero [] (suc n ∷ rest) h = (both b.enable _ h).0
 reached_above (taken b s a k) zero (suc i ∷ x) rest h =
     and_kept b.enable _ _ (reached_above a i x rest) h
 reached_above (taken b s a k) (suc j) x rest h = reached_above k j x rest h

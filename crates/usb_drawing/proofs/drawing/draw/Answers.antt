@@ -14,4 +14,4 @@ returns-in_err-plan-clause-drawn g c =
 
 pub returns-clause-drawn : goal.returns-clause-drawn
 returns-clause-drawn g c = of_plan c.in_ok-plan.plan c.in_ok-plan.ensures.plan
-    c.draw_run.ensures.reader c.draw_run.ensures.drawn
+    c.write_items.ensures.reader c.write_items.ensures.written

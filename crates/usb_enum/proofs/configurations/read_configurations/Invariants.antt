@@ -1,7 +1,5 @@
-use Rattle.std.proofs.Common.{◌≡◌, ◌*◌, length, false, true}
-use Rattle.usb_bus.specs.{Spends}
-use Rattle.usb_hub.specs.{StillWorks}
-use Rattle.usb_enum.specs.{configuration_bound, OnlyAsks, DeviceFact, KeepingSteps, AtMaximum}
+use Rattle.std.proofs.Common.{◌≡◌, ◌*◌, None, length, false, true}
+use Rattle.usb_enum.specs.{configuration_bound, Gone, OnlyAsks, DeviceFact, AtMaximum}
 use Rattle.usb_enum.specs.{HasConfigurations, ValuesDiffer, TextsAsked, is_over, left_of}
 use Rattle.usb_enum.specs.{texts_length}
 use Rattle.usb_enum.proofs.readings.TextLengths.{TextsRead}
@@ -9,10 +7,8 @@ use Rattle.usb_enum.proofs.configurations.read_configurations.Given as goal
 
 abbrev pub invariant-loop-index : goal.invariant-loop-index
 invariant-loop-index g l = record {
-  spends : Spends g.B.Bus.spent g.B.Bus.ports (l.index * configuration_bound) l.initial.bus l.bus;
-  steps : g.B.Bus.modelled ≡ true → KeepingSteps OnlyAsks (l.index * configuration_bound)
-      (g.B.Bus.world l.initial.bus) (g.B.Bus.trace l.initial.bus)
-      (g.B.Bus.world l.bus) (g.B.Bus.trace l.bus);
+  gone : Gone g.B.Bus.modelled g.B.Bus.world g.B.Bus.trace g.B.Bus.spent g.B.Bus.ports
+      g.B.Bus.failed OnlyAsks (l.index * configuration_bound) l.initial.bus None l.bus;
   read : length l.texts ≡ l.index;
   differ : ValuesDiffer l.texts;
   left : l.room ≡ left_of l.fn.budget (texts_length l.texts);
@@ -24,6 +20,4 @@ invariant-loop-index g l = record {
   learned : g.B.Bus.modelled ≡ true
       → DeviceFact (AtMaximum l.target (HasConfigurations l.fn.budget l.index l.texts)) l.target
       (g.B.Bus.world l.initial.bus) (g.B.Bus.world l.bus);
-  works : g.B.Bus.modelled ≡ true
-      → StillWorks (g.B.Bus.world l.initial.bus) (g.B.Bus.world l.bus);
 }

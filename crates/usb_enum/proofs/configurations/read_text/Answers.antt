@@ -1,185 +1,148 @@
 use Rattle.usb_enum.proofs.stops.PlainStops.{answered_plain}
-use Rattle.usb_enum.specs.{bad_text, AtMaximum, HasTotal, config_fault, Refuses, Stalled}
-use Rattle.std.proofs.Common.{◌∙◌, ◌≤◌, arith, inl, inr, length, refl, subst, sym, IfOk}
+use Rattle.usb_enum.specs.{bad_text, Stalled}
+use Rattle.std.proofs.Common.{◌∙◌, ◌≤◌, arith, inl, inr, length, refl, rules, subst, sym, IfOk}
 use Rattle.usb_hub.specs.{config_given}
+use Rattle.usb_pipe.proofs.Interface.{uses_as}
 use Rattle.usb_enum.proofs.refusals.ConfigRefusals.{config_refused, text_refused, total_large}
-use Rattle.usb_enum.proofs.Parts.{asking, part_fails, steps_asked, steps_then, steps_wider}
+use Rattle.usb_enum.proofs.Parts.{asking, gone_asked, gone_stopped, gone_then, gone_wider}
 use Rattle.usb_enum.proofs.readings.Readings.{configuration_learned, good_bytes}
 use Rattle.usb_enum.proofs.readings.TextBytes.{within_shorter}
-use Rattle.usb_enum.proofs.refusals.Refusals.{answered_ok, explains_on, handed_match}
+use Rattle.usb_enum.proofs.refusals.Refusals.{answered_ok, explains_on, failed}
 use Rattle.usb_enum.proofs.readings.TextLengths.{config_there, head_unread, text_unread}
 use Rattle.usb_enum.proofs.readings.TextLengths.{text_was_read}
-use Rattle.usb_enum.proofs.stops.ToldFailures.{handed_on}
 use Rattle.usb_enum.specs.declared.cause.Request.TheVariants.{Config}
 use Rattle.usb_enum.proofs.courses.LastRequests.{leads_went}
 use Rattle.usb_enum.proofs.stops.Reasons.{read_stop_told, reading_after, text_told, told_after}
 use Rattle.usb_enum.proofs.stops.Reasons.{was_read}
-use Rattle.usb_enum.proofs.stops.ReportedFaults.{answered_reported}
-use Rattle.usb_enum.proofs.courses.Counts.{read_spends}
 use Rattle.usb_enum.proofs.configurations.read_text.Goals as goal
 
-pub returns-in_err-total-clause-read : goal.returns-in_err-total-clause-read
-returns-in_err-total-clause-read g c known =
-    let head = c.in_err-total.ensures.read known c.args.room in
-    part_fails _ _ c.from_residual.ensures.1
-    (steps_wider head.steps (omega arith))
-    (record { told = text_told _ _ _ _ _ _ head.ends.told; so = head.ends.so })
-
-pub returns-then-is_over-clause-read : goal.returns-then-is_over-clause-read
-returns-then-is_over-clause-read g c known =
-    let head = c.in_ok-total.ensures.read known c.args.room in
-    let over = sym c.is_over.ensures ∙ c.if-is_over.true in
-    record {
-      steps = steps_wider head.steps (omega arith);
-      ends = record {
-        told = inl (
-          refl,
-          record { total = c.in_ok-total.total; read = head.ends.told.0; over = over },
-        );
-        so = total_large c.args.room c.args.target c.args.index c.in_ok-total.total
-            (g.B.Bus.world c.args.bus.now) (g.B.Bus.world c.total_length.new.bus) over head.ends.so;
+pub returns-in_err-total : goal.returns-in_err-total
+returns-in_err-total g c =
+    let head = c.in_err-total.ensures.read c.args.room in
+    rw (failed c.from_residual.result c.from_residual.ensures.1) (record {
+      fits = c.in_err-total.ensures.fits;
+      read = record {
+        gone = gone_wider head.gone (omega arith);
+        ends = λ known. record {
+          told = text_told _ _ _ _ _ _ (head.ends known).told;
+          so = (head.ends known).so;
+        };
       };
+      count = λ known. head_unread _ refl (head.gone.steps known).went;
+    })
+
+pub returns-then-is_over : goal.returns-then-is_over
+returns-then-is_over g c =
+    let over = sym c.is_over.ensures ∙ c.if-is_over.true in
+    let head = c.in_ok-total.ensures.read c.args.room in
+    record {
+      fits = search rules;
+      read = record {
+        gone = gone_stopped (gone_wider head.gone (omega arith)) tt;
+        ends = λ known. record {
+          told = inl (
+            refl,
+            record {
+              total = c.in_ok-total.total;
+              read = (head.ends known).told.0;
+              over = over;
+            },
+          );
+          so = total_large c.args.room (g.B.Bus.world c.total_length.new.bus) over
+              (head.ends known).so;
+        };
+      };
+      count = λ known. head_unread _ refl (head.gone.steps known).went;
     }
 
-pub returns-in_err-bytes-clause-read : goal.returns-in_err-bytes-clause-read
-returns-in_err-bytes-clause-read g c known =
+pub returns-in_err-bytes : goal.returns-in_err-bytes
+returns-in_err-bytes g c =
     let t = c.args.target in
     let room = c.args.room in
     let index = c.args.index in
-    let head = c.in_ok-total.ensures.read known c.args.room in
     let total = c.in_ok-total.total in
     let answer = c.get_config.ensures in
-    let asked = answer.asked known in
-    let what = answer.what known in
-    let text = steps_asked (config_given index) total c.requires.max (answer.uses.steps known) asked
-    what (answer.keeps known) in
-    let old = g.B.Bus.world c.args.bus.now in
-    let mid = g.B.Bus.world c.total_length.new.bus in
-    let new = g.B.Bus.world c.get_config.new.bus in
-    part_fails _ _ c.from_residual-in_err-bytes.ensures.1
-    (steps_then asking head.steps text (omega (arith, c.in_ok-total.ensures.fits.1)))
-    (record {
-      told = text_told _ _ _ _ _ _ (told_after _ t _ _ _ (leads_went head.steps.went)
-          (read_stop_told Config _ (index, (total, refl)) c.in_err-bytes.ensures asked));
-      so = explains_on (AtMaximum t (HasTotal index total))
-          (Refuses t (λ spec. config_fault room spec index) _)
-          (Refuses t (λ spec. config_fault room spec index) _) t _ _ old mid new (λ spec a b. b)
-          head.ends.so head.steps.went text.went
-          (config_refused room t index total c.get_config.result
-          _ mid new c.in_err-bytes.ensures c.requires.max what (answer.why known));
+    let head = c.in_ok-total.ensures.read room in
+    let text = gone_asked (config_given index) total _ c.requires.max c.in_err-bytes.ensures
+    (uses_as answer.uses (λ told. told.told)) answer.asked answer.what answer.keeps in
+    rw (failed c.from_residual-in_err-bytes.result c.from_residual-in_err-bytes.ensures.1) (record {
+      fits = answered_plain (Stalled Config) _ _ tt c.in_err-bytes.ensures;
+      read = record {
+        gone = gone_then asking head.gone text (omega (arith, c.in_ok-total.ensures.fits.1));
+        ends = λ known.
+            let went = (head.gone.steps known).went in
+            record {
+              told = text_told _ _ _ _ _ _ (told_after _ t _ (leads_went went)
+                  (read_stop_told Config _ (index, (total, refl)) c.in_err-bytes.ensures
+                  (answer.asked known)));
+              so = explains_on (head.ends known).so went (text.steps known).went (config_refused
+                  room index (g.B.Bus.world c.get_config.new.bus) c.in_err-bytes.ensures
+                  c.requires.max (answer.what known) (answer.why known)) (λ spec a b. b);
+            };
+      };
+      count = λ known. text_unread c.requires.max (head.gone.steps known).went
+          (answer.uses.steps known) (head.ends known).so (head.ends known).told.1 _ refl;
     })
 
-pub returns-in-Some-clause-read : goal.returns-in-Some-clause-read
-returns-in-Some-clause-read g c known =
-    let head = c.in_ok-total.ensures.read known c.args.room in
+pub returns-in-Some : goal.returns-in-Some
+returns-in-Some g c =
     let total = c.in_ok-total.total in
     let bytes = c.in_ok-bytes.bytes in
     let answer = c.get_config.ensures in
-    let asked = answer.asked known in
-    let what = answer.what known in
+    let head = c.in_ok-total.ensures.read c.args.room in
+    let text = gone_asked (config_given c.args.index) total _ c.requires.max c.in_ok-bytes.ensures
+    (uses_as answer.uses (λ told. told.told)) answer.asked answer.what answer.keeps in
     let good = sym c.in-Some.is ∙ c.new.ensures in
+    let within = subst (λ r. IfOk r (λ b. length b.items ≤ c.in_ok-total.total))
+    (answered_ok (Stalled Config) c.in_ok-bytes.ensures) answer.uses.told.within in
+    let same = (good_bytes bytes.items c.in-Some.text good).1 in
+    let fits = sym c.is_over.ensures ∙ c.if-is_over.false in
     record {
-      steps = steps_then asking head.steps (steps_asked (config_given _) total c.requires.max
-          (answer.uses.steps known) asked what (answer.keeps known))
-          (omega (arith, c.in_ok-total.ensures.fits.1));
-      ends = record {
-        told = rw (good_bytes bytes.items c.in-Some.text good).1 (record {
-          size = total;
-          read = reading_after (leads_went head.steps.went)
-              (was_read (Stalled Config) bytes c.in_ok-bytes.ensures asked);
-        });
-        so = configuration_learned c.args.room _ _ _ total _ c.get_config.result bytes
-            c.in-Some.text _ _ _ (sym c.is_over.ensures ∙ c.if-is_over.false)
-            c.in_ok-bytes.ensures good head.ends.so (answer.uses.steps known) what;
+      fits = within_shorter c.args.room _ c.in_ok-total.total
+          (subst (λ x. length x ≤ c.in_ok-total.total) (sym same) within) fits;
+      read = record {
+        gone = gone_then asking head.gone text (omega (arith, c.in_ok-total.ensures.fits.1));
+        ends = λ known. record {
+          told = rw same (record {
+            size = total;
+            read = reading_after (leads_went (head.gone.steps known).went)
+                (was_read (Stalled Config) c.in_ok-bytes.ensures (answer.asked known));
+          });
+          so = configuration_learned _ fits c.in_ok-bytes.ensures good (head.ends known).so
+              (answer.uses.steps known) (answer.what known);
+        };
       };
+      count = λ known. text_was_read c.requires.max (head.gone.steps known).went
+          (answer.uses.steps known) (head.ends known).so (head.ends known).told.1 c.in-Some.text
+          (text.steps known).keeps.devices (config_there _ c.args.index _
+          c.in_ok-bytes.ensures (answer.asked known) (answer.what known));
     }
 
-pub returns-in-None-clause-read : goal.returns-in-None-clause-read
-returns-in-None-clause-read g c known =
-    let head = c.in_ok-total.ensures.read known c.args.room in
+pub returns-in-None : goal.returns-in-None
+returns-in-None g c =
     let total = c.in_ok-total.total in
     let bytes = c.in_ok-bytes.bytes in
     let answer = c.get_config.ensures in
-    let asked = answer.asked known in
-    let what = answer.what known in
+    let head = c.in_ok-total.ensures.read c.args.room in
+    let text = gone_asked (config_given c.args.index) total _ c.requires.max c.in_ok-bytes.ensures
+    (uses_as answer.uses (λ told. told.told)) answer.asked answer.what answer.keeps in
     let none = sym c.new.ensures ∙ c.in-None.is in
     record {
-      steps = steps_then asking head.steps (steps_asked (config_given _) total c.requires.max
-          (answer.uses.steps known) asked what (answer.keeps known))
-          (omega (arith, c.in_ok-total.ensures.fits.1));
-      ends = record {
-        told = inr (bad_text bytes.items (record {
-          size = total;
-          read = reading_after (leads_went head.steps.went)
-              (was_read (Stalled Config) bytes c.in_ok-bytes.ensures asked);
-        }) none);
-        so = text_refused c.args.room c.args.target _ _ total _ c.get_config.result bytes _ _ _
-            (sym c.is_over.ensures ∙ c.if-is_over.false) c.in_ok-bytes.ensures none head.ends.so
-            (answer.uses.steps known) what;
+      fits = search rules;
+      read = record {
+        gone = gone_stopped (gone_then asking head.gone text
+            (omega (arith, c.in_ok-total.ensures.fits.1))) tt;
+        ends = λ known. record {
+          told = inr (bad_text bytes.items (record {
+            size = total;
+            read = reading_after (leads_went (head.gone.steps known).went)
+                (was_read (Stalled Config) c.in_ok-bytes.ensures (answer.asked known));
+          }) none);
+          so = text_refused c.args.room _
+              (sym c.is_over.ensures ∙ c.if-is_over.false) c.in_ok-bytes.ensures none
+              (head.ends known).so (answer.uses.steps known) (answer.what known);
+        };
       };
+      count = λ known. text_unread c.requires.max (head.gone.steps known).went
+          (answer.uses.steps known) (head.ends known).so (head.ends known).told.1 _ refl;
     }
-
-pub returns-in_err-total-clause-count : goal.returns-in_err-total-clause-count
-returns-in_err-total-clause-count g c known =
-    head_unread c.args.target c.args.index _ _ _ _ c.from_residual.ensures.1
-    (c.in_err-total.ensures.read known c.args.room).steps.went
-
-pub returns-then-is_over-clause-count : goal.returns-then-is_over-clause-count
-returns-then-is_over-clause-count g c known =
-    head_unread c.args.target c.args.index _ _ _ _ refl
-    (c.in_ok-total.ensures.read known c.args.room).steps.went
-
-pub returns-in_err-bytes-clause-count : goal.returns-in_err-bytes-clause-count
-returns-in_err-bytes-clause-count g c known =
-    let head = c.in_ok-total.ensures.read known c.args.room in
-    text_unread c.args.target c.args.index c.in_ok-total.total _ _ _ c.requires.max head.steps.went
-    (c.get_config.ensures.uses.steps known) head.ends.so head.ends.told.1 _ _
-    c.from_residual-in_err-bytes.ensures.1
-
-pub returns-in-None-clause-count : goal.returns-in-None-clause-count
-returns-in-None-clause-count g c known =
-    let head = c.in_ok-total.ensures.read known c.args.room in
-    text_unread c.args.target c.args.index c.in_ok-total.total _ _ _ c.requires.max
-    head.steps.went (c.get_config.ensures.uses.steps known) head.ends.so head.ends.told.1 _ _ refl
-
-pub returns-in-Some-clause-count : goal.returns-in-Some-clause-count
-returns-in-Some-clause-count g c known =
-    let head = c.in_ok-total.ensures.read known c.args.room in
-    let answer = c.get_config.ensures in
-    let asked = answer.asked known in
-    let what = answer.what known in
-    text_was_read c.args.target c.args.index _ _ _ _ c.requires.max head.steps.went
-    (answer.uses.steps known) head.ends.so head.ends.told.1 c.in-Some.text (steps_asked
-    (config_given c.args.index) _ c.requires.max (answer.uses.steps known) asked what
-    (answer.keeps known)).keeps.devices (config_there c.args.target _ c.args.index _
-    c.get_config.result c.in_ok-bytes.bytes _ _ c.in_ok-bytes.ensures
-    asked what)
-
-pub returns-in_err-total-clause-fits : goal.returns-in_err-total-clause-fits
-returns-in_err-total-clause-fits g c =
-    handed_match _ _ _ _ c.from_residual.ensures.1 c.in_err-total.ensures.fits
-
-pub returns-in_err-bytes-clause-fits : goal.returns-in_err-bytes-clause-fits
-returns-in_err-bytes-clause-fits g c =
-    handed_match _ _ _ _ c.from_residual-in_err-bytes.ensures.1 (answered_plain (Stalled Config) _ _
-    tt c.in_err-bytes.ensures)
-
-pub returns-in-Some-clause-fits : goal.returns-in-Some-clause-fits
-returns-in-Some-clause-fits g c =
-    let bytes = c.in_ok-bytes.bytes in
-    let within = subst (λ r. IfOk r (λ b. length b.items ≤ c.in_ok-total.total))
-    (answered_ok (Stalled Config) c.get_config.result bytes c.in_ok-bytes.ensures)
-    c.get_config.ensures.uses.told.within in
-    let same = (good_bytes bytes.items c.in-Some.text (sym c.in-Some.is ∙ c.new.ensures)).1 in
-    within_shorter c.args.room _ c.in_ok-total.total
-    (subst (λ x. length x ≤ c.in_ok-total.total) (sym same) within)
-    (sym c.is_over.ensures ∙ c.if-is_over.false)
-
-pub returns-in_err-bytes-clause-any_bus : goal.returns-in_err-bytes-clause-any_bus
-returns-in_err-bytes-clause-any_bus g c =
-    let head = c.total_length.ensures.any_bus.0 in
-    let text = read_spends c.args.target.max _ c.requires.max c.get_config.ensures.uses in (
-      (omega (arith, head.0, text.0), text.1 ∙ head.1),
-      handed_on _ _ _ c.from_residual-in_err-bytes.ensures.1 (answered_reported _ (Stalled Config)
-          _ _ c.get_config.ensures.uses.told.told c.in_err-bytes.ensures),
-    )

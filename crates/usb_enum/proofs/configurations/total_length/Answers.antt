@@ -3,91 +3,74 @@ use Rattle.usb_enum.specs.{bad_total, Stalled}
 use Rattle.std.proofs.Common.{◌∙◌, ap, refl, sym}
 use Rattle.usb_descriptor.specs.{config_head_of}
 use Rattle.usb_hub.specs.{config_given}
+use Rattle.usb_pipe.proofs.Interface.{uses_as}
 use Rattle.usb_enum.proofs.refusals.ConfigRefusals.{config_refused, total_refused}
-use Rattle.usb_enum.proofs.Parts.{part_fails, steps_asked}
+use Rattle.usb_enum.proofs.Parts.{gone_asked, gone_stopped}
 use Rattle.usb_enum.proofs.readings.Readings.{total_learned}
-use Rattle.usb_enum.proofs.refusals.Refusals.{handed_match}
 use Rattle.usb_enum.proofs.readings.TextLengths.{config_there}
 use Rattle.usb_enum.specs.declared.cause.Request.TheVariants.{Config}
 use Rattle.usb_enum.proofs.stops.Reasons.{read_stop_told, was_read}
-use Rattle.usb_enum.proofs.stops.ReportedFaults.{answered_reported}
-use Rattle.usb_enum.proofs.stops.ToldFailures.{handed_on}
-use Rattle.usb_enum.proofs.courses.Counts.{read_spends}
+use Rattle.usb_enum.proofs.refusals.Refusals.{failed}
 use Rattle.usb_enum.proofs.configurations.total_length.Goals as goal
 
 pub returns-in-Ok-clause-read : goal.returns-in-Ok-clause-read
-returns-in-Ok-clause-read g c known room =
-    let old = g.B.Bus.world c.args.bus.now in
+returns-in-Ok-clause-read g c room =
     let new = g.B.Bus.world c.get_config.new.bus in
     let answer = c.get_config.ensures in
-    let asked = answer.asked known in
-    let what = answer.what known in
     let bytes = c.in_ok-head.head in
     let good = ap config_head_of (sym c.as_slice.ensures.value) ∙ sym c.config_head.ensures.answer
     ∙ c.in-Ok.is in
     record {
-      steps = steps_asked (config_given c.args.index) 9 c.requires.max (answer.uses.steps known)
-          asked what (answer.keeps known);
-      ends = record {
-        told = (
+      gone = gone_asked (config_given c.args.index) 9 _ c.requires.max c.in_ok-head.ensures
+          (uses_as answer.uses (λ told. told.told)) answer.asked answer.what answer.keeps;
+      ends = λ known.
+          let asked = answer.asked known in
+          let what = answer.what known in
           record {
-            bytes = bytes.items;
-            read = was_read (Stalled Config) bytes c.in_ok-head.ensures asked;
-            head = good;
-          },
-          config_there _ _ c.args.index 9 c.get_config.result bytes old new c.in_ok-head.ensures
-              asked what,
-        );
-        so = total_learned _ _ c.args.index c.in-Ok.total c.get_config.result bytes old new
-            c.in_ok-head.ensures good what;
-      };
+            told = (
+              record {
+                bytes = bytes.items;
+                read = was_read (Stalled Config) c.in_ok-head.ensures asked;
+                head = good;
+              },
+              config_there _ c.args.index 9
+                  c.in_ok-head.ensures asked what,
+            );
+            so = total_learned _ new c.in_ok-head.ensures good what;
+          };
     }
 
-pub returns-in_err-head-clause-read : goal.returns-in_err-head-clause-read
-returns-in_err-head-clause-read g c known room =
-    let old = g.B.Bus.world c.args.bus.now in
-    let new = g.B.Bus.world c.get_config.new.bus in
+pub returns-in_err-head : goal.returns-in_err-head
+returns-in_err-head g c =
     let answer = c.get_config.ensures in
-    let asked = answer.asked known in
-    let what = answer.what known in
-    part_fails _ _ c.from_residual.ensures.1 (steps_asked
-    (config_given c.args.index) 9 c.requires.max (answer.uses.steps known) asked what
-    (answer.keeps known)) (record {
-      told = read_stop_told Config _ (c.args.index, (9, refl)) c.in_err-head.ensures asked;
-      so = config_refused room c.args.target c.args.index 9 c.get_config.result _ old new
-          c.in_err-head.ensures c.requires.max what (answer.why known);
+    rw (failed c.from_residual.result c.from_residual.ensures.1) (record {
+      fits = answered_plain (Stalled Config) _ _ tt c.in_err-head.ensures;
+      read = λ room. record {
+        gone = gone_asked (config_given c.args.index) 9 _ c.requires.max c.in_err-head.ensures
+            (uses_as answer.uses (λ told. told.told)) answer.asked answer.what answer.keeps;
+        ends = λ known. record {
+          told = read_stop_told Config _ (c.args.index, (9, refl)) c.in_err-head.ensures
+              (answer.asked known);
+          so = config_refused room c.args.index (g.B.Bus.world c.get_config.new.bus)
+              c.in_err-head.ensures c.requires.max (answer.what known) (answer.why known);
+        };
+      };
     })
 
 pub returns-clause-read : goal.returns-clause-read
-returns-clause-read g c known room =
-    let old = g.B.Bus.world c.args.bus.now in
-    let new = g.B.Bus.world c.get_config.new.bus in
+returns-clause-read g c room =
     let answer = c.get_config.ensures in
-    let asked = answer.asked known in
-    let what = answer.what known in
     let bytes = c.in_ok-head.head in
     let bad = ap config_head_of (sym c.as_slice.ensures.value) ∙ sym c.config_head.ensures.answer
     ∙ c.in-Err.is in
     record {
-      steps = steps_asked (config_given c.args.index) 9 c.requires.max (answer.uses.steps known)
-          asked what (answer.keeps known);
-      ends = record {
-        told = bad_total bytes.items c.in-Err.field-0 (was_read (Stalled Config) bytes
-            c.in_ok-head.ensures asked) bad;
-        so = total_refused room c.args.target _ c.args.index c.get_config.result bytes
-            c.in-Err.field-0
-            old new c.in_ok-head.ensures bad what;
+      gone = gone_stopped (gone_asked (config_given c.args.index) 9 _ c.requires.max
+          c.in_ok-head.ensures (uses_as answer.uses (λ told. told.told)) answer.asked answer.what
+          answer.keeps) tt;
+      ends = λ known. record {
+        told = bad_total bytes.items c.in-Err.field-0 (was_read (Stalled Config)
+            c.in_ok-head.ensures (answer.asked known)) bad;
+        so = total_refused room _ (g.B.Bus.world c.get_config.new.bus)
+            c.in_ok-head.ensures bad (answer.what known);
       };
     }
-
-pub returns-in_err-head-clause-fits : goal.returns-in_err-head-clause-fits
-returns-in_err-head-clause-fits g c =
-    handed_match _ _ _ _ c.from_residual.ensures.1 (answered_plain (Stalled Config) _ _ tt
-    c.in_err-head.ensures)
-
-pub returns-in_err-head-clause-any_bus : goal.returns-in_err-head-clause-any_bus
-returns-in_err-head-clause-any_bus g c = (
-  read_spends c.args.target.max 9 c.requires.max c.get_config.ensures.uses,
-  handed_on _ _ _ c.from_residual.ensures.1 (answered_reported _ (Stalled Config) _ _
-      c.get_config.ensures.uses.told.told c.in_err-head.ensures),
-)

@@ -1,114 +1,139 @@
-use Rattle.usb_enum.specs.{IsStarted, Stalled, CauseAllowedAtStart}
-use Rattle.usb_enum.specs.{lacks_power}
+use Rattle.usb_enum.specs.{IsStarted, Stalled, CauseAllowedAtStart, lacks_power}
 use Rattle.usb_enum.proofs.stops.PlainStops.{answered_plain, deep_stop_fits, hub_stop_fits}
 use Rattle.usb_enum.proofs.stops.PlainStops.{plain_stop_fits}
 use Rattle.std.proofs.Common.{◌∙◌, ap, arith, refl, subst, sym, rules}
 use Rattle.usb_enum.proofs.readings.SettingValues.{text_at}
 use Rattle.usb_descriptor.specs.{configuration_value}
-use Rattle.usb_enum.proofs.refusals.Refusals.{answered_ok, handed_match}
+use Rattle.usb_enum.proofs.refusals.Refusals.{answered_ok, failed}
 use Rattle.usb_enum.proofs.refusals.SettingRefusals.{deep_refused, read_refused, power_refused}
 use Rattle.usb_enum.proofs.refusals.SettingRefusals.{set_refused, hub_refused, strings_refused}
 use Rattle.usb_enum.proofs.readings.Settings.{listed_learns, set_learned, set_then}
 use Rattle.usb_bus.proofs.Interface.{went_then}
 use Rattle.usb_enum.proofs.devices.Frames.{sets_asked, sets_at, sets_told}
-use Rattle.usb_enum.proofs.Parts.{part_fails, setting, steps_as, steps_joined, steps_none}
-use Rattle.usb_enum.proofs.Parts.{steps_set, steps_then, steps_wider}
+use Rattle.usb_enum.proofs.Parts.{gone_as, gone_joined, gone_none, gone_set, gone_stopped}
+use Rattle.usb_enum.proofs.Parts.{gone_then, gone_wider, setting}
 use Rattle.usb_enum.proofs.ports.Powers.{empties_ports}
 use Rattle.usb_enum.proofs.readings.TextLengths.{few_then, few_wider}
 use Rattle.usb_enum.specs.declared.cause.Request.TheVariants.{SetConfig}
 use Rattle.usb_enum.proofs.stops.Reasons.{told_after, write_stop_told}
 use Rattle.usb_enum.proofs.stops.Stops.{fits_stop, hub_stops, stops_by, texts_stops}
 use Rattle.usb_enum.proofs.courses.LastRequests.{leads_went}
-use Rattle.usb_enum.proofs.stops.ReportedFaults.{answered_reported, deep_reported}
-use Rattle.usb_enum.proofs.stops.ToldFailures.{handed_on}
+use Rattle.usb_enum.proofs.stops.ReportedFaults.{deep_reported}
 use Rattle.usb_enum.proofs.enumeration.configure.Goals as goal
 
-pub returns-in_err-fits_tier-clause-part : goal.returns-in_err-fits_tier-clause-part
-returns-in_err-fits_tier-clause-part g c known =
+pub returns-in_err-fits_tier : goal.returns-in_err-fits_tier
+returns-in_err-fits_tier g c =
     let device = c.args.device in
     let deep = sym c.in_err-fits_tier.ensures in
-    part_fails _ _ c.from_residual.ensures.1 (steps_none _ _ (setting _))
-    (record {
-      told = fits_stop _ _ _ _ _ _ _ deep;
-      so = deep_refused device.target c.args.place.options c.args.place.tier c.args.place.supply
-          device.bytes
-          c.in_err-fits_tier.field-0.0 (g.B.Bus.world c.args.bus.now) deep;
-    })
-
-pub returns-in_err-configs-clause-part : goal.returns-in_err-configs-clause-part
-returns-in_err-configs-clause-part g c known =
-    let device = c.args.device in
-    let read = c.in_err-configs.ensures.read known in
-    part_fails _ _ c.from_residual-in_err-configs.ensures.1
-    (steps_wider (steps_as (sets_asked _) read.steps) (omega arith))
-    (record {
-      told = texts_stops _ _ _ _ _ _ _ _ read.ends.told;
-      so = read_refused device.target c.args.place.options c.args.place.tier c.args.place.supply
-          device.bytes (sym
-          c.in_ok-fits_tier.ensures) _ c.in_err-configs.field-0.0 (g.B.Bus.world c.args.bus.now)
-          (g.B.Bus.world c.read_configurations.new.bus) c.configurations.ensures read.ends.so;
-    })
-
-pub returns-in_default-clause-part : goal.returns-in_default-clause-part
-returns-in_default-clause-part g c known =
-    let device = c.args.device in
-    let t = device.target in
-    let read = c.in_ok-configs.ensures.read known in
-    let none = sym c.choose_configuration.ensures.chosen ∙ c.in_default.is in
-    let old = g.B.Bus.world c.args.bus.now in
-    let mid = g.B.Bus.world c.read_configurations.new.bus in
-    record {
-      steps = steps_wider (steps_as (sets_asked _) read.steps) (omega arith);
-      ends = record {
-        told = record {
-          fits = tt;
-          because = lacks_power _ (record {
-            asked = read.ends.told;
-            all = c.in_ok-configs.ensures.all.0 ∙ c.configurations.ensures;
-          }) none;
+    rw (failed c.from_residual.result c.from_residual.ensures.1) (record {
+      whole = deep_stop_fits _ device.bytes _ deep;
+      part = record {
+        gone = gone_stopped (gone_none _ (setting _)) (deep_reported _ _ device.bytes _ deep);
+        ends = λ known. record {
+          told = fits_stop _ _ _ _ _ _ _ deep;
+          so = deep_refused device.target c.args.place.options c.args.place.tier
+              c.args.place.supply device.bytes c.in_err-fits_tier.field-0.0
+              (g.B.Bus.world c.args.bus.now) deep;
         };
-        so = power_refused t c.args.place.options c.args.place.tier c.args.place.supply device.bytes
-            (sym c.in_ok-fits_tier.ensures) _ old mid none
-            (rw c.configurations.ensures at read.ends.so);
       };
+      few = search rules;
+    })
+
+pub returns-in_err-configs : goal.returns-in_err-configs
+returns-in_err-configs g c =
+    let device = c.args.device in
+    let read = c.in_err-configs.ensures.read in
+    rw (failed c.from_residual-in_err-configs.result c.from_residual-in_err-configs.ensures.1)
+    (record {
+      whole = plain_stop_fits _ _ c.in_err-configs.ensures.all;
+      part = record {
+        gone = gone_wider (gone_as (sets_asked _) read.gone) (omega arith);
+        ends = λ known. record {
+          told = texts_stops _ _ _ _ _ _ _ _ (read.ends known).told;
+          so = read_refused device.target c.args.place.options c.args.place.tier
+              c.args.place.supply device.bytes (sym c.in_ok-fits_tier.ensures) _
+              c.in_err-configs.field-0.0 (g.B.Bus.world c.args.bus.now)
+              (g.B.Bus.world c.read_configurations.new.bus) c.configurations.ensures
+              (read.ends known).so;
+        };
+      };
+      few = λ known. few_wider _ _ _ _ _ (c.read_configurations.ensures.few known)
+          (λ most. omega arith);
+    })
+
+pub returns-in_default : goal.returns-in_default
+returns-in_default g c =
+    let device = c.args.device in
+    let none = sym c.choose_configuration.ensures.chosen ∙ c.in_default.is in
+    let read = c.in_ok-configs.ensures.read in
+    record {
+      whole = search rules;
+      part = record {
+        gone = gone_stopped (gone_wider (gone_as (sets_asked _) read.gone) (omega arith)) tt;
+        ends = λ known. record {
+          told = record {
+            fits = tt;
+            because = lacks_power _ (record {
+              asked = (read.ends known).told;
+              all = c.in_ok-configs.ensures.all.0 ∙ c.configurations.ensures;
+            }) none;
+          };
+          so = power_refused device.target c.args.place.options c.args.place.tier
+              c.args.place.supply device.bytes (sym c.in_ok-fits_tier.ensures) _
+              (g.B.Bus.world c.args.bus.now) (g.B.Bus.world c.read_configurations.new.bus) none
+              (rw c.configurations.ensures at (read.ends known).so);
+        };
+      };
+      few = λ known. few_wider _ _ _ _ _ (c.read_configurations.ensures.few known)
+          (λ most. omega arith);
     }
 
-pub returns-in_err-answered_or-clause-part : goal.returns-in_err-answered_or-clause-part
-returns-in_err-answered_or-clause-part g c known =
+pub returns-in_err-answered_or : goal.returns-in_err-answered_or
+returns-in_err-answered_or g c =
     let device = c.args.device in
     let t = device.target in
-    let read = c.in_ok-configs.ensures.read known in
     let set = c.set_configuration.ensures in
     let inside = rw c.in-Some.is at c.choose_configuration.ensures.inside in
     let chosen = text_at _ _ _ _ c.index-as_slice-chosen.is c.as_slice.ensures inside in
-    part_fails _ _ c.from_residual-in_err-answered_or.ensures.1 (steps_as (sets_at c.requires)
-    (steps_then (setting t.addr) (steps_as (sets_asked _) read.steps)
-    (steps_set (set.uses.steps known) (set.ordered known) (set.what known) (set.keeps known))
-    (omega arith))) (record {
-      told = stops_by _ _ _ _ _ _ _ _ (told_after _ t _ _ _ (leads_went read.steps.went)
-          (write_stop_told SetConfig _ (c.value-value.result, refl) c.in_err-answered_or.ensures
-          (set.ordered known)));
-      so = set_refused t c.args.place.options c.args.place.tier c.args.place.supply device.bytes
-          (sym c.in_ok-fits_tier.ensures) _ c.in-Some.chosen
-          (sym c.choose_configuration.ensures.chosen ∙ c.in-Some.is) c.value-value.result _ _
-          c.set_configuration.result _ _ _ _ (λ z. omega (arith, z, c.requires)) inside
-          (c.value-value.ensures ∙ ap configuration_value chosen) (omega arith)
-          (rw c.configurations.ensures at read.ends.so) read.steps.went (set.uses.steps known)
-          c.in_err-answered_or.ensures (set.what known) (set.why known);
+    let read = c.in_ok-configs.ensures.read in
+    rw
+    (failed c.from_residual-in_err-answered_or.result c.from_residual-in_err-answered_or.ensures.1)
+    (record {
+      whole = plain_stop_fits _ _
+          (answered_plain (Stalled SetConfig) _ _ tt c.in_err-answered_or.ensures);
+      part = record {
+        gone = gone_as (sets_at c.requires) (gone_then (setting t.addr)
+            (gone_as (sets_asked _) read.gone) (gone_set _ c.in_err-answered_or.ensures set.uses
+            set.ordered set.what set.keeps) (omega arith));
+        ends = λ known.
+            let went = (read.gone.steps known).went in
+            record {
+              told = stops_by _ _ _ _ _ _ _ _ (told_after _ t _ (leads_went went)
+                  (write_stop_told SetConfig _ (c.value-value.result, refl)
+                  c.in_err-answered_or.ensures (set.ordered known)));
+              so = set_refused t c.args.place.options c.args.place.tier c.args.place.supply
+                  device.bytes (sym c.in_ok-fits_tier.ensures) _ c.in-Some.chosen
+                  (sym c.choose_configuration.ensures.chosen ∙ c.in-Some.is) c.value-value.result _
+                  _ c.set_configuration.result _ _ _ _ (λ z. omega (arith, z, c.requires)) inside
+                  (c.value-value.ensures ∙ ap configuration_value chosen) (omega arith)
+                  (rw c.configurations.ensures at (read.ends known).so) went
+                  (set.uses.steps known) c.in_err-answered_or.ensures (set.what known)
+                  (set.why known);
+            };
+      };
+      few = λ known. few_then _ _ _ _ _ _ _ (c.read_configurations.ensures.few known)
+          (set.uses.steps known) (λ most. omega arith);
     })
 
-pub returns-in_err-hub-clause-part : goal.returns-in_err-hub-clause-part
-returns-in_err-hub-clause-part g c known =
+pub returns-in_err-hub : goal.returns-in_err-hub
+returns-in_err-hub g c =
     let device = c.args.device in
     let t = device.target in
     let stop = c.in_err-hub.field-0.0 in
     let configs = c.in_ok-configs.configs in
     let fits = sym c.in_ok-fits_tier.ensures in
     let choice = sym c.choose_configuration.ensures.chosen ∙ c.in-Some.is in
-    let read = c.in_ok-configs.ensures.read known in
     let set = c.set_configuration.ensures in
-    let hub = c.in_err-hub.ensures.part known in
-    let is_hub = c.in_err-hub.ensures.hub.0 in
     let inside = rw c.in-Some.is at c.choose_configuration.ensures.inside in
     let chosen = text_at _ _ _ _ c.index-as_slice-chosen.is c.as_slice.ensures inside in
     let same_text = text_at _ _ _ _ c.index-as_slice-chosen-2.is c.as_slice-2.ensures inside in
@@ -116,175 +141,124 @@ returns-in_err-hub-clause-part g c known =
     let mid = g.B.Bus.world c.read_configurations.new.bus in
     let before = g.B.Bus.world c.set_configuration.new.bus in
     let asked = g.B.Bus.world c.hub_facts.new.bus in
-    let steps = steps_joined (setting t.addr) (steps_as (sets_asked _) read.steps)
-    (steps_set (set.uses.steps known) (set.ordered known) (set.what known) (set.keeps known)) in
-    part_fails _ _ c.from_residual-in_err-hub.ensures.1 (steps_as
-    (sets_at c.requires) (steps_then (setting t.addr) steps (steps_as (sets_told _) hub.steps)
-    (omega arith))) (record {
-      told =
-          hub_stops t device.bytes c.args.place.options c.args.place.tier c.args.place.supply stop
-          old mid before asked fits
-          is_hub configs (record {
-            asked = read.ends.told;
-            all = c.in_ok-configs.ensures.all.0 ∙ c.configurations.ensures;
-          }) c.in-Some.chosen choice (leads_went read.steps.went)
-          (leads_went (set.uses.steps known)) (subst
-          (λ text. CauseAllowedAtStart c.args.place.options.wide_hubs t text stop before asked)
-          same_text hub.ends.told);
-      so =
-          hub_refused t c.args.place.options c.args.place.tier c.args.place.supply device.bytes fits
-          configs c.in-Some.chosen choice
-          c.value-value.result _ _ _ stop old before asked (λ z. omega (arith, z, c.requires))
-          is_hub inside (c.value-value.ensures ∙ ap configuration_value chosen) (omega arith)
-          (set_learned _ t c.value-value.result _ c.set_configuration.result old mid before
-          (rw c.configurations.ensures at read.ends.so) (set.uses.steps known) (answered_ok _ _ tt
-          c.in_ok-answered_or.ensures) (set.what known)) steps.went hub.steps.went same_text
-          hub.ends.so;
+    let read = c.in_ok-configs.ensures.read in
+    let hub = c.in_err-hub.ensures.part in
+    let is_hub = c.in_err-hub.ensures.hub.0 in
+    let gone = gone_joined (setting t.addr) (gone_as (sets_asked _) read.gone)
+    (gone_set _ c.in_ok-answered_or.ensures set.uses set.ordered set.what set.keeps) in
+    rw (failed c.from_residual-in_err-hub.result c.from_residual-in_err-hub.ensures.1) (record {
+      whole = hub_stop_fits _ device.bytes _ fits is_hub c.in_err-hub.ensures.hub.1;
+      part = record {
+        gone = gone_as (sets_at c.requires) (gone_then (setting t.addr) gone
+            (gone_as (sets_told _) hub.gone) (omega arith));
+        ends = λ known. record {
+          told = hub_stops t device.bytes c.args.place.options c.args.place.tier
+              c.args.place.supply stop old mid before asked fits is_hub configs (record {
+                asked = (read.ends known).told;
+                all = c.in_ok-configs.ensures.all.0 ∙ c.configurations.ensures;
+              }) c.in-Some.chosen choice (leads_went (read.gone.steps known).went)
+              (leads_went (set.uses.steps known)) (subst (λ text. CauseAllowedAtStart
+              c.args.place.options.wide_hubs t text stop before asked) same_text
+              (hub.ends known).told);
+          so = hub_refused t c.args.place.options c.args.place.tier c.args.place.supply
+              device.bytes fits configs c.in-Some.chosen choice c.value-value.result _ _ _ stop
+              old before asked (λ z. omega (arith, z, c.requires)) is_hub inside
+              (c.value-value.ensures ∙ ap configuration_value chosen) (omega arith) (set_learned
+              (rw c.configurations.ensures at (read.ends known).so) (set.uses.steps known)
+              (answered_ok _ c.in_ok-answered_or.ensures) (set.what known))
+              (gone.steps known).went (hub.gone.steps known).went same_text (hub.ends known).so;
+        };
+      };
+      few = λ known. few_then _ _ _ _ _ _ _ (c.read_configurations.ensures.few known) (went_then _ _
+          (set.uses.steps known) (hub.gone.steps known).went) (λ most. omega arith);
     })
 
-pub returns-in_err-strings-clause-part : goal.returns-in_err-strings-clause-part
-returns-in_err-strings-clause-part g c known =
+pub returns-in_err-strings : goal.returns-in_err-strings
+returns-in_err-strings g c =
     let old = g.B.Bus.world c.args.bus.now in
     let mid = g.B.Bus.world c.read_configurations.new.bus in
     let before = g.B.Bus.world c.set_configuration.new.bus in
     let asked = g.B.Bus.world c.hub_facts.new.bus in
     let device = c.args.device in
     let t = device.target in
-    let read = c.in_ok-configs.ensures.read known in
     let set = c.set_configuration.ensures in
-    let hub = c.in_ok-hub.ensures.part known in
-    let strings = c.in_err-strings.ensures.read known in
-    let steps = steps_joined (setting t.addr) (steps_joined (setting t.addr)
-    (steps_as (sets_asked _) read.steps) (steps_set (set.uses.steps known) (set.ordered known)
-    (set.what known) (set.keeps known))) (steps_as (sets_told _) hub.steps) in
-    let learned = set_learned _ t c.value-value.result _ c.set_configuration.result old mid before
-    read.ends.so (set.uses.steps known) (answered_ok _ _ tt c.in_ok-answered_or.ensures)
-    (set.what known) in
-    part_fails _ _ c.from_residual-in_err-strings.ensures.1
-    (steps_as (sets_at c.requires) (steps_then (setting t.addr) steps
-    (steps_as (sets_asked _) strings.steps) (omega arith))) (record {
-      told = stops_by _ _ _ _ _ _ _ _
-          (told_after _ t _ _ _ (leads_went steps.went) strings.ends.told);
-      so = strings_refused t c.args.place.options c.args.place.tier c.args.place.supply
-          device.bytes _
-          c.value-value.result _ _ _
-          _ _ _ (set_then _ _ t c.value-value.result _ old before asked learned
-          hub.steps.went hub.ends.learned) steps.went strings.steps.went strings.ends.so;
+    let read = c.in_ok-configs.ensures.read in
+    let hub = c.in_ok-hub.ensures.part in
+    let strings = c.in_err-strings.ensures.read in
+    let gone = gone_joined (setting t.addr) (gone_joined (setting t.addr)
+    (gone_as (sets_asked _) read.gone)
+    (gone_set _ c.in_ok-answered_or.ensures set.uses set.ordered set.what set.keeps))
+    (gone_as (sets_told _) hub.gone) in
+    rw (failed c.from_residual-in_err-strings.result c.from_residual-in_err-strings.ensures.1)
+    (record {
+      whole = plain_stop_fits _ _ c.in_err-strings.ensures.plain;
+      part = record {
+        gone = gone_as (sets_at c.requires) (gone_then (setting t.addr) gone
+            (gone_as (sets_asked _) strings.gone) (omega arith));
+        ends = λ known.
+            let went = (gone.steps known).went in
+            record {
+              told = stops_by _ _ _ _ _ _ _ _
+                  (told_after _ t _ (leads_went went) (strings.ends known).told);
+              so = strings_refused t c.args.place.options c.args.place.tier c.args.place.supply
+                  device.bytes _ c.value-value.result _ _ _ _ _ _ (set_then
+                  (set_learned (read.ends known).so (set.uses.steps known)
+                  (answered_ok _ c.in_ok-answered_or.ensures) (set.what known))
+                  (hub.gone.steps known).went (hub.ends known).learned)
+                  went (strings.gone.steps known).went (strings.ends known).so;
+            };
+      };
+      few = λ known. few_then _ _ _ _ _ _ _ (c.read_configurations.ensures.few known) (went_then _ _
+          (went_then _ _ (set.uses.steps known) (hub.gone.steps known).went)
+          (strings.gone.steps known).went) (λ most. omega arith);
     })
 
-pub returns-clause-part : goal.returns-clause-part
-returns-clause-part g c known =
+pub returns : goal.returns
+returns g c =
     let t = c.args.device.target in
-    let configs = c.in_ok-configs.configs in
-    let read = c.in_ok-configs.ensures.read known in
     let set = c.set_configuration.ensures in
-    let done = answered_ok _ _ tt c.in_ok-answered_or.ensures in
-    let hub = c.in_ok-hub.ensures.part known in
-    let strings = c.in_ok-strings.ensures.read known in
+    let done = answered_ok _ c.in_ok-answered_or.ensures in
     let inside = rw c.in-Some.is at c.choose_configuration.ensures.inside in
     let chosen = text_at _ _ _ _ c.index-as_slice-chosen.is c.as_slice.ensures inside in
     let same_text = text_at _ _ _ _ c.index-as_slice-chosen-2.is c.as_slice-2.ensures inside in
-    let steps = steps_joined (setting t.addr) (steps_joined (setting t.addr)
-    (steps_as (sets_asked _) read.steps) (steps_set (set.uses.steps known) (set.ordered known)
-    (set.what known) (set.keeps known))) (steps_as (sets_told _) hub.steps) in
+    let read = c.in_ok-configs.ensures.read in
+    let hub = c.in_ok-hub.ensures.part in
+    let strings = c.in_ok-strings.ensures.read in
+    let gone = gone_joined (setting t.addr) (gone_joined (setting t.addr)
+    (gone_as (sets_asked _) read.gone)
+    (gone_set _ c.in_ok-answered_or.ensures set.uses set.ordered set.what set.keeps))
+    (gone_as (sets_told _) hub.gone) in
     record {
-      steps = steps_as (sets_at c.requires) (steps_then (setting t.addr) steps
-          (steps_as (sets_asked _) strings.steps) (omega arith));
-      ends = record {
-        address = sym c.requires;
-        low = refl;
-        bytes = refl;
-        fits = sym c.in_ok-fits_tier.ensures;
-        served = subst (λ a. IsStarted a c.in_ok-hub.hub) c.requires hub.ends.served;
-        learned = listed_learns _ _ _ _ _ _ _ _ _ _ _ c.set_configuration.result
-            c.configurations.ensures read.ends.so (set.uses.steps known)
-            (c.value-value.ensures ∙ ap configuration_value chosen) done (set.what known)
-            hub.steps.went same_text hub.ends.learned strings.steps.went c.string_indexes.ensures
-            strings.ends.so;
-        below = empties_ports _ _ _ _ _ c.set_configuration.result read.steps.went read.steps.keeps
-            (set.uses.steps known) done (set.ordered known) (set.what known) (set.keeps known)
-            hub.ends.started strings.steps.keeps;
-        strings = record {
-          before = g.B.Bus.world c.hub_facts.new.bus;
-          led = leads_went steps.went;
-          read = rw c.string_indexes.ensures at strings.ends.told;
-        };
+      whole = search rules;
+      part = record {
+        gone = gone_as (sets_at c.requires) (gone_then (setting t.addr) gone
+            (gone_as (sets_asked _) strings.gone) (omega arith));
+        ends = λ known.
+            let first = read.gone.steps known in
+            let started = hub.ends known in
+            let last = strings.gone.steps known in
+            record {
+              address = sym c.requires;
+              low = refl;
+              bytes = refl;
+              fits = sym c.in_ok-fits_tier.ensures;
+              served = subst (λ a. IsStarted a c.in_ok-hub.hub) c.requires started.served;
+              learned = listed_learns _ _ _ _ _ _ _ _ _ _ _ c.set_configuration.result
+                  c.configurations.ensures (read.ends known).so (set.uses.steps known)
+                  (c.value-value.ensures ∙ ap configuration_value chosen) done (set.what known)
+                  (hub.gone.steps known).went same_text started.learned last.went
+                  c.string_indexes.ensures (strings.ends known).so;
+              below = empties_ports _ _ _ _ _ c.set_configuration.result first.went first.keeps
+                  (set.uses.steps known) done (set.ordered known) (set.what known)
+                  (set.keeps known) started.started last.keeps;
+              strings = record {
+                before = g.B.Bus.world c.hub_facts.new.bus;
+                led = leads_went (gone.steps known).went;
+                read = rw c.string_indexes.ensures at (strings.ends known).told;
+              };
+            };
       };
+      few = λ known. few_then _ _ _ _ _ _ _ (c.read_configurations.ensures.few known) (went_then _ _
+          (went_then _ _ (set.uses.steps known) (hub.gone.steps known).went)
+          (strings.gone.steps known).went) (λ most. omega arith);
     }
-
-pub returns-in_err-configs-clause-few : goal.returns-in_err-configs-clause-few
-returns-in_err-configs-clause-few g c known =
-    few_wider _ _ _ _ _
-    (c.read_configurations.ensures.few known) (λ most. omega arith)
-
-pub returns-in_default-clause-few : goal.returns-in_default-clause-few
-returns-in_default-clause-few g c known =
-    few_wider _ _ _ _ _
-    (c.read_configurations.ensures.few known) (λ most. omega arith)
-
-pub returns-in_err-answered_or-clause-few : goal.returns-in_err-answered_or-clause-few
-returns-in_err-answered_or-clause-few g c known =
-    few_then _ _ _ _ _ _ _
-    (c.read_configurations.ensures.few known) (c.set_configuration.ensures.uses.steps known)
-    (λ most. omega arith)
-
-pub returns-in_err-hub-clause-few : goal.returns-in_err-hub-clause-few
-returns-in_err-hub-clause-few g c known =
-    few_then _ _ _ _ _ _ _
-    (c.read_configurations.ensures.few known) (went_then _ _
-    (c.set_configuration.ensures.uses.steps known) (c.in_err-hub.ensures.part known).steps.went)
-    (λ most. omega arith)
-
-pub returns-in_err-strings-clause-few : goal.returns-in_err-strings-clause-few
-returns-in_err-strings-clause-few g c known =
-    few_then _ _ _ _ _ _ _
-    (c.read_configurations.ensures.few known) (went_then _ _ (went_then _ _
-    (c.set_configuration.ensures.uses.steps known) (c.in_ok-hub.ensures.part known).steps.went)
-    (c.in_err-strings.ensures.read known).steps.went) (λ most. omega arith)
-
-pub returns-clause-few : goal.returns-clause-few
-returns-clause-few g c known =
-    few_then _ _ _ _ _ _ _
-    (c.read_configurations.ensures.few known) (went_then _ _ (went_then _ _
-    (c.set_configuration.ensures.uses.steps known) (c.in_ok-hub.ensures.part known).steps.went)
-    (c.in_ok-strings.ensures.read known).steps.went) (λ most. omega arith)
-
-pub returns-in_err-fits_tier-clause-whole : goal.returns-in_err-fits_tier-clause-whole
-returns-in_err-fits_tier-clause-whole g c =
-    handed_match _ _ _ _ c.from_residual.ensures.1 (deep_stop_fits _ c.args.device.bytes _ (sym
-    c.in_err-fits_tier.ensures))
-
-pub returns-in_err-configs-clause-whole : goal.returns-in_err-configs-clause-whole
-returns-in_err-configs-clause-whole g c =
-    handed_match _ _ _ _ c.from_residual-in_err-configs.ensures.1 (plain_stop_fits _ _
-    c.in_err-configs.ensures.all)
-
-pub returns-in_err-answered_or-clause-whole : goal.returns-in_err-answered_or-clause-whole
-returns-in_err-answered_or-clause-whole g c =
-    handed_match _ _ _ _ c.from_residual-in_err-answered_or.ensures.1 (plain_stop_fits _ _
-    (answered_plain (Stalled SetConfig) _ _ tt c.in_err-answered_or.ensures))
-
-pub returns-in_err-hub-clause-whole : goal.returns-in_err-hub-clause-whole
-returns-in_err-hub-clause-whole g c =
-    handed_match _ _ _ _ c.from_residual-in_err-hub.ensures.1 (hub_stop_fits _ c.args.device.bytes _
-    (sym c.in_ok-fits_tier.ensures) c.in_err-hub.ensures.hub.0
-    c.in_err-hub.ensures.hub.1)
-
-pub returns-in_err-strings-clause-whole : goal.returns-in_err-strings-clause-whole
-returns-in_err-strings-clause-whole g c =
-    handed_match _ _ _ _ c.from_residual-in_err-strings.ensures.1 (plain_stop_fits _ _
-    c.in_err-strings.ensures.plain)
-
-pub returns-in_err-answered_or-clause-any_bus : goal.returns-in_err-answered_or-clause-any_bus
-returns-in_err-answered_or-clause-any_bus g c = (
-  search rules,
-  handed_on _ _ _ c.from_residual-in_err-answered_or.ensures.1 (answered_reported _
-      (Stalled SetConfig) _ _ c.set_configuration.ensures.uses.told c.in_err-answered_or.ensures),
-)
-
-pub returns-in_err-fits_tier-clause-any_bus : goal.returns-in_err-fits_tier-clause-any_bus
-returns-in_err-fits_tier-clause-any_bus g c = (
-  search rules,
-  handed_on _ _ _ c.from_residual.ensures.1 (deep_reported _ _ c.args.device.bytes _ (sym
-      c.in_err-fits_tier.ensures)),
-)

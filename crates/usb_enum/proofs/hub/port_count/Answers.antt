@@ -1,98 +1,79 @@
+use Rattle.std.proofs.Common.{◌∙◌, inl, ap, refl, sym}
 use Rattle.usb_enum.specs.{hub_fault, BadHub, bad_descriptor, no_descriptor}
 use Rattle.usb_enum.proofs.refusals.HubRefusals.{bad_hub, hub_ungiven, count_refused}
-use Rattle.usb_enum.proofs.refusals.Refusals.{request_refused, handed_match}
+use Rattle.usb_enum.proofs.refusals.Refusals.{failed, request_refused}
 use Rattle.usb_enum.proofs.stops.PlainStops.{answered_hub}
-use Rattle.std.proofs.Common.{◌∙◌, inl, ap, refl, sym}
 use Rattle.usb_descriptor.specs.{hub_spelled}
 use Rattle.usb_hub.specs.{hub_given}
 use Rattle.usb_enum.proofs.ports.Hubs.{count_told}
 use Rattle.usb_enum.proofs.readings.HubReadings.{ports_learned}
-use Rattle.usb_enum.proofs.Parts.{part_fails, steps_asked}
+use Rattle.usb_enum.proofs.Parts.{gone_asked, gone_stopped}
 use Rattle.usb_request.specs.{get_hub_descriptor}
 use Rattle.usb_enum.proofs.stops.Reasons.{bad_hub_told, reads_failed, was_read}
-use Rattle.usb_enum.proofs.stops.ReportedFaults.{answered_reported}
-use Rattle.usb_enum.proofs.stops.ToldFailures.{handed_on}
-use Rattle.usb_enum.proofs.courses.Counts.{read_spends}
 use Rattle.usb_enum.proofs.hub.port_count.Goals as goal
 
-pub returns-in-Ok-clause-count : goal.returns-in-Ok-clause-count
-returns-in-Ok-clause-count g c = (
-  (c.ports.ensures.least, c.ports.ensures.most),
-  rw c.ports.ensures.value c.in-Ok.ensures.ports.1,
-)
-
-pub returns-in_err-bytes-clause-count : goal.returns-in_err-bytes-clause-count
-returns-in_err-bytes-clause-count g c =
-    handed_match _ _ _ _ c.from_residual.ensures.1 (answered_hub _ _
-    c.in_err-bytes.ensures)
-
-pub returns-in-Ok-clause-read : goal.returns-in-Ok-clause-read
-returns-in-Ok-clause-read g c known =
+pub returns-in-Ok : goal.returns-in-Ok
+returns-in-Ok g c =
     let old = g.B.Bus.world c.args.bus.now in
     let new = g.B.Bus.world c.hub_descriptor.new.bus in
     let hub = c.hub_descriptor.ensures in
-    let asked = hub.asked known in
     let same = c.in-Ok.ensures.view ∙ c.as_slice.ensures.value in
     record {
-      steps = steps_asked hub_given 9 c.requires.max (hub.uses.steps known) asked (hub.what known)
-          (hub.keeps known);
-      ends = rw c.ports.ensures.value (record {
-        told = count_told c.args.wide c.args.target BadHub c.hub_descriptor.result
-            c.in_ok-bytes.bytes
-            c.in-Ok.hub old new c.in_ok-bytes.ensures asked (cc) same;
-        so = ports_learned c.args.wide c.args.target BadHub c.hub_descriptor.result
-            c.in_ok-bytes.bytes
-            c.in-Ok.hub old new c.in_ok-bytes.ensures (cc) same (hub.what known);
-      });
+      count = (
+        (c.ports.ensures.least, c.ports.ensures.most),
+        rw c.ports.ensures.value c.in-Ok.ensures.ports.1,
+      );
+      read = record {
+        gone = gone_asked hub_given 9 _ c.requires.max c.in_ok-bytes.ensures hub.uses hub.asked
+            hub.what hub.keeps;
+        ends = λ known. rw c.ports.ensures.value (record {
+          told = count_told c.args.wide BadHub c.in_ok-bytes.ensures (hub.asked known) (cc) same;
+          so = ports_learned BadHub new c.in_ok-bytes.ensures (cc) same (hub.what known);
+        });
+      };
     }
 
-pub returns-in_err-bytes-clause-read : goal.returns-in_err-bytes-clause-read
-returns-in_err-bytes-clause-read g c known =
+pub returns-in_err-bytes : goal.returns-in_err-bytes
+returns-in_err-bytes g c =
     let old = g.B.Bus.world c.args.bus.now in
     let new = g.B.Bus.world c.hub_descriptor.new.bus in
     let hub = c.hub_descriptor.ensures in
-    let asked = hub.asked known in
-    let what = hub.what known in
-    part_fails _ _ c.from_residual.ensures.1
-    (steps_asked hub_given 9 c.requires.max (hub.uses.steps known) asked what (hub.keeps known))
-    (record {
-      told = bad_hub_told c.args.wide c.args.target get_hub_descriptor c.hub_descriptor.result _ 3 1
-          old new
-          c.in_err-bytes.ensures (reads_failed c.args.target get_hub_descriptor
-          c.hub_descriptor.result old new asked.stages) asked.ends no_descriptor;
-      so = request_refused _ _ _ _ _ old new what c.requires.max (hub.why known)
-          (hub_fault c.args.wide) BadHub _
-          c.in_err-bytes.ensures (λ spec none.
-          bad_hub c.args.wide spec (hub_ungiven c.args.wide spec spec.hub none));
+    rw (failed c.from_residual.result c.from_residual.ensures.1) (record {
+      count = answered_hub _ _ c.in_err-bytes.ensures;
+      read = record {
+        gone = gone_asked hub_given 9 _ c.requires.max c.in_err-bytes.ensures hub.uses hub.asked
+            hub.what hub.keeps;
+        ends = λ known.
+            let asked = hub.asked known in
+            record {
+              told = bad_hub_told c.args.wide c.args.target get_hub_descriptor
+                  c.hub_descriptor.result _ 3 1 old new c.in_err-bytes.ensures (reads_failed
+                  c.args.target get_hub_descriptor c.hub_descriptor.result old new asked.stages)
+                  asked.ends no_descriptor;
+              so = request_refused new (hub.what known) c.requires.max (hub.why known) (hub_fault
+                  c.args.wide) BadHub _ c.in_err-bytes.ensures
+                  (λ spec none. bad_hub c.args.wide spec
+                  (hub_ungiven c.args.wide spec spec.hub none));
+            };
+      };
     })
 
 pub returns-clause-read : goal.returns-clause-read
-returns-clause-read g c known =
-    let old = g.B.Bus.world c.args.bus.now in
-    let new = g.B.Bus.world c.hub_descriptor.new.bus in
+returns-clause-read g c =
     let hub = c.hub_descriptor.ensures in
-    let asked = hub.asked known in
     let bad = ap (hub_spelled c.args.wide) (sym c.as_slice.ensures.value)
     ∙ sym c.read_hub.ensures.answer
     ∙ c.in-Err.is in
     record {
-      steps = steps_asked hub_given 9 c.requires.max (hub.uses.steps known) asked (hub.what known)
-          (hub.keeps known);
-      ends = record {
+      gone = gone_stopped (gone_asked hub_given 9 _ c.requires.max c.in_ok-bytes.ensures hub.uses
+          hub.asked hub.what hub.keeps) tt;
+      ends = λ known. record {
         told = inl (
           refl,
           bad_descriptor c.in_ok-bytes.bytes.items c.in-Err.field-0
-              (was_read BadHub c.in_ok-bytes.bytes c.in_ok-bytes.ensures asked) bad,
+              (was_read BadHub c.in_ok-bytes.ensures (hub.asked known)) bad,
         );
-        so = count_refused c.args.wide c.args.target BadHub c.hub_descriptor.result
-            c.in_ok-bytes.bytes
-            c.in-Err.field-0 old new c.in_ok-bytes.ensures bad (hub.what known);
+        so = count_refused c.args.wide BadHub
+            (g.B.Bus.world c.hub_descriptor.new.bus) c.in_ok-bytes.ensures bad (hub.what known);
       };
     }
-
-pub returns-in_err-bytes-clause-any_bus : goal.returns-in_err-bytes-clause-any_bus
-returns-in_err-bytes-clause-any_bus g c = (
-  read_spends c.args.target.max 9 c.requires.max c.hub_descriptor.ensures.uses,
-  handed_on _ _ _ c.from_residual.ensures.1 (answered_reported _ BadHub _ _
-      c.hub_descriptor.ensures.uses.told c.in_err-bytes.ensures),
-)

@@ -1,9 +1,8 @@
-use Rattle.usb_enum.specs.{HearsSet}
 use Rattle.std.proofs.Common.{◌≤◌, inl, inr, arith, refl, sym}
 use Rattle.usb_enum.proofs.devices.Frames.{tells_asked}
 use Rattle.usb_enum.proofs.readings.HubReadings.{hub_learned}
-use Rattle.usb_enum.proofs.Parts.{asking, part_fails, steps_as, steps_joined, steps_none}
-use Rattle.usb_enum.proofs.Parts.{steps_then, steps_wider, telling}
+use Rattle.usb_enum.proofs.Parts.{asking, gone_as, gone_joined, gone_none, gone_stopped, gone_then}
+use Rattle.usb_enum.proofs.Parts.{gone_wider, part_failed, telling}
 use Rattle.usb_enum.proofs.ports.StatusEndpoints.{can_serve, status_holds, status_small}
 use Rattle.usb_enum.proofs.refusals.PortRefusals.{no_endpoint, asked_explains, small_explains}
 use Rattle.usb_enum.proofs.refusals.PortRefusals.{supply_explains, powered_explains}
@@ -12,113 +11,112 @@ use Rattle.usb_enum.proofs.courses.LastRequests.{leads_went}
 use Rattle.usb_enum.proofs.stops.Reasons.{at_start, hub_after}
 use Rattle.usb_enum.proofs.hub.start_hub.Goals as goal
 
-pub returns-clause-facts : goal.returns-clause-facts
-returns-clause-facts g c =
-    let tested : c.status_length.result ≤ c.in-Some.max =
-    omega (arith, c.if-max-status_length.false) in
+pub returns : goal.returns
+returns g c =
+    let tested : c.status_length.result ≤ c.in-Some.max = omega
+    (arith, c.if-max-status_length.false) in
     let fits = rw c.status_length.ensures at tested in
-    can_serve c.args.wide c.args.text.now _ c.in-Some.max c.in_ok-ports.ports
-    c.in-Some.ensures.value c.in_ok-supply.supply fits c.in_ok-ports.ensures.count.0
-    c.in_ok-ports.ensures.count.1 c.in_ok-supply.ensures.said
+    let count = c.in_ok-ports.ensures.read in
+    let supply = c.in_ok-supply.ensures.read c.args.wide in
+    let power = c.in_ok-power_ports.ensures.part c.args.wide in
+    record {
+      facts = can_serve c.args.wide c.args.text.now _ c.in-Some.max c.in_ok-ports.ports
+          c.in-Some.ensures.value c.in_ok-supply.supply fits c.in_ok-ports.ensures.count.0
+          c.in_ok-ports.ensures.count.1 c.in_ok-supply.ensures.said;
+      part = record {
+        gone = gone_then (telling _)
+            (gone_as (tells_asked _) (gone_joined asking count.gone supply.gone)) power.gone
+            (omega (arith, c.in_ok-ports.ensures.count.0.1));
+        ends = λ known. record {
+          told = record {
+            counted = _;
+            count = (count.ends known).told;
+            asked = _;
+            supply = (supply.ends known).told;
+            powered = power.ends known;
+          };
+          so = hub_learned c.args.wide c.args.target c.args.text.now c.in_ok-ports.ports
+              c.in_ok-supply.supply _ _ _ _ _ _ (status_holds c.args.wide c.args.text.now _
+              c.in-Some.max c.in_ok-ports.ports c.in-Some.ensures.value fits) (count.ends known).so
+              (supply.gone.steps known).went (supply.ends known).so (power.gone.steps known).went
+              (power.gone.steps known).keeps.devices;
+        };
+      };
+    }
 
 pub returns-in_default-clause-part : goal.returns-in_default-clause-part
-returns-in_default-clause-part g c known =
+returns-in_default-clause-part g c =
     let none = sym c.in_default.ensures.value in
     record {
-      steps = steps_none _ _ (telling _);
-      ends = record {
+      gone = gone_stopped (gone_none _ (telling _)) tt;
+      ends = λ known. record {
         told = inl (refl, inl (none, refl));
-        so = explained_none HearsSet _ c.args.target _
+        so = explained_none
             (λ spec. no_endpoint c.args.wide c.args.text.now c.args.target spec none);
       };
     }
 
 pub returns-then-max-status_length-clause-part : goal.returns-then-max-status_length-clause-part
-returns-then-max-status_length-clause-part g c known =
-    let count = c.in_ok-ports.ensures.read known in
+returns-then-max-status_length-clause-part g c =
+    let count = c.in_ok-ports.ensures.read in
     let less = rw c.status_length.ensures at c.if-max-status_length.true in
     let small = status_small c.args.wide c.args.text.now _ c.in-Some.max c.in_ok-ports.ports
     c.in-Some.ensures.value less in
     record {
-      steps = steps_wider (steps_as (tells_asked _) count.steps) (omega arith);
-      ends = record {
+      gone = gone_stopped (gone_wider (gone_as (tells_asked _) count.gone) (omega arith)) tt;
+      ends = λ known. record {
         told = inl (
           refl,
           inr (inl (record {
             ports = c.in_ok-ports.ports;
-            count = count.ends.told;
+            count = (count.ends known).told;
             small = small;
           })),
         );
         so = small_explains c.args.wide c.args.text.now c.args.target c.in_ok-ports.ports
-            (g.B.Bus.world c.args.bus.now) (g.B.Bus.world c.port_count.new.bus) small count.ends.so;
-      };
-    }
-
-pub returns-clause-part : goal.returns-clause-part
-returns-clause-part g c known =
-    let count = c.in_ok-ports.ensures.read known in
-    let supply = c.in_ok-supply.ensures.read known c.args.wide in
-    let power = c.in_ok-power_ports.ensures.part known c.args.wide in
-    let tested : c.status_length.result ≤ c.in-Some.max =
-    omega (arith, c.if-max-status_length.false) in
-    let fits = rw c.status_length.ensures at tested in
-    let holds = status_holds c.args.wide c.args.text.now _ c.in-Some.max c.in_ok-ports.ports
-    c.in-Some.ensures.value fits in
-    record {
-      steps = steps_then (telling _) (steps_as (tells_asked _)
-          (steps_joined asking count.steps supply.steps)) power.steps
-          (omega (arith, c.in_ok-ports.ensures.count.0.1));
-      ends = record {
-        told = record {
-          counted = _;
-          count = count.ends.told;
-          asked = _;
-          supply = supply.ends.told;
-          powered = power.ends;
-        };
-        so = hub_learned c.args.wide c.args.target c.args.text.now c.in_ok-ports.ports
-            c.in_ok-supply.supply _ _ _ _ _ _ holds count.ends.so supply.steps.went supply.ends.so
-            power.steps.went power.steps.keeps.devices;
+            (g.B.Bus.world c.args.bus.now) (g.B.Bus.world c.port_count.new.bus) small
+            (count.ends known).so;
       };
     }
 
 pub returns-in_err-ports-clause-part : goal.returns-in_err-ports-clause-part
-returns-in_err-ports-clause-part g c known =
-    let count = c.in_err-ports.ensures.read known in
-    part_fails _ _ c.from_residual.ensures.1
-    (steps_wider (steps_as (tells_asked _) count.steps) (omega arith))
-    (record {
-      told = at_start _ _ c.args.target c.args.text.now _ _ count.ends.told;
+returns-in_err-ports-clause-part g c =
+    let count = c.in_err-ports.ensures.read in
+    part_failed c.from_residual.ensures.1
+    (gone_wider (gone_as (tells_asked _) count.gone) (omega arith)) (λ known. record {
+      told = at_start _ _ c.args.target c.args.text.now _ _ (count.ends known).told;
       so = asked_explains c.args.wide c.args.text.now c.args.target _
-          (g.B.Bus.world c.args.bus.now) (g.B.Bus.world c.port_count.new.bus) count.ends.so;
+          (g.B.Bus.world c.args.bus.now) (g.B.Bus.world c.port_count.new.bus) (count.ends known).so;
     })
 
 pub returns-in_err-supply-clause-part : goal.returns-in_err-supply-clause-part
-returns-in_err-supply-clause-part g c known =
-    let count = c.in_ok-ports.ensures.read known in
-    let supply = c.in_err-supply.ensures.read known c.args.wide in
-    part_fails _ _ c.from_residual-in_err-supply.ensures.1
-    (steps_as (tells_asked _) (steps_then asking count.steps supply.steps (omega arith)))
-    (record {
+returns-in_err-supply-clause-part g c =
+    let count = c.in_ok-ports.ensures.read in
+    let supply = c.in_err-supply.ensures.read c.args.wide in
+    part_failed c.from_residual-in_err-supply.ensures.1
+    (gone_as (tells_asked _) (gone_then asking count.gone supply.gone (omega arith))) (λ known.
+    let went = (count.gone.steps known).went in
+    record {
       told = at_start _ _ _ c.args.text.now _ _
-          (hub_after _ _ _ _ _ _ (leads_went count.steps.went) supply.ends.told);
-      so = supply_explains c.args.wide c.args.text.now _ c.in_ok-ports.ports _ _ _ _ _ _
-          count.steps.went count.ends.so supply.steps.went supply.ends.so;
+          (hub_after _ _ _ _ (leads_went went) (supply.ends known).told);
+      so = supply_explains c.args.wide c.args.text.now _ c.in_ok-ports.ports _ _ _ _ _ _ went
+          (count.ends known).so (supply.gone.steps known).went (supply.ends known).so;
     })
 
 pub returns-in_err-power_ports-clause-part : goal.returns-in_err-power_ports-clause-part
-returns-in_err-power_ports-clause-part g c known =
-    let count = c.in_ok-ports.ensures.read known in
-    let supply = c.in_ok-supply.ensures.read known c.args.wide in
-    let power = c.in_err-power_ports.ensures.part known c.args.wide in
-    let asked = steps_joined asking count.steps supply.steps in
-    part_fails _ _ c.from_residual-in_err-power_ports.ensures.1 (steps_then (telling _)
-    (steps_as (tells_asked _) asked) power.steps (omega (arith, c.in_ok-ports.ensures.count.0.1)))
-    (record {
+returns-in_err-power_ports-clause-part g c =
+    let count = c.in_ok-ports.ensures.read in
+    let supply = c.in_ok-supply.ensures.read c.args.wide in
+    let power = c.in_err-power_ports.ensures.part c.args.wide in
+    let asked = gone_joined asking count.gone supply.gone in
+    part_failed c.from_residual-in_err-power_ports.ensures.1 (gone_then (telling _)
+    (gone_as (tells_asked _) asked) power.gone (omega (arith, c.in_ok-ports.ensures.count.0.1)))
+    (λ known.
+    let status = supply.gone.steps known in
+    record {
       told = at_start _ _ _ c.args.text.now _ _
-          (hub_after _ _ _ _ _ _ (leads_went asked.went) power.ends.told);
+          (hub_after _ _ _ _ (leads_went (asked.steps known).went) (power.ends known).told);
       so = powered_explains c.args.wide c.args.text.now _ c.in_ok-ports.ports _ _ _ _ _ _ _ _
-          c.in_ok-ports.ensures.count.0 count.steps.went count.ends.so supply.steps.went
-          supply.steps.keeps.devices power.steps.went power.ends.so;
+          c.in_ok-ports.ensures.count.0 (count.gone.steps known).went (count.ends known).so
+          status.went status.keeps.devices (power.gone.steps known).went (power.ends known).so;
     })

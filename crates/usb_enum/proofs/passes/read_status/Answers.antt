@@ -1,42 +1,24 @@
-use Rattle.std.proofs.Common.{inl, rules}
+use Rattle.std.proofs.Common.{inl}
 use Rattle.usb_enum.proofs.devices.Frames.{status_asks}
+use Rattle.usb_enum.proofs.Parts.{part_called}
 use Rattle.usb_enum.proofs.courses.Stretches.{status_goes}
-use Rattle.usb_enum.proofs.stops.Reasons.{call_ends}
-use Rattle.usb_enum.proofs.stops.ReportedFaults.{ports_reported}
 use Rattle.usb_hub.proofs.Interface.{read_works}
-use Rattle.usb_enum.proofs.ports.WorkingBuses.{at_port_works}
 use Rattle.usb_enum.proofs.passes.read_status.Goals as goal
 
-pub returns-clause-read : goal.returns-clause-read
-returns-clause-read g c known =
+pub returns : goal.returns
+returns g c =
     let call = c.port_status.ensures in
     record {
-      steps = record {
-        went = call.uses.steps known;
-        keeps = status_asks _ _ _ _ (call.status known) (call.fault known) (call.addresses known);
+      read = part_called c.args.port c.at_port.result c.port_status.result c.at_port.ensures
+          call.uses call.fault (λ known why is. inl (rw is at (call.status known)))
+          (λ known. read_works c.args.port _ _ _ (call.status known))
+          (λ known. status_asks _ _ _ _ (call.status known) (call.fault known)
+          (call.addresses known));
+      status = λ known. record {
+        outcome = c.port_status.result;
+        told = c.at_port.ensures;
+        tells = call.told known;
+        read = call.status known;
+        goes = status_goes _ _ _ _ (call.status known);
       };
-      ends = call_ends c.args.port _ c.port_status.result _ _ c.at_port.ensures
-          (call.fault known) (λ why is. inl (rw is at (call.status known)));
     }
-
-pub returns-clause-status : goal.returns-clause-status
-returns-clause-status g c known = record {
-  outcome = c.port_status.result;
-  told = c.at_port.ensures;
-  tells = c.port_status.ensures.told known;
-  read = c.port_status.ensures.status known;
-  goes = status_goes _ _ _ _ (c.port_status.ensures.status known);
-}
-
-pub returns-clause-any_bus : goal.returns-clause-any_bus
-returns-clause-any_bus g c = (
-  search rules,
-  rw c.at_port.ensures (ports_reported _ _ c.port_status.ensures.uses.told),
-)
-
-pub returns-clause-works : goal.returns-clause-works
-returns-clause-works g c known =
-    let old = g.B.Bus.world c.args.bus.now in
-    let new = g.B.Bus.world c.port_status.new.bus in
-    at_port_works _ c.port_status.result old new c.at_port.ensures
-    (read_works c.args.port _ old new (c.port_status.ensures.status known))

@@ -1,43 +1,26 @@
-use Rattle.std.proofs.Common.{◌∙◌, refl, subst, sym}
+use Rattle.std.proofs.Common.{◌≡◌, ◌∙◌, List, refl, Result, subst, sym, ℕ}
+use Rattle.std.specs.Global.{Vec}
 use Rattle.usb_request.specs.{IsToHost, Setup}
-use Rattle.usb_host.specs.{ReadTells}
-use Rattle.usb_run.proofs.endings.Ends.{error_runs_on, answered_goes, answered_caused}
+use Rattle.usb_host.specs.{HostFault, HostState, ReadTells}
+use Rattle.usb_run.proofs.endings.Ends.{transfer_goes, transfer_stops}
 use Rattle.usb_run.proofs.asked.read.Goals as goal
 
-pub returns-in_err-bytes-clause-on : goal.returns-in_err-bytes-clause-on
-returns-in_err-bytes-clause-on g c =
-    error_runs_on _ c.from_residual.result c.in_err-bytes.field-0.0 c.from_residual.ensures.1
-    (record {
-      answer = c.control_in.result;
-      call = subst (λ (s : Setup). ReadTells c.args.path s c.args.host.now c.control_in.result
-          c.control_in.new.self) c.setup.ensures.value (c.control_in.ensures.tells refl);
-      tells = sym c.answered.ensures ∙ c.in_err-bytes.was;
-    })
-    (answered_caused c.control_in.result c.in_err-bytes.field-0.0 c.control_in.new.self.world
-    (c.control_in.ensures.tells refl).told (sym c.answered.ensures ∙ c.in_err-bytes.was))
+tells_same : (path : List ℕ) {s setup : Setup} {old new : HostState}
+    {result : Result (Vec ℕ) HostFault} → ReadTells path s old result new → s ≡ setup
+    → ReadTells path setup old result new
+tells_same path {old = old} {new} {result} tells same =
+    subst (λ (x : Setup). ReadTells path x old result new) same tells
 
-pub returns-clause-on : goal.returns-clause-on
-returns-clause-on g c = record {
-  goes = (
-    subst IsToHost c.setup.ensures.value c.setup.ensures.reads,
-    (
-      c.in_ok-bytes.bytes,
-      refl,
-      record {
-        answer = c.control_in.result;
-        call = subst (λ (s : Setup). ReadTells c.args.path s c.args.host.now c.control_in.result
-            c.control_in.new.self) c.setup.ensures.value (c.control_in.ensures.tells refl);
-        tells = sym c.answered.ensures ∙ c.in_ok-bytes.was;
-      },
-    ),
-  );
-  running = c.control_in.ensures.stopped.stops c.requires.running
-      ∙ answered_goes c.control_in.result _ (sym c.answered.ensures ∙ c.in_ok-bytes.was);
-  caused = tt;
-}
+pub returns-in_err-bytes : goal.returns-in_err-bytes
+returns-in_err-bytes g c = transfer_stops
+    (tells_same c.args.path (c.control_in.ensures.tells refl) c.setup.ensures.value)
+    c.from_residual.result c.in_err-bytes.field-0.0 c.from_residual.ensures.1
+    (sym c.answered.ensures ∙ c.in_err-bytes.was) (λ stops. stops)
 
-pub returns-in_err-bytes-clause-owning : goal.returns-in_err-bytes-clause-owning
-returns-in_err-bytes-clause-owning g c = (c.control_in.ensures.tells refl).keeps.owning
-
-pub returns-clause-owning : goal.returns-clause-owning
-returns-clause-owning g c = (c.control_in.ensures.tells refl).keeps.owning
+pub returns : goal.returns
+returns g c = transfer_goes
+    (tells_same c.args.path (c.control_in.ensures.tells refl) c.setup.ensures.value)
+    c.in_ok-bytes.bytes (sym c.answered.ensures ∙ c.in_ok-bytes.was) c.requires.running (λ made. (
+      subst IsToHost c.setup.ensures.value c.setup.ensures.reads,
+      (c.in_ok-bytes.bytes, refl, made),
+    ))

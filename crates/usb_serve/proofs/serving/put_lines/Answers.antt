@@ -1,38 +1,33 @@
-use Rattle.std.proofs.Common.{◌∙◌, ◌++◌, ◌∷◌, [], subst, add-one, flat_map, take, drop, suc, List}
-use Rattle.std.proofs.Common.{ℕ}
+use Rattle.std.proofs.Common.{◌∙◌, ◌++◌, ◌∷◌, [], Err, List, ℕ, subst, sym, add-one, flat_map}
+use Rattle.std.proofs.Common.{take, drop, suc}
 use Rattle.std.specs.Global.{Vec}
 use Rattle.std.specs.Io.KnownBytes.{Appends}
 use Rattle.usb_bus.specs.{AppendsFront}
-use Rattle.usb_serve.proofs.LineFaults.{line_calm, line_kept}
+use Rattle.usb_serve.specs.{LinesPut}
+use Rattle.usb_serve.proofs.LineFaults.{line_calm, lines_fail}
 use Rattle.usb_run.proofs.Interface.{texts_split, flat_map-take, puts_line, cuts_line}
 use Rattle.usb_serve.proofs.serving.put_lines.Goals as goal
 
 abbrev written : Vec ℕ → List ℕ
 written v = v.items ++ 10 ∷ []
 
-pub returns-in-Err-clause-prints : goal.returns-in-Err-clause-prints
-returns-in-Err-clause-prints g c =
+pub returns-in-Err-clause-puts : goal.returns-in-Err-clause-puts
+returns-in-Err-clause-puts g c =
     let vs = c.args.lines.now in
     let i = c.lines.line-index in
     let v = c.line-item.result in
     let line = c.as_slice.ensures.value in
     let h = c.lines.runner.host in
     let l = c.put_line.new.self.host in
-    record {
-      done = tt;
-      failed = cuts_line (flat_map written (take i vs)) (written v)
-          (flat_map written (drop (suc i) vs)) (flat_map written vs) c.in-Err.fault
-          c.lines.invariant.puts c.put_line.ensures.puts.rests
-          c.in-Err.ensures.puts.step.ends
-          (subst (λ x. AppendsFront h.trace l.trace (x ++ 10 ∷ [])) line
-          c.put_line.ensures.puts.front) (texts_split written vs i v c.lines-test.true
-          c.line-item.is);
-    }
-
-pub returns-in-Err-clause-kept : goal.returns-in-Err-clause-kept
-returns-in-Err-clause-kept g c = line_kept c.in-Err.fault c.report_fault.result
-    c.args.runner.now.host c.lines.runner.host c.put_line.new.self.host c.in-Err.ensures.puts.step
-    c.put_line.ensures.puts.again c.lines.invariant.calm c.report_fault.ensures
+    let first = c.args.runner.now.host in
+    subst (λ f. LinesPut (flat_map written vs) first (Err f) l) (sym c.report_fault.ensures)
+    (lines_fail c.in-Err.fault (flat_map written vs) first h l c.in-Err.ensures.caused
+    c.in-Err.ensures.puts.step c.put_line.ensures.puts.again c.lines.invariant.calm
+    (cuts_line (flat_map written (take i vs)) (written v)
+    (flat_map written (drop (suc i) vs)) (flat_map written vs) c.in-Err.fault
+    c.lines.invariant.puts c.put_line.ensures.puts.rests c.in-Err.ensures.puts.step.ends
+    (subst (λ x. AppendsFront h.trace l.trace (x ++ 10 ∷ [])) line c.put_line.ensures.puts.front)
+    (texts_split written vs i v c.lines-test.true c.line-item.is)))
 
 pub lines-preserved : goal.lines-preserved
 lines-preserved g c =

@@ -1,6 +1,6 @@
-use Rattle.std.proofs.Common.{ap}
+use Rattle.std.proofs.Common.{ap, inl, refl}
 use Rattle.usb_run.proofs.Interface.{knows_opened}
-use Rattle.usb_serve.proofs.ServedItems.{run_unopened, run_written}
+use Rattle.usb_serve.proofs.ServedItems.{run_written}
 use Rattle.usb_serve.proofs.serving.serve_run.Goals as goal
 
 pub returns-in-Ok-clause-written : goal.returns-in-Ok-clause-written
@@ -13,5 +13,5 @@ returns-in-Ok-clause-written g c =
     c.into_tracer.ensures.trace
 
 pub returns-in-Err-clause-written : goal.returns-in-Err-clause-written
-returns-in-Err-clause-written g c = run_unopened c.args.plan.now _ _
-    (ap g.T.Trace.text c.in-Err.ensures.back)
+returns-in-Err-clause-written g c =
+    inl (record { refused = refl; nothing = ap g.T.Trace.text c.in-Err.ensures.back })

@@ -1,9 +1,8 @@
-use Rattle.std.proofs.Common.{refl, sym, subst}
+use Rattle.std.proofs.Common.{refl}
 use Rattle.usb_run.specs.{Tree}
 use Rattle.usb_run.specs.declared.mode.Mode.TheVariants.{Run}
-use Rattle.usb_serve.specs.{IsWritten, of_plan, unread}
-use Rattle.usb_serve.proofs.ServedThrough.{reads_failed, reads_run, unwritten_reader}
-use Rattle.usb_serve.proofs.WrittenEnough.{written_enough}
+use Rattle.usb_serve.specs.{unread}
+use Rattle.usb_serve.proofs.ServedThrough.{marks_tree, reads_failed, served_plan, unwritten_reader}
 use Rattle.usb_serve.proofs.serving.serve_to.Goals as goal
 
 pub returns-in-Err-clause-serves : goal.returns-in-Err-clause-serves
@@ -15,38 +14,13 @@ returns-in-Err-clause-serves g c = record {
 
 pub returns-in-Tree-clause-serves : goal.returns-in-Tree-clause-serves
 returns-in-Tree-clause-serves g c =
-    let before = g.T.Trace.text c.args.tracer in
-    let now = g.T.Trace.text c.serve_tree.result.1 in
-    record {
-      reads = reads_run c.in-Ok.plan c.in-Ok.ensures.reads c.serve_tree.ensures.reader;
-      writer = record {
-        write = c.serve_tree.ensures.write;
-        trace = λ is. absurd (c.serve_tree.ensures.untraced is);
-        at_limit = c.serve_tree.ensures.at_limit;
-      };
-      served =
-          of_plan c.in-Ok.plan c.in-Ok.ensures.plan c.serve_tree.ensures.reader
-          (subst (λ m. IsWritten m c.in-Ok.plan before c.serve_tree.result.0 now)
-          (sym c.in-Tree.is) c.serve_tree.ensures.written)
-          (written_enough Tree c.in-Ok.plan before now c.serve_tree.result.0
-          c.serve_tree.ensures.written);
-    }
+    let written = c.serve_tree.ensures.written in
+    served_plan Tree c.in-Tree.is c.in-Ok.plan c.in-Ok.ensures.reads c.in-Ok.ensures.plan
+    c.serve_tree.ensures.reader
+    (marks_tree c.serve_tree.result.0 c.serve_tree.ensures.writer c.requires.unfailed written)
+    written
 
 pub returns-clause-serves : goal.returns-clause-serves
 returns-clause-serves g c =
-    let before = g.T.Trace.text c.args.tracer in
-    let now = g.T.Trace.text c.serve_run.result.1 in
-    record {
-      reads = reads_run c.in-Ok.plan c.in-Ok.ensures.reads c.serve_run.ensures.reader;
-      writer = record {
-        write = c.serve_run.ensures.write;
-        trace = λ is. (c.in-Run.is, c.serve_run.ensures.trace is);
-        at_limit = c.serve_run.ensures.at_limit;
-      };
-      served =
-          of_plan c.in-Ok.plan c.in-Ok.ensures.plan c.serve_run.ensures.reader
-          (subst (λ m. IsWritten m c.in-Ok.plan before c.serve_run.result.0 now)
-          (sym c.in-Run.is) c.serve_run.ensures.written)
-          (written_enough Run c.in-Ok.plan before now c.serve_run.result.0
-          c.serve_run.ensures.written);
-    }
+    served_plan Run c.in-Run.is c.in-Ok.plan c.in-Ok.ensures.reads c.in-Ok.ensures.plan
+    c.serve_run.ensures.reader c.serve_run.ensures.writer c.serve_run.ensures.written

@@ -1,6 +1,6 @@
-use Rattle.std.proofs.Common.{None, Some, Ok, Err, inr, refl, sym, ap, rules}
+use Rattle.std.proofs.Common.{None, Some, Ok, Err, refl, sym, ap, rules}
 use Rattle.std.proofs.lemmas.Result.{err_from_is_err_and}
-use Rattle.usb_transaction.specs.{polled, Repeat, Stalled, Busy, NoAnswer, Bus}
+use Rattle.usb_transaction.specs.{polled, Stalled, Busy, NoAnswer, Bus}
 use Rattle.usb_transaction.proofs.Calls.{polls_in}
 use Rattle.usb_transaction.proofs.LastOutcomes.{heard_as-nak, heard_stall}
 use Rattle.usb_transaction.proofs.TransactionTries.{read_fits, stands_error, stands_new}
@@ -23,7 +23,7 @@ tries-preserved-in-Continue-1 g c = (
   c.tries.invariant.0,
   (search rules, search rules),
   λ known. stands_waited (c.tries.invariant.2 known) (rw c.attempt_of_in-attempt.ensures.value at
-      (c.in-Ok.ensures.attempts known)) Repeat _ (ap polled c.in-Repeat.ensures) (inr refl)
+      (c.in-Ok.ensures.attempts known)) _ (ap polled c.in-Repeat.ensures)
       c.wait.ensures.count c.in_ok-wait-in-Repeat.ensures.end,
   search rules,
 )
@@ -61,7 +61,7 @@ returns-in_err-wait-in-Repeat-clause-polls g c known =
     rw (told.1, told.2, end.0) (polls_in c.args.target c.args.ep c.args.toggle.now _ _
     (g.met.B.Bus.settled known c.args.bus.now) c.tries.invariant.0 (Err
     Busy) (told_busy (c.tries.invariant.2 known) (rw c.attempt_of_in-attempt.ensures.value at
-    (c.in-Ok.ensures.attempts known)) Repeat _ (ap polled c.in-Repeat.ensures) (inr refl)
+    (c.in-Ok.ensures.attempts known)) _ (ap polled c.in-Repeat.ensures)
     c.wait.ensures.count end.1) tt)
 
 pub returns-in-Refused-clause-polls : goal.returns-in-Refused-clause-polls

@@ -2,7 +2,7 @@ use Rattle.std.proofs.Common.{◌∙◌, None, Some, Ok, Err, refl, sym, ap, sub
 use Rattle.std.proofs.lemmas.Result.{err_from_is_err_and}
 use Rattle.usb_world.specs.{FitsMaximum}
 use Rattle.usb_bus.specs.{outcome_with}
-use Rattle.usb_transaction.specs.{Bus, HearsAs, heard_as, heard_with, moved_in}
+use Rattle.usb_transaction.specs.{Bus, HearsAs, heard_as}
 use Rattle.usb_transaction.proofs.Calls.{asks_in}
 use Rattle.usb_transaction.proofs.LastOutcomes.{heard_stall}
 use Rattle.usb_transaction.proofs.TransactionTries.{heard_fault, heard_last, heard_on, heard_packet}
@@ -26,9 +26,8 @@ tries-preserved g c =
     let t = c.tries.tries in
     let u = c.hear.new.self in
     let o = heard_as c.tries.toggle (outcome_with c.tries.kind c.tries.room) in
-    let heard : HearsAs t o (Ok None) u = subst (λ h. HearsAs t h (Ok None) u) c.heard_as.ensures
-    (subst (λ r. HearsAs t (heard_with c.heard_as.result c.tries.room)
-    (moved_in (Ok r) c.tries.room) u) c.in_default.is c.in_ok-hear.ensures) in
+    let heard : HearsAs t o (Ok None) u =
+    rw (c.heard_as.ensures, c.in_default.is) at c.in_ok-hear.ensures in
     let more = try_more o t.errors t.waits heard.0 c.tries.invariant.1.0 in (
       c.tries.invariant.0,
       (heard.2, heard.3),
@@ -59,10 +58,8 @@ returns-in-Moved-clause-asks g c known old before settled made =
     let u = c.hear.new.self in
     let packet = c.tries.room in
     let o = heard_as c.tries.toggle (outcome_with c.tries.kind c.tries.room) in
-    let heard : HearsAs t o (Ok (Some packet)) u = subst (λ h. HearsAs t h (Ok (Some packet)) u)
-    c.heard_as.ensures
-    (subst (λ r. HearsAs t (heard_with c.heard_as.result packet) (moved_in (Ok r) packet) u)
-    c.in-Moved.is c.in_ok-hear.ensures) in
+    let heard : HearsAs t o (Ok (Some packet)) u =
+    rw (c.heard_as.ensures, c.in-Moved.is) at c.in_ok-hear.ensures in
     let p = c.tries.invariant.2 known old before settled made in
     rw c.data.ensures (
       heard_last p u,
@@ -91,9 +88,8 @@ returns-in-Err-clause-asks g c known old before settled made =
     let t = c.tries.tries in
     let u = c.hear.new.self in
     let o = heard_as c.tries.toggle (outcome_with c.tries.kind c.tries.room) in
-    let heard : HearsAs t o (Ok None) u = subst (λ h. HearsAs t h (Ok None) u) c.heard_as.ensures
-    (subst (λ r. HearsAs t (heard_with c.heard_as.result c.tries.room)
-    (moved_in (Ok r) c.tries.room) u) c.in_default.is c.in_ok-hear.ensures) in
+    let heard : HearsAs t o (Ok None) u =
+    rw (c.heard_as.ensures, c.in_default.is) at c.in_ok-hear.ensures in
     let s = heard_on (c.tries.invariant.2 known old before settled made) u heard in (
       went_last s c.attempt_of_in-attempt.ensures.fits (c.in-Err.ensures.attempts known),
       asks_in c.args.target c.args.ep c.args.toggle.now old _ settled c.tries.invariant.0

@@ -1,96 +1,77 @@
-use Rattle.std.proofs.Common.{◌≡◌, ◌∙◌, ◌+◌, ◌*◌, ap, ◌++◌, length, length-append, arith}
+use Rattle.std.proofs.Common.{◌≡◌, ◌∙◌, ◌+◌, ◌*◌, ap, ◌++◌, length, length-append, arith, true}
 use Rattle.std.proofs.lemmas.Result.{err_from_is_err_and}
-use Rattle.usb_transaction.proofs.MovedRows.{few_answered, flips_more, in_fits, in_is, ins_came, ins_cut}
-use Rattle.usb_transaction.proofs.MovedRows.{ins_lost, ins_whole, row_room}
+use Rattle.usb_transaction.proofs.MovedRows.{InsBegun, few_answered, flips_more, in_fits, in_is}
+use Rattle.usb_transaction.proofs.MovedRows.{ins_came, ins_cut, ins_lost, ins_whole, row_room}
+use Rattle.usb_transaction.proofs.rows.data_in_row.Given as given
 use Rattle.usb_transaction.proofs.rows.data_in_row.Goals as goal
+use Rattle.usb_transaction.proofs.rows.data_in_row.Goals.{After-toggle_behind}
+
+-- the row, as the bus tells it
+begun : (g : given.Over) (c : goal.After-toggle_behind g) → g.B.Bus.modelled ≡ true
+    → InsBegun c.args.target c.args.ep c.args.toggle.now c.args.most
+    (g.B.Bus.world c.args.bus.now) (g.B.Bus.trace c.args.bus.now) c.attempt_ins-moved.result
+    c.attempt_ins-moved.new.got.items (g.B.Bus.world c.attempt_ins-moved.new.self)
+    (g.B.Bus.trace c.attempt_ins-moved.new.self) c.toggle_behind.result
+begun g c known = let d = c.destination.ensures in record {
+  to = c.destination.result;
+  is = in_is c.args.target c.args.ep c.destination.result d.address d.number d.low d.pre d.max;
+  fits = in_fits c.args.target c.args.ep c.requires.endpoint.0 c.requires.endpoint.1;
+  settled = g.met.B.Bus.settled known c.args.bus.now;
+  turned = c.toggle_behind.ensures;
+  made = c.attempt_ins-moved.ensures.attempts known;
+}
 
 pub returns-in-Whole-clause-steps : goal.returns-in-Whole-clause-steps
 returns-in-Whole-clause-steps g c known =
-    let t = c.args.target in
-    let d = c.destination.ensures in
-    let is = in_is t c.args.ep c.destination.result d.address d.number d.low d.pre d.max in
-    let fits = in_fits t c.args.ep c.requires.endpoint.0 c.requires.endpoint.1 in
-    (ins_whole t c.args.ep c.destination.result is fits c.args.toggle.now
-    (g.met.B.Bus.settled known c.args.bus.now) c.toggle_behind.ensures
-    (c.attempt_ins-moved.ensures.attempts known) c.in-Whole.is c.requires.row.0).1
+    (ins_whole (begun g (goal.at.returns-in-Whole-clause-steps g c).After-toggle_behind known)
+    c.in-Whole.is c.requires.row.0).1
 
 pub returns-in-Whole-clause-asks : goal.returns-in-Whole-clause-asks
 returns-in-Whole-clause-asks g c known =
-    let t = c.args.target in
-    let d = c.destination.ensures in
-    let is = in_is t c.args.ep c.destination.result d.address d.number d.low d.pre d.max in
-    let fits = in_fits t c.args.ep c.requires.endpoint.0 c.requires.endpoint.1 in
-    (ins_whole t c.args.ep c.destination.result is fits c.args.toggle.now
-    (g.met.B.Bus.settled known c.args.bus.now) c.toggle_behind.ensures
-    (c.attempt_ins-moved.ensures.attempts known) c.in-Whole.is c.requires.row.0).0
+    (ins_whole (begun g (goal.at.returns-in-Whole-clause-asks g c).After-toggle_behind known)
+    c.in-Whole.is c.requires.row.0).0
 
 pub returns-in-Faulted-clause-steps : goal.returns-in-Faulted-clause-steps
 returns-in-Faulted-clause-steps g c known =
-    let t = c.args.target in
-    let d = c.destination.ensures in
-    let is = in_is t c.args.ep c.destination.result d.address d.number d.low d.pre d.max in
-    let fits = in_fits t c.args.ep c.requires.endpoint.0 c.requires.endpoint.1 in
-    (ins_cut t c.args.ep c.destination.result is fits c.args.toggle.now
-    (g.met.B.Bus.settled known c.args.bus.now) c.toggle_behind.ensures
-    (c.attempt_ins-moved.ensures.attempts known) c.in-Faulted.is).1
+    (ins_cut (begun g (goal.at.returns-in-Faulted-clause-steps g c).After-toggle_behind known)
+    c.in-Faulted.is).1
 
 pub returns-in-Faulted-clause-asks : goal.returns-in-Faulted-clause-asks
 returns-in-Faulted-clause-asks g c known =
-    let t = c.args.target in
-    let d = c.destination.ensures in
-    let is = in_is t c.args.ep c.destination.result d.address d.number d.low d.pre d.max in
-    let fits = in_fits t c.args.ep c.requires.endpoint.0 c.requires.endpoint.1 in
-    (ins_cut t c.args.ep c.destination.result is fits c.args.toggle.now
-    (g.met.B.Bus.settled known c.args.bus.now) c.toggle_behind.ensures
-    (c.attempt_ins-moved.ensures.attempts known) c.in-Faulted.is).0
+    (ins_cut (begun g (goal.at.returns-in-Faulted-clause-asks g c).After-toggle_behind known)
+    c.in-Faulted.is).0
 
 pub returns-in_err-last-in-Answered-clause-steps : goal.returns-in_err-last-in-Answered-clause-steps
 returns-in_err-last-in-Answered-clause-steps g c known =
-    let t = c.args.target in
-    let d = c.destination.ensures in
-    let is = in_is t c.args.ep c.destination.result d.address d.number d.low d.pre d.max in
-    let fits = in_fits t c.args.ep c.requires.endpoint.0 c.requires.endpoint.1 in
     let told = err_from_is_err_and c.from_residual.result c.from_residual.ensures.1 in
-    rw told.1 (ins_lost t c.args.ep c.destination.result is fits c.args.toggle.now
-    (g.met.B.Bus.settled known c.args.bus.now) c.toggle_behind.ensures
-    (c.attempt_ins-moved.ensures.attempts known) c.in-Answered.is
-    (c.in_err-last-in-Answered.ensures.asks known) c.in_err-last-in-Answered.ensures.toggle).1
+    rw told.1 (ins_lost (begun g (goal.at.returns-in_err-last-in-Answered-clause-steps g
+    c).After-toggle_behind known)
+    c.in-Answered.is (c.in_err-last-in-Answered.ensures.asks known)
+    c.in_err-last-in-Answered.ensures.toggle).1
 
 pub returns-in_err-last-in-Answered-clause-asks : goal.returns-in_err-last-in-Answered-clause-asks
 returns-in_err-last-in-Answered-clause-asks g c known =
-    let t = c.args.target in
-    let d = c.destination.ensures in
-    let is = in_is t c.args.ep c.destination.result d.address d.number d.low d.pre d.max in
-    let fits = in_fits t c.args.ep c.requires.endpoint.0 c.requires.endpoint.1 in
     let told = err_from_is_err_and c.from_residual.result c.from_residual.ensures.1 in
-    rw (told.1, told.2) (ins_lost t c.args.ep c.destination.result is fits c.args.toggle.now
-    (g.met.B.Bus.settled known c.args.bus.now) c.toggle_behind.ensures
-    (c.attempt_ins-moved.ensures.attempts known) c.in-Answered.is
-    (c.in_err-last-in-Answered.ensures.asks known) c.in_err-last-in-Answered.ensures.toggle).0
+    rw (told.1, told.2) (ins_lost (begun g (goal.at.returns-in_err-last-in-Answered-clause-asks g
+    c).After-toggle_behind known)
+    c.in-Answered.is (c.in_err-last-in-Answered.ensures.asks known)
+    c.in_err-last-in-Answered.ensures.toggle).0
 
 pub returns-in_ok-last-in-Answered-clause-steps : goal.returns-in_ok-last-in-Answered-clause-steps
 returns-in_ok-last-in-Answered-clause-steps g c known =
-    let t = c.args.target in
-    let d = c.destination.ensures in
-    let is = in_is t c.args.ep c.destination.result d.address d.number d.low d.pre d.max in
-    let fits = in_fits t c.args.ep c.requires.endpoint.0 c.requires.endpoint.1 in
     let kept = c.add.ensures ∙ ap (λ z. c.attempt_ins-moved.new.got.items ++ z) c.bytes.ensures.value in
-    (ins_came t c.args.ep c.destination.result is fits c.args.toggle.now
-    (g.met.B.Bus.settled known c.args.bus.now) c.toggle_behind.ensures
-    (c.attempt_ins-moved.ensures.attempts known) c.in-Answered.is
-    (c.in_ok-last-in-Answered.ensures.asks known) kept c.in_ok-last-in-Answered.ensures.toggle).1
+    (ins_came (begun g (goal.at.returns-in_ok-last-in-Answered-clause-steps g c).After-toggle_behind
+    known)
+    c.in-Answered.is (c.in_ok-last-in-Answered.ensures.asks known) kept
+    c.in_ok-last-in-Answered.ensures.toggle).1
 
 pub returns-in_ok-last-in-Answered-clause-asks : goal.returns-in_ok-last-in-Answered-clause-asks
 returns-in_ok-last-in-Answered-clause-asks g c known =
-    let t = c.args.target in
-    let d = c.destination.ensures in
-    let is = in_is t c.args.ep c.destination.result d.address d.number d.low d.pre d.max in
-    let fits = in_fits t c.args.ep c.requires.endpoint.0 c.requires.endpoint.1 in
     let kept = c.add.ensures ∙ ap (λ z. c.attempt_ins-moved.new.got.items ++ z) c.bytes.ensures.value in
-    (ins_came t c.args.ep c.destination.result is fits c.args.toggle.now
-    (g.met.B.Bus.settled known c.args.bus.now) c.toggle_behind.ensures
-    (c.attempt_ins-moved.ensures.attempts known) c.in-Answered.is
-    (c.in_ok-last-in-Answered.ensures.asks known) kept c.in_ok-last-in-Answered.ensures.toggle).0
+    (ins_came (begun g (goal.at.returns-in_ok-last-in-Answered-clause-asks g c).After-toggle_behind
+    known)
+    c.in-Answered.is (c.in_ok-last-in-Answered.ensures.asks known) kept
+    c.in_ok-last-in-Answered.ensures.toggle).0
 
 pub add-requires : goal.add-requires
 add-requires g c =

@@ -3,7 +3,7 @@ use Rattle.std.proofs.Common.{arith, rules}
 use Rattle.arrayvec.specs.ArrayVec.{ArrayVec}
 use Rattle.std.proofs.lemmas.Result.{err_from_is_err_and}
 use Rattle.usb_bus.specs.{outcome_with}
-use Rattle.usb_transaction.specs.{HearsAs, heard_when_sent, heard_with, moved_in, packed}
+use Rattle.usb_transaction.specs.{HearsAs, heard_when_sent, heard_with, packed}
 use Rattle.usb_transaction.proofs.LastOutcomes.{sent_last, sent_stall}
 use Rattle.usb_transaction.proofs.TransactionTries.{heard_fault, heard_last, heard_on, heard_packet}
 use Rattle.usb_transaction.proofs.TransactionTries.{pending_first, told_cut, try_more, went_last}
@@ -27,12 +27,11 @@ tries-preserved g c =
     let t = c.tries.tries in
     let u = c.hear.new.self in
     let o = heard_when_sent (outcome_with c.tries.kind c.tries.room) in
-    let heard : HearsAs t o (Ok None) u = subst (λ h. HearsAs t h (Ok None) u)
-    c.heard_when_sent-heard.ensures
-    (subst (λ r. HearsAs t (heard_with c.heard_when_sent-heard.result no_bytes)
-    (moved_in (Ok r) no_bytes) u) c.in_default.is (subst (λ b. HearsAs t
-    (heard_with c.heard_when_sent-heard.result b) (moved_in (Ok c.in_ok-hear.field-0) b) u)
-    (ap packed c.new.ensures) c.in_ok-hear.ensures)) in
+    let heard : HearsAs t o (Ok None) u = rw (
+      ap packed c.new.ensures,
+      c.heard_when_sent-heard.ensures,
+      c.in_default.is,
+    ) at c.in_ok-hear.ensures in
     let more = try_more o t.errors t.waits heard.0 c.tries.invariant.1.0 in (
       c.tries.invariant.0,
       (heard.2, heard.3),
@@ -76,12 +75,11 @@ returns-in-Moved-clause-sends g c known old before settled made =
     let t = c.tries.tries in
     let u = c.hear.new.self in
     let o = heard_when_sent (outcome_with c.tries.kind c.tries.room) in
-    let heard : HearsAs t o (Ok (Some no_bytes)) u = subst (λ h. HearsAs t h (Ok (Some no_bytes)) u)
-    c.heard_when_sent-heard.ensures
-    (subst (λ r. HearsAs t (heard_with c.heard_when_sent-heard.result no_bytes)
-    (moved_in (Ok r) no_bytes) u) c.in-Moved.is (subst (λ b. HearsAs t
-    (heard_with c.heard_when_sent-heard.result b) (moved_in (Ok c.in_ok-hear.field-0) b) u)
-    (ap packed c.new.ensures) c.in_ok-hear.ensures)) in
+    let heard : HearsAs t o (Ok (Some no_bytes)) u = rw (
+      ap packed c.new.ensures,
+      c.heard_when_sent-heard.ensures,
+      c.in-Moved.is,
+    ) at c.in_ok-hear.ensures in
     let p = c.tries.invariant.2 known old before settled made in
     rw c.nothing.ensures (
       heard_last p u,
@@ -93,12 +91,11 @@ returns-in-Err-clause-sends g c known old before settled made =
     let t = c.tries.tries in
     let u = c.hear.new.self in
     let o = heard_when_sent (outcome_with c.tries.kind c.tries.room) in
-    let heard : HearsAs t o (Ok None) u = subst (λ h. HearsAs t h (Ok None) u)
-    c.heard_when_sent-heard.ensures
-    (subst (λ r. HearsAs t (heard_with c.heard_when_sent-heard.result no_bytes)
-    (moved_in (Ok r) no_bytes) u) c.in_default.is (subst (λ b. HearsAs t
-    (heard_with c.heard_when_sent-heard.result b) (moved_in (Ok c.in_ok-hear.field-0) b) u)
-    (ap packed c.new.ensures) c.in_ok-hear.ensures)) in
+    let heard : HearsAs t o (Ok None) u = rw (
+      ap packed c.new.ensures,
+      c.heard_when_sent-heard.ensures,
+      c.in_default.is,
+    ) at c.in_ok-hear.ensures in
     let s = heard_on (c.tries.invariant.2 known old before settled made) u heard in (
       went_last s c.requires (c.in-Err.ensures.attempts known),
       told_cut s (c.in-Err.ensures.attempts known),

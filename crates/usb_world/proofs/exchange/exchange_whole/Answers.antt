@@ -1,6 +1,6 @@
-use Rattle.std.proofs.Common.{◌+◌, refl, sym, ◌∙◌}
+use Rattle.std.proofs.Common.{refl, sym, ◌∙◌, rules}
 use Rattle.usb_device.proofs.Interface.{stopped_on_err}
-use Rattle.usb_world.specs.{Exchange, Whole, attempt_data, answer_place, heard_above}
+use Rattle.usb_world.specs.{Exchange, Whole, attempt_data, heard_above}
 use Rattle.usb_world.proofs.attempts.Exchanges.{over_settled}
 use Rattle.usb_world.proofs.ways.OneWalk.{CutShort, Walked, walk_over, walk_cut, walked_made}
 use Rattle.usb_world.proofs.ways.OneWalk.{walked_kept, made_plugged, made_settled, cut_plugged}
@@ -22,19 +22,16 @@ cut_short c = record {
   refused = c.in_err-attempt_at.ensures.refused;
 }
 
-pub returns-in_err-attempt_at-clause-plugged : goal.returns-in_err-attempt_at-clause-plugged
-returns-in_err-attempt_at-clause-plugged c =
-    cut_plugged (attempt_data c.args.attempt.now) _ _
-    (walk_over _ _ _ _ _ c.requires.way c.requires.alone (cut_short c))
-
-pub returns-in_err-attempt_at-clause-settled : goal.returns-in_err-attempt_at-clause-settled
-returns-in_err-attempt_at-clause-settled c =
-    over_settled _ _ (walk_over _ _ _ _ _ c.requires.way c.requires.alone (cut_short c))
-
-pub returns-in_err-attempt_at-clause-cut : goal.returns-in_err-attempt_at-clause-cut
-returns-in_err-attempt_at-clause-cut c =
-    stopped_on_err c.from_residual.result (walk_cut _ _ _ _ _ c.requires.way c.requires.alone
-    (cut_short c))
+pub returns-in_err-attempt_at : goal.returns-in_err-attempt_at
+returns-in_err-attempt_at c =
+    let over = walk_over _ _ _ _ _ c.requires.way c.requires.alone (cut_short c) in
+    record {
+      plugged = cut_plugged _ _ _ over;
+      settled = over_settled _ _ over;
+      made = search rules;
+      cut = stopped_on_err _ (walk_cut _ _ _ _ _ c.requires.way c.requires.alone (cut_short c));
+      kept = search rules;
+    }
 
 abbrev made : (c : goal.After-keeps_address) → Exchange
 made c = record {
@@ -65,26 +62,19 @@ walked c = record {
   ports = c.in_ok-attempt_at.ensures.ok;
   answer = refl;
   mark = refl;
-  reply = c.put_whole_reply.ensures (attempt_data c.args.attempt.now).pre
-      (answer_place c.put_whole_payload.new.payload + 1);
+  reply = c.put_whole_reply.ensures _ _;
   lost = refl;
   cleared = c.clears_change-exchange-inside.ensures;
 }
 
-pub returns-clause-plugged : goal.returns-clause-plugged
-returns-clause-plugged c =
-    made_plugged (attempt_data c.args.attempt.now) _ _
-    (walked_made _ _ _ _ _ _ _ c.requires.way c.requires.alone (walked c)).ports
-
-pub returns-clause-settled : goal.returns-clause-settled
-returns-clause-settled c =
-    made_settled (attempt_data c.args.attempt.now) c.args.roots.now _
-    (walked_made _ _ _ _ _ _ _ c.requires.way c.requires.alone (walked c)).ports
-
-pub returns-clause-made : goal.returns-clause-made
-returns-clause-made c = walked_made _ _ _ _ _ _ _ c.requires.way c.requires.alone (walked c)
-
-pub returns-clause-kept : goal.returns-clause-kept
-returns-clause-kept c =
-    λ kept. walked_kept c.args.port _ _ _ _ _ _ _ c.requires.way c.requires.alone (walked c)
-    (sym c.keeps_address.ensures ∙ kept)
+pub returns : goal.returns
+returns c =
+    let made = walked_made _ _ _ _ _ _ _ c.requires.way c.requires.alone (walked c) in
+    record {
+      plugged = made_plugged _ _ _ made.ports;
+      settled = made_settled _ c.args.roots.now _ made.ports;
+      made = made;
+      cut = tt;
+      kept = λ kept. walked_kept c.args.port _ _ _ _ _ _ _ c.requires.way c.requires.alone
+          (walked c) (sym c.keeps_address.ensures ∙ kept);
+    }

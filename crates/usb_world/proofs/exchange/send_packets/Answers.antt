@@ -1,19 +1,13 @@
 use Rattle.std.proofs.Common.{◌∙◌, ◌+◌, Option, refl, sym, subst, ap, ap₂}
 use Rattle.usb_device.specs.{Sent, both, heard_of}
 use Rattle.usb_world.specs.{harm_to, marked_some, answer_mark, clears_at, goes_out, Outgoing}
-use Rattle.usb_world.specs.{attempt_data, heard_above, reply_of}
-use Rattle.usb_world.specs.{IsStopped}
+use Rattle.usb_world.specs.{attempt_data, heard_above, reply_of, IsStopped}
 use Rattle.usb_tree.specs.{after_sent, answers_to, IfOut, IsDataOut, IsAckOut}
-use Rattle.usb_world.proofs.attempts.Exchanges.{Makes, made_exchange, made_ports, plugged_further}
+use Rattle.usb_world.proofs.attempts.Exchanges.{Makes, made_exchange, made_ports}
 use Rattle.usb_world.proofs.attempts.Refusals.{token_not_stopped, reply_not_stopped}
-use Rattle.usb_world.proofs.ways.Routes.{alone_data, alone_ack}
+use Rattle.usb_world.proofs.holders.OneDevice.{alone_data, alone_ack}
 use Rattle.usb_world.proofs.courses.Courses.{goes, reply_goes}
 use Rattle.usb_world.proofs.exchange.send_packets.Goals as goal
-
-pub returns-clause-plugged : goal.returns-clause-plugged
-returns-clause-plugged c =
-    plugged_further _ _ _ (plugged_further _ _ _ c.in_ok-send.ensures.plugged
-    c.in_ok-send-2.ensures.plugged) c.in_ok-address_lost.ensures.plugged
 
 pub returns-clause-made : goal.returns-clause-made
 returns-clause-made c =
@@ -57,7 +51,8 @@ returns-clause-made c =
           ∙ ap (harm_to damage) c.answer_place-place.ensures.value) c.answer-answer.ensures;
       reply = c.put_reply.ensures.value ∙ ap₂ (λ n o. marked_some damage (n + 1) a.pre o)
           c.answer_place-place.ensures.value (c.is_acknowledged-acknowledged.ensures
-          ∙ ap (λ h. reply_of h c.answer_mark-exchange-inside.result a.max) c.answer-answer.ensures);
+          ∙ ap (λ h. reply_of h c.answer_mark-exchange-inside.result a.max)
+          c.answer-answer.ensures);
       lost = c.in_ok-address_lost.ensures.lost;
       reply_went = c.in_ok-address_lost.ensures.ports;
     } in
@@ -106,5 +101,4 @@ send_reply-requires-clause-alone c =
     c.is_acknowledged-acknowledged.ensures in
     let P : Option Outgoing → Type 0 = λ o. IfOut IsAckOut (goes_out a o) in
     alone_ack _ _ _ c.send-2.ensures.alone
-    (subst P (sym reply) (reply_goes a c.args.damage n c.answer-answer.result
-    c.answer_mark-exchange-inside.result a.max))
+    (subst P (sym reply) (reply_goes a c.args.damage n _ _ a.max))

@@ -11,7 +11,8 @@ use Rattle.usb_world.proofs.route.make_exchange_by.Goals as goal
 pub returns-in-Nobody-clause-made : goal.returns-in-Nobody-clause-made
 returns-in-Nobody-clause-made c =
     let n = (attempt_data c.args.attempt.now).addr in
-    silence_made (attempt_data c.args.attempt.now) c.args.damage.now c.args.roots.now c.requires.settled
+    silence_made _ c.args.damage.now c.args.roots.now
+    c.requires.settled
     (nobody_there n c.args.roots.now
     (sym (c.requires.index.0 n (omega (arith, c.requires.attempt.addr_fits)))
     ∙ ap (λ (d : Destination). holder_in c.args.holders.now d.address) (sym c.destination.ensures)
@@ -26,7 +27,7 @@ exchange_at-requires c =
       settled = c.requires.settled;
       index = c.requires.index;
       way =
-          way_by_index n c.args.roots.now c.args.holders.now c.as_slice.result.now
+          way_by_index n _ c.args.holders.now _
           (omega (arith, c.requires.attempt.addr_fits)) c.requires.index
           (c.as_slice.ensures.value ∙ c.copied-path.ensures
           ∙ c.way-way.ensures.value);
@@ -40,7 +41,7 @@ exchange_at_port-requires c =
       settled = c.requires.settled;
       index = c.requires.index;
       way =
-          way_by_index n c.args.roots.now c.args.holders.now c.as_slice-in-AtPort.result.now
+          way_by_index n _ c.args.holders.now _
           (omega (arith, c.requires.attempt.addr_fits)) c.requires.index
           (c.as_slice-in-AtPort.ensures.value ∙ c.copied-path-in-AtPort.ensures
           ∙ c.way-way.ensures.value);
@@ -56,7 +57,7 @@ exchange_along-made-requires c =
     record {
       attempt = c.requires.attempt;
       alone =
-          alone_token (attempt_data c.args.attempt.now) c.args.damage.now c.args.roots.now
+          alone_token _ c.args.damage.now c.args.roots.now
           c.way-way.result.now
           c.requires.settled
           (way_by_index n c.args.roots.now c.args.holders.now c.way-way.result.now
@@ -70,7 +71,7 @@ renew_unless_kept-requires c =
     let old = c.args.roots.now in
     let new = c.exchange_along-made.new.roots in
     let p = c.way-way.result.now in
-    IfOk-weaker c.exchange_along-made.result (λ kept. kept ≡ true → KeptAt n 0 old new p)
+    IfOk-weaker _ (λ kept. kept ≡ true → KeptAt n 0 old new p)
     (λ kept. kept ≡ true → IsIndexOf h new)
     (λ kept known is. index_kept n h old new p c.requires.settled
     (way_by_index n old h p (omega (arith, c.requires.attempt.addr_fits)) c.requires.index

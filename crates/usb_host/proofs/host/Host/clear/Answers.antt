@@ -1,8 +1,7 @@
 use Rattle.std.proofs.Common.{refl}
 use Rattle.usb_host.proofs.PortRequests.{clears_by}
 use Rattle.usb_host.proofs.BusCounts.{counts_spend, counts_told}
-use Rattle.usb_enum.proofs.Interface.{order_most}
-use Rattle.usb_enum.proofs.Interface.{ports_reported}
+use Rattle.usb_enum.proofs.Interface.{order_most, ports_reported}
 use Rattle.usb_host.proofs.host.Host.clear.Goals as goal
 
 pub returns-clause-clears : goal.returns-clause-clears
@@ -13,9 +12,9 @@ returns-clause-clears g c known =
 
 pub returns-clause-spends : goal.returns-clause-spends
 returns-clause-spends g c =
-    rw (← c.self.view_is) (counts_spend g.B.Bus.modelled (g.B.Bus.spent c.self.inside.bus)
-    (g.B.Bus.spent c.clear_port.new.bus) (g.B.Bus.failed c.self.inside.bus)
-    (g.B.Bus.failed c.clear_port.new.bus) c.self.inside.left _ c.clear_port.ensures.uses.spends.0
+    rw (← c.self.view_is) (counts_spend g.B.Bus.modelled g.B.Bus.spent g.B.Bus.failed
+    c.self.inside.left
+    c.self.inside.bus c.clear_port.new.bus _ c.clear_port.ensures.uses.spends.0
     (order_most
     c.args.port))
 

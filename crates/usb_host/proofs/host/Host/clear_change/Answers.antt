@@ -1,18 +1,16 @@
+use Rattle.usb_host.proofs.StepSums.{handed_is}
 use Rattle.std.proofs.Common.{◌∙◌, sym}
-use Rattle.std.proofs.lemmas.Result.{err_from_is_err_and}
 use Rattle.usb_host.proofs.PortRequests.{change_cleared, change_fails, change_stays, change_untold}
 use Rattle.usb_host.proofs.host.Host.clear_change.Goals as goal
 
 pub returns-in_err-clear-clause-clears : goal.returns-in_err-clear-clause-clears
 returns-in_err-clear-clause-clears g c known =
-    let told = err_from_is_err_and c.from_residual.result c.from_residual.ensures.1 in
-    rw (told.1, told.2) (change_fails (c.in_err-clear.ensures.clears known))
+    rw (handed_is c.from_residual.ensures.1) (change_fails (c.in_err-clear.ensures.clears known))
 
 pub returns-in_err-status-clause-clears : goal.returns-in_err-status-clause-clears
 returns-in_err-status-clause-clears g c known =
-    let told = err_from_is_err_and c.from_residual-in_err-status.result
-    c.from_residual-in_err-status.ensures.1 in
-    rw (told.1, told.2) (change_untold (c.in_ok-clear.ensures.clears known)
+    rw (handed_is c.from_residual-in_err-status.ensures.1) (change_untold
+    (c.in_ok-clear.ensures.clears known)
     (c.in_err-status.ensures.shows known))
 
 pub returns-then-is_stuck-clause-clears : goal.returns-then-is_stuck-clause-clears
@@ -22,9 +20,8 @@ returns-then-is_stuck-clause-clears g c known =
 
 pub returns-in_err-clear_where-clause-clears : goal.returns-in_err-clear_where-clause-clears
 returns-in_err-clear_where-clause-clears g c known =
-    let told = err_from_is_err_and c.from_residual-in_err-clear_where.result
-    c.from_residual-in_err-clear_where.ensures.1 in
-    rw (told.1, told.2) (change_cleared (c.in_ok-clear.ensures.clears known) c.clear_where.new.self
+    rw (handed_is c.from_residual-in_err-clear_where.ensures.1) (change_cleared
+    (c.in_ok-clear.ensures.clears known) c.clear_where.new.self
     (c.in_ok-status.ensures.shows known) (sym c.is_stuck.ensures ∙ c.if-is_stuck.false)
     (c.in_err-clear_where.ensures.clears known))
 

@@ -1,27 +1,18 @@
-use Rattle.std.proofs.Common.{arith, refl, rules, ap, sym, ◌∙◌}
-use Rattle.std.proofs.lemmas.Bool.{false≢true}
+use Rattle.usb_host.proofs.TransferCalls.{had_stopped, over, stopped_any, stopped_tells}
+use Rattle.usb_host.proofs.TransferCalls.{transfers_any}
+use Rattle.std.proofs.Common.{arith, refl, rules}
 use Rattle.std.proofs.lemmas.Grind.{common_steps}
-use Rattle.usb_pipe.specs.{write_bound}
 use Rattle.usb_table.specs.{asked_through, clears_miss, pipe_to, pipes_at}
-use Rattle.usb_host.specs.{counts_of, HostState}
-use Rattle.usb_host.proofs.StepSums.{host_goes_none}
-use Rattle.usb_host.proofs.knowledge.Soundness.{transfer_kept, transfer_none}
-use Rattle.usb_host.proofs.BusCounts.{counts_spend, counts_transfer, left_same}
+use Rattle.usb_host.proofs.knowledge.Soundness.{transfer_kept}
 use Rattle.usb_host.proofs.Refusals.{moves_or_refuses}
 use Rattle.usb_host.proofs.WorkingBuses.{cleared_of_works}
-use Rattle.usb_host.proofs.arrivals.KeptNumbers.{keeps_by, keeps_none}
+use Rattle.usb_host.proofs.arrivals.KeptNumbers.{keeps_by}
 use Rattle.usb_host.proofs.host.Host.clear_halt_of.Goals as goal
 
 pub returns-then-self-clause-tells : goal.returns-then-self-clause-tells
-returns-then-self-clause-tells g c known = record {
-  stopped = first_of (search rules, grind (arith, common_steps));
-  went = (host_goes_none {n = write_bound} {h = c.args.self.now}).went;
-  told = tt;
-  works = λ sound none. none;
-  did = λ running. absurd (false≢true (sym running ∙ ap (λ (h : HostState). h.stopped)
-      (sym c.self.view_is) ∙ c.if-self.true));
-  keeps = transfer_none _;
-}
+returns-then-self-clause-tells g c known =
+    stopped_tells (first_of (search rules, grind (arith, common_steps)))
+    (had_stopped c.self.view_is c.if-self.true)
 
 pub returns-clause-tells : goal.returns-clause-tells
 returns-clause-tells g c known = record {
@@ -32,57 +23,32 @@ returns-clause-tells g c known = record {
       c.as_host_fault-cleared.ensures
       (c.clear_halt_of.ensures.clears known).did);
   did = first_of (search rules, grind (arith, common_steps));
-  keeps = rw (← c.self.view_is) (transfer_kept _ _ _ _ _ c.self.invariant
+  keeps = rw (← c.self.view_is) (transfer_kept c.self.invariant
       c.clear_halt_of.ensures.through.entries refl (c.clear_halt_of.ensures.clears known).went
-      (c.clear_halt_of.ensures.clears known).keeps c.if-self.false (λ still. still));
+      (c.clear_halt_of.ensures.clears known).keeps c.if-self.false);
 }
 
 pub returns-clause-any_bus : goal.returns-clause-any_bus
-returns-clause-any_bus g c = record {
-  calls = record {
-    calls = record {
-      spends = rw (← c.self.view_is) (counts_spend g.B.Bus.modelled
-          (g.B.Bus.spent c.self.inside.bus) (g.B.Bus.spent c.clear_halt_of.new.bus)
-          (g.B.Bus.failed c.self.inside.bus) (g.B.Bus.failed c.clear_halt_of.new.bus)
-          c.self.inside.left _ c.clear_halt_of.ensures.any_bus.0.0 (omega arith));
-      told = λ off. rw c.as_host_fault-cleared.ensures (counts_transfer
-          (g.B.Bus.spent c.clear_halt_of.new.bus) (g.B.Bus.failed c.clear_halt_of.new.bus)
-          c.self.inside.left g.B.Bus.modelled c.clear_halt_of.result
-          c.clear_halt_of.ensures.any_bus.1 off);
-      numbers = rw (← c.self.view_is) (keeps_by c.clear_halt_of.ensures.through.entries refl refl
-          refl);
-    };
-    left = rw (← c.self.view_is) (left_same g.B.Bus.modelled (g.B.Bus.spent c.self.inside.bus)
-        (g.B.Bus.spent c.clear_halt_of.new.bus) (g.B.Bus.failed c.self.inside.bus)
-        (g.B.Bus.failed c.clear_halt_of.new.bus) c.self.inside.left);
-  };
-  refuses = λ running. rw (← c.self.view_is) (moves_or_refuses c.args.path.now
-      (λ bus. record {
-        world = g.B.Bus.world bus;
-        trace = g.B.Bus.trace bus;
-        counts = counts_of g.B.Bus.modelled (g.B.Bus.spent bus) (g.B.Bus.failed bus)
-            c.self.inside.left;
-        entries = c.self.inside.table.entries;
-        pipes = c.self.inside.table.pipes;
-        addresses = c.self.inside.pool;
-        numbers = c.self.inside.numbers;
-        reported = c.self.inside.reported;
-        options = c.self.inside.options;
-        stopped = c.self.inside.stopped;
-      }) c.self.inside.bus c.clear_halt_of.new.bus c.clear_halt_of.ensures.through
-      c.clear_halt_of.result
-      c.as_host_fault-cleared.ensures c.if-self.false c.is_final-self-inside.ensures
-      (asked_through (pipe_to c.args.endpoint) (clears_miss c.args.endpoint)
-      (pipes_at c.args.path.now c.self.inside.table))
-      c.clear_halt_of.ensures.any_bus.2);
-}
+returns-clause-any_bus g c =
+    rw (← c.self.view_is) (record {
+      calls = transfers_any g.B.Bus.modelled g.B.Bus.spent g.B.Bus.failed c.self.inside.left
+          c.self.inside.bus c.clear_halt_of.new.bus c.clear_halt_of.result
+          refl refl c.as_host_fault-cleared.ensures
+          c.clear_halt_of.ensures.any_bus.0.0 (omega arith) c.clear_halt_of.ensures.any_bus.1
+          (keeps_by c.clear_halt_of.ensures.through.entries refl refl refl);
+      refuses = λ running. moves_or_refuses c.args.path.now
+          (over g.B.Bus.modelled g.B.Bus.world g.B.Bus.trace g.B.Bus.spent g.B.Bus.failed
+          c.self.inside.left c.self.view_is) c.self.inside.bus c.clear_halt_of.new.bus
+          c.clear_halt_of.ensures.through c.clear_halt_of.result
+          c.as_host_fault-cleared.ensures c.if-self.false c.is_final-self-inside.ensures
+          (asked_through (pipe_to c.args.endpoint) (clears_miss c.args.endpoint)
+          (pipes_at c.args.path.now c.self.inside.table))
+          c.clear_halt_of.ensures.any_bus.2;
+    })
 
 pub returns-then-self-clause-any_bus : goal.returns-then-self-clause-any_bus
-returns-then-self-clause-any_bus g c = record {
-  calls = record {
-    calls = record { spends = omega arith; told = λ off. tt; numbers = keeps_none _ };
-    left = refl;
-  };
-  refuses = λ running. absurd (false≢true (sym running ∙ ap (λ (h : HostState). h.stopped)
-      (sym c.self.view_is) ∙ c.if-self.true));
-}
+returns-then-self-clause-any_bus g c =
+    record {
+      calls = stopped_any;
+      refuses = had_stopped c.self.view_is c.if-self.true;
+    }

@@ -1,8 +1,7 @@
 use Rattle.std.proofs.Common.{refl}
 use Rattle.usb_host.proofs.PortRequests.{others_by, others_none}
 use Rattle.usb_host.proofs.BusCounts.{counts_spend, counts_told}
-use Rattle.usb_enum.proofs.Interface.{order_most}
-use Rattle.usb_enum.proofs.Interface.{ports_reported}
+use Rattle.usb_enum.proofs.Interface.{order_most, ports_reported}
 use Rattle.usb_host.proofs.host.Host.clear_other.Goals as goal
 
 pub returns-then-asked-clause-clears : goal.returns-then-asked-clause-clears
@@ -17,9 +16,9 @@ returns-else-asked-clause-clears g c known = others_none c.if-asked.false
 
 pub returns-then-asked-clause-spends : goal.returns-then-asked-clause-spends
 returns-then-asked-clause-spends g c =
-    rw (← c.self.view_is) (counts_spend g.B.Bus.modelled (g.B.Bus.spent c.self.inside.bus)
-    (g.B.Bus.spent c.clear_port_change.new.bus) (g.B.Bus.failed c.self.inside.bus)
-    (g.B.Bus.failed c.clear_port_change.new.bus) c.self.inside.left _
+    rw (← c.self.view_is) (counts_spend g.B.Bus.modelled g.B.Bus.spent g.B.Bus.failed
+    c.self.inside.left
+    c.self.inside.bus c.clear_port_change.new.bus _
     c.clear_port_change.ensures.uses.spends.0
     (order_most c.args.port))
 

@@ -1,11 +1,11 @@
-use Rattle.std.proofs.lemmas.Result.{err_from_is_err_and}
+use Rattle.usb_host.proofs.StepSums.{handed_is}
 use Rattle.usb_host.proofs.PortRequests.{tidied, tidied_fails}
 use Rattle.usb_host.proofs.host.Host.clear_other_changes.Goals as goal
 
 pub returns-in_err-clear_where-clause-tidies : goal.returns-in_err-clear_where-clause-tidies
 returns-in_err-clear_where-clause-tidies g c known =
-    let told = err_from_is_err_and c.from_residual.result c.from_residual.ensures.1 in
-    rw (told.1, told.2) (tidied_fails c.args.status (c.in_err-clear_where.ensures.clears known))
+    rw (handed_is c.from_residual.ensures.1) (tidied_fails c.args.status
+    (c.in_err-clear_where.ensures.clears known))
 
 pub returns-clause-tidies : goal.returns-clause-tidies
 returns-clause-tidies g c known =

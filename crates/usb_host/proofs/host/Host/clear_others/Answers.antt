@@ -1,13 +1,12 @@
+use Rattle.usb_host.proofs.StepSums.{handed_is}
 use Rattle.std.proofs.Common.{◌∙◌, ◌*◌, arith}
-use Rattle.std.proofs.lemmas.Result.{err_from_is_err_and}
 use Rattle.usb_pipe.specs.{write_bound}
 use Rattle.usb_host.proofs.PortRequests.{others_fail, others_then}
 use Rattle.usb_host.proofs.host.Host.clear_others.Goals as goal
 
 pub returns-in_err-clear_other-clause-clears : goal.returns-in_err-clear_other-clause-clears
 returns-in_err-clear_other-clause-clears g c known =
-    let told = err_from_is_err_and c.from_residual.result c.from_residual.ensures.1 in
-    rw (told.1, told.2) (others_fail c.args.status (2 * write_bound)
+    rw (handed_is c.from_residual.ensures.1) (others_fail c.args.status (2 * write_bound)
     (c.in_err-clear_other.ensures.clears known) (omega arith))
 
 pub returns-clause-clears : goal.returns-clause-clears

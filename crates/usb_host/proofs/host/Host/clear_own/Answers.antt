@@ -2,10 +2,9 @@ use Rattle.std.proofs.Common.{refl, arith}
 use Rattle.usb_address.proofs.Interface.{keeps_none}
 use Rattle.usb_host.proofs.PortRequests.{own_by, requested-none}
 use Rattle.usb_hub.specs.{External}
-use Rattle.usb_enum.proofs.Interface.{status_most}
+use Rattle.usb_enum.proofs.Interface.{status_most, ports_reported}
 use Rattle.usb_host.proofs.StepSums.{goes_by}
 use Rattle.usb_host.proofs.BusCounts.{counts_spend, counts_told}
-use Rattle.usb_enum.proofs.Interface.{ports_reported}
 use Rattle.usb_host.proofs.host.Host.clear_own.Goals as goal
 
 pub returns-in-Root-clause-clears : goal.returns-in-Root-clause-clears
@@ -29,9 +28,9 @@ returns-in-External-clause-clears g c known =
 
 pub returns-in-External-clause-spends : goal.returns-in-External-clause-spends
 returns-in-External-clause-spends g c =
-    rw (← c.self.view_is) (counts_spend g.B.Bus.modelled (g.B.Bus.spent c.self.inside.bus)
-    (g.B.Bus.spent c.clear_hub_changes.new.bus) (g.B.Bus.failed c.self.inside.bus)
-    (g.B.Bus.failed c.clear_hub_changes.new.bus) c.self.inside.left _
+    rw (← c.self.view_is) (counts_spend g.B.Bus.modelled g.B.Bus.spent g.B.Bus.failed
+    c.self.inside.left
+    c.self.inside.bus c.clear_hub_changes.new.bus _
     c.clear_hub_changes.ensures.uses.spends.0 (omega (
       arith,
       status_most (External c.in-External.hub c.in-External.port)

@@ -1,3 +1,4 @@
+use Rattle.usb_host.proofs.PartCalls.{call_fails, call_next, call_none, call_then}
 use Rattle.std.proofs.Common.{arith, refl, sym}
 use Rattle.usb_world.proofs.Interface.{way_itself, way_parent, way_trans}
 use Rattle.usb_host.proofs.ParentPaths.{parent_length}
@@ -8,13 +9,12 @@ use Rattle.usb_host.proofs.host.Host.climb.Goals as goal
 
 pub up-init : goal.up-init
 up-init g c = record {
-  spends = omega arith;
+  call = call_none;
   so = λ known. climbed_none c.args.first c.args.self.now;
   rests = refl;
   on = way_itself c.args.first;
   least = omega arith;
   most = omega arith;
-  works = λ known none. none;
 }
 
 pub up-smaller : goal.up-smaller
@@ -28,7 +28,7 @@ up-preserved g c =
     let parent = sym c.in-Some.ensures in
     let one = parent_length c.up.path parent in
     record {
-      spends = omega (arith, i.spends, c.disable.ensures.spends, one);
+      call = call_next i.call c.in_ok-disable.ensures.call (omega (arith, i.most, one));
       so = λ known.
           climbed_on (i.so known) i.most (c.disable.ensures.disables known)
           (failed_by c.in_ok-disable.was c.if-branch.false) parent;
@@ -37,7 +37,6 @@ up-preserved g c =
           (way_parent c.up.path c.in-Some.above parent) i.on;
       least = omega arith;
       most = omega (arith, i.most);
-      works = λ known none. c.in_ok-disable.ensures.works known (i.works known none);
     }
 
 pub returns-in_err-disable-clause-climbs : goal.returns-in_err-disable-clause-climbs
@@ -61,14 +60,18 @@ returns-in-None-clause-climbs g c known =
     i.most (c.disable.ensures.disables known) i.least i.on i.rests
     (failed_by c.in_ok-disable.was c.if-branch.false) (sym c.in-None.ensures)
 
-pub returns-in_err-disable-clause-spends : goal.returns-in_err-disable-clause-spends
-returns-in_err-disable-clause-spends g c =
-    let i = c.up.invariant in omega (arith, i.spends, i.least, c.disable.ensures.spends)
+pub returns-in_err-disable-clause-call : goal.returns-in_err-disable-clause-call
+returns-in_err-disable-clause-call g c =
+    let i = c.up.invariant in
+    call_fails c.from_residual.ensures.1 (call_then i.call c.in_err-disable.ensures.call)
+    (omega (arith, i.least, i.most))
 
-pub returns-then-branch-clause-spends : goal.returns-then-branch-clause-spends
-returns-then-branch-clause-spends g c =
-    let i = c.up.invariant in omega (arith, i.spends, i.least, c.disable.ensures.spends)
+pub returns-then-branch-clause-call : goal.returns-then-branch-clause-call
+returns-then-branch-clause-call g c =
+    let i = c.up.invariant in
+    call_next i.call c.in_ok-disable.ensures.call (omega (arith, i.least, i.most))
 
-pub returns-in-None-clause-spends : goal.returns-in-None-clause-spends
-returns-in-None-clause-spends g c =
-    let i = c.up.invariant in omega (arith, i.spends, i.least, c.disable.ensures.spends)
+pub returns-in-None-clause-call : goal.returns-in-None-clause-call
+returns-in-None-clause-call g c =
+    let i = c.up.invariant in
+    call_next i.call c.in_ok-disable.ensures.call (omega (arith, i.least, i.most))

@@ -1,21 +1,19 @@
-use Rattle.std.proofs.Common.{◌≡◌, ◌+◌, ◌*◌, ◌≤◌, length, true}
+use Rattle.std.proofs.Common.{◌≡◌, ◌-◌, ◌*◌, ◌≤◌, length, true, Ok}
 use Rattle.usb_pipe.specs.{write_bound}
 use Rattle.usb_tree.specs.{is_way}
-use Rattle.usb_host.specs.{OnlyBusSteps, drop_bound}
-use Rattle.usb_hub.specs.{StillWorks}
+use Rattle.usb_host.specs.{OnlyBusSteps, PartCall}
 use Rattle.usb_host.proofs.PortDrops.{ClimbedTo}
 use Rattle.usb_host.proofs.host.Host.climb.Given as goal
 
 abbrev pub invariant-up : goal.invariant-up
 invariant-up g l = record {
-  spends : l.self.counts.spent + write_bound * length l.path
-      ≤ l.initial.self.counts.spent + drop_bound;
+  call : PartCall {A = Unit {0}} g.B.Bus.modelled ((7 - length l.path) * write_bound)
+      l.initial.self (Ok tt) l.self;
   so : g.B.Bus.modelled ≡ true → ClimbedTo l.initial.path l.path l.initial.self l.self;
   rests : OnlyBusSteps l.initial.self l.self;
   on : is_way l.path l.initial.path ≡ true;
   least : 1 ≤ length l.path;
   most : length l.path ≤ 7;
-  works : g.B.Bus.modelled ≡ true → StillWorks l.initial.self.world l.self.world;
 }
 
 abbrev pub decreases-up : goal.decreases-up

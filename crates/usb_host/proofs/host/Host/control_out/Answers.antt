@@ -2,15 +2,16 @@ use Rattle.std.proofs.Common.{arith, rules, refl}
 use Rattle.std.proofs.lemmas.Grind.{common_steps}
 use Rattle.usb_table.specs.{write_target}
 use Rattle.usb_host.proofs.knowledge.Soundness.{transfer_kept}
-use Rattle.usb_host.proofs.TransferCalls.{had_stopped, over, stopped_any, stopped_tells, transfers_any}
-use Rattle.usb_host.proofs.ControlWorks.{asks_or_refuses, write_told_works}
+use Rattle.usb_host.proofs.TransferCalls.{had_stopped, over, stopped_any, stopped_tells}
+use Rattle.usb_host.proofs.TransferCalls.{transfers_any}
+use Rattle.usb_host.proofs.WorkingBuses.{asks_or_refuses, write_told_works}
 use Rattle.usb_host.proofs.arrivals.KeptNumbers.{keeps_none}
 use Rattle.usb_host.proofs.host.Host.control_out.Goals as goal
 
 pub returns-then-self-clause-tells : goal.returns-then-self-clause-tells
 returns-then-self-clause-tells g c known =
     stopped_tells (first_of (search rules, grind (arith, common_steps)))
-    (λ running. absurd (had_stopped c.self.view_is c.if-self.true running))
+    (had_stopped c.self.view_is c.if-self.true)
 
 pub returns-clause-tells : goal.returns-clause-tells
 returns-clause-tells g c known =
@@ -28,9 +29,9 @@ returns-clause-tells g c known =
         did = writes.did;
         keeps = writes.keeps;
       });
-      keeps = rw (← c.self.view_is) (transfer_kept _ _ _ _ _ c.self.invariant
+      keeps = rw (← c.self.view_is) (transfer_kept c.self.invariant
           refl refl writes.went
-          writes.keeps c.if-self.false (λ still. still));
+          writes.keeps c.if-self.false);
     }
 
 pub returns-clause-any_bus : goal.returns-clause-any_bus
@@ -52,5 +53,5 @@ returns-clause-any_bus g c = rw (← c.self.view_is) (record {
 pub returns-then-self-clause-any_bus : goal.returns-then-self-clause-any_bus
 returns-then-self-clause-any_bus g c = record {
   calls = stopped_any;
-  refuses = λ running. absurd (had_stopped c.self.view_is c.if-self.true running);
+  refuses = had_stopped c.self.view_is c.if-self.true;
 }

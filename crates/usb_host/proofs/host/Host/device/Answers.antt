@@ -1,4 +1,4 @@
-use Rattle.usb_host.proofs.arrivals.FittingNumbers.{numbers_fit}
+use Rattle.usb_host.proofs.arrivals.KeptNumbers.{numbers_fit}
 use Rattle.usb_host.proofs.host.Host.device.Goals as goal
 
 pub returns-in-Some-Device-clause-numbers : goal.returns-in-Some-Device-clause-numbers

@@ -1,7 +1,9 @@
+use Rattle.usb_host.proofs.arrivals.KeptNumbers.{keeps_by}
+use Rattle.usb_host.proofs.PartCalls.{call_none}
 use Rattle.usb_host.proofs.PortLocations.{placed}
-use Rattle.std.proofs.Common.{refl}
+use Rattle.std.proofs.Common.{refl, subst, sym, IsSome, Ok, arith, rules}
 use Rattle.usb_host.specs.{HostState, counts_of}
-use Rattle.usb_hub.proofs.Interface.{keeps_devices_none}
+use Rattle.usb_hub.proofs.Interface.{keeps_devices_none, clear_works}
 use Rattle.usb_host.proofs.OwnedPorts.{none_disabled, cleared_enable_disabled, port_failed}
 use Rattle.usb_host.proofs.devices.Causes.{told_caused, untold_caused}
 use Rattle.usb_host.proofs.knowledge.DroppedHubs.{fault_after-no_bus, told_backlog, told_dropped}
@@ -9,8 +11,6 @@ use Rattle.usb_host.proofs.knowledge.DroppedHubs.{untold_droppable, nowhere_drop
 use Rattle.usb_enum.proofs.Interface.{order_most}
 use Rattle.usb_host.proofs.StepSums.{goes_by, host_goes_none}
 use Rattle.usb_host.proofs.BusCounts.{counts_last, counts_spend}
-use Rattle.std.proofs.Common.{subst, sym, IsSome, Ok, arith, rules}
-use Rattle.usb_hub.proofs.Interface.{clear_works}
 use Rattle.usb_host.proofs.WorkingBuses.{other_works}
 use Rattle.std.proofs.lemmas.Grind.{common_steps}
 use Rattle.usb_request.specs.{PORT_ENABLE}
@@ -107,36 +107,43 @@ returns-clause-disables g c known =
       })
     ])
 
-pub returns-clause-spends : goal.returns-clause-spends
-returns-clause-spends g c =
-    rw (← c.self.view_is) (counts_spend g.B.Bus.modelled (g.B.Bus.spent c.self.inside.bus)
-    (g.B.Bus.spent c.clear_port.new.bus) (g.B.Bus.failed c.self.inside.bus)
-    (g.B.Bus.failed c.clear_port.new.bus) c.self.inside.left _ c.clear_port.ensures.uses.spends.0
-    (order_most
-    c.in-Some.port.port))
+pub returns-in_default-clause-call : goal.returns-in_default-clause-call
+returns-in_default-clause-call g c =
+    call_none
 
-pub returns-clause-ends : goal.returns-clause-ends
-returns-clause-ends g c =
+pub returns-clause-known : goal.returns-clause-known
+returns-clause-known g c =
     elim c.match-clear_port.branch [
       | in-Ok w ↦ rw w.result-is (λ done. subst IsSome (sym c.in-Some.ensures.some.known) refl)
-      | in-Err-Bus w ↦ rw w.result-is (
-        λ known. rw w.in-Err-Bus.field-0-is at (w.in-Err-Bus.ensures.fault known),
-        counts_last (g.B.Bus.spent c.clear_port.new.bus) (g.B.Bus.failed c.clear_port.new.bus)
-            c.self.inside.left
-            g.B.Bus.modelled (rw w.in-Err-Bus.field-0-is at w.in-Err-Bus.ensures.uses.told),
-      )
+      | in-Err-Bus w ↦ rw w.result-is tt
       | in-Err w ↦ rw w.result-is (λ done. absurd (cc done))
     ]
 
-pub returns-clause-works : goal.returns-clause-works
-returns-clause-works g c known =
+pub returns-clause-call : goal.returns-clause-call
+returns-clause-call g c =
     let old = g.B.Bus.world c.self.inside.bus in
     let new = g.B.Bus.world c.clear_port.new.bus in
-    rw (← c.self.view_is) (elim c.match-clear_port.branch [
-      | in-Ok w ↦ rw w.result-is (clear_works c.in-Some.port.port PORT_ENABLE (Ok tt) old new
-          (rw w.in-Ok.is at (c.clear_port.ensures.effect known)) tt)
-      | in-Err-Bus w ↦ rw w.result-is (λ sound. absurd sound)
-      | in-Err w ↦ rw w.result-is (other_works 1 w.in-Err.field-0 old new
-          (λ fault is. first_of (search rules, grind (arith, common_steps)))
-          (w.in-Err.ensures.fault known))
-    ])
+    rw (← c.self.view_is) (record {
+      spends = counts_spend g.B.Bus.modelled g.B.Bus.spent g.B.Bus.failed c.self.inside.left
+          c.self.inside.bus c.clear_port.new.bus _
+          c.clear_port.ensures.uses.spends.0 (order_most c.in-Some.port.port);
+      numbers = keeps_by refl refl refl refl;
+      told = elim c.match-clear_port.branch [
+        | in-Ok w ↦ rw w.result-is tt
+        | in-Err-Bus w ↦ rw w.result-is (
+          λ known. rw w.in-Err-Bus.field-0-is at (w.in-Err-Bus.ensures.fault known),
+          counts_last (g.B.Bus.spent c.clear_port.new.bus) (g.B.Bus.failed c.clear_port.new.bus)
+              c.self.inside.left
+              g.B.Bus.modelled (rw w.in-Err-Bus.field-0-is at w.in-Err-Bus.ensures.uses.told),
+        )
+        | in-Err w ↦ rw w.result-is tt
+      ];
+      works = λ known. elim c.match-clear_port.branch [
+        | in-Ok w ↦ rw w.result-is (clear_works c.in-Some.port.port PORT_ENABLE (Ok tt) old new
+            (rw w.in-Ok.is at (c.clear_port.ensures.effect known)) tt)
+        | in-Err-Bus w ↦ rw w.result-is (λ sound. absurd sound)
+        | in-Err w ↦ rw w.result-is (other_works 1 w.in-Err.field-0 old new
+            (λ fault is. first_of (search rules, grind (arith, common_steps)))
+            (w.in-Err.ensures.fault known))
+      ];
+    })

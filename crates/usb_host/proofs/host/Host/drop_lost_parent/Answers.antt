@@ -1,10 +1,11 @@
-use Rattle.std.proofs.Common.{◌≡◌, ◌∙◌, inl, inr, ap, refl, sym, Err}
+use Rattle.std.proofs.Common.{arith, rules, ◌≡◌, ◌∙◌, inl, inr, ap, refl, sym, Err}
+use Rattle.std.proofs.lemmas.Grind.{common_steps}
+use Rattle.usb_host.proofs.PartCalls.{call_none, call_stays}
 use Rattle.usb_port.specs.{parent_of}
 use Rattle.usb_enum.specs.{EnumFault, Bus, Memory, ParentLost}
 use Rattle.usb_host.proofs.PortDrops.{finish_done, finish_lost, no_parent}
 use Rattle.usb_host.proofs.PortServes.{finish_fails}
 use Rattle.usb_host.proofs.looks.NearEntries.{drops_above}
-use Rattle.usb_host.proofs.arrivals.KeptNumbers.{goes_none}
 use Rattle.usb_host.proofs.host.Host.drop_lost_parent.Goals as goal
 
 pub returns-in-Ok-clause-finishes : goal.returns-in-Ok-clause-finishes
@@ -76,20 +77,18 @@ returns-in-None-clause-ends g c =
     rw c.in-Err-ParentLost.is at c.in-Err-ParentLost.field-0-is in
     record { ends = rw (c.in-Err-ParentLost.is, fault) tt; near = inl (λ other away. refl) }
 
-pub returns-in-Ok-clause-goes : goal.returns-in-Ok-clause-goes
-returns-in-Ok-clause-goes g c = goes_none
+pub returns-in-Ok-clause-call : goal.returns-in-Ok-clause-call
+returns-in-Ok-clause-call g c =
+    call_none
 
-pub returns-in-Err-Bus-clause-goes : goal.returns-in-Err-Bus-clause-goes
-returns-in-Err-Bus-clause-goes g c = goes_none
+pub returns-in-Err-Bus-clause-call : goal.returns-in-Err-Bus-clause-call
+returns-in-Err-Bus-clause-call g c =
+    call_stays (first_of (search rules, grind (arith, common_steps)))
 
-pub returns-in-Err-Memory-clause-goes : goal.returns-in-Err-Memory-clause-goes
-returns-in-Err-Memory-clause-goes g c = goes_none
+pub returns-in-Err-Memory-clause-call : goal.returns-in-Err-Memory-clause-call
+returns-in-Err-Memory-clause-call g c =
+    call_stays tt
 
-pub returns-in-None-clause-goes : goal.returns-in-None-clause-goes
-returns-in-None-clause-goes g c = goes_none
-
-pub returns-in-Some-clause-goes : goal.returns-in-Some-clause-goes
-returns-in-Some-clause-goes g c = record {
-  spends = c.drop_hub.ensures.goes.spends;
-  numbers = c.drop_hub.ensures.goes.numbers;
-}
+pub returns-in-None-clause-call : goal.returns-in-None-clause-call
+returns-in-None-clause-call g c =
+    call_none

@@ -1,10 +1,11 @@
-use Rattle.std.proofs.Common.{◌≡◌, ◌∙◌, ap, refl, sym, subst, ◌++◌, ◌∷◌, [], None, IsSome, IsTrue}
+use Rattle.std.proofs.Common.{arith, ◌≡◌, ◌∙◌, ap, refl, sym, subst, ◌++◌, ◌∷◌, [], None, IsSome}
+use Rattle.std.proofs.Common.{IsTrue}
+use Rattle.usb_host.proofs.PartCalls.{call_fails, call_none, call_wider}
 use Rattle.usb_port.proofs.Interface.{parent}
 use Rattle.usb_table.specs.{known_port}
 use Rattle.usb_host.proofs.payments.HandlingPayments.{number_handled, number_stops, number_unknown}
 use Rattle.usb_host.proofs.knowledge.Hubs.{below_due}
 use Rattle.usb_host.proofs.services.Services.{pushed_part}
-use Rattle.usb_host.proofs.arrivals.KeptNumbers.{keeps_none}
 use Rattle.usb_host.proofs.host.Host.handle_below.Goals as goal
 
 pub returns-then-not-push-clause-handles : goal.returns-then-not-push-clause-handles
@@ -40,8 +41,18 @@ returns-in_err-service_port-clause-handles g c known =
     number_stops c.args.number _
     c.from_residual.ensures.0 path (c.in_err-service_port.ensures.handles known)
 
-pub returns-then-not-push-clause-numbers : goal.returns-then-not-push-clause-numbers
-returns-then-not-push-clause-numbers g c = keeps_none _
+pub returns-then-not-push-clause-call : goal.returns-then-not-push-clause-call
+returns-then-not-push-clause-call g c =
+    call_none
 
-pub returns-in_default-clause-numbers : goal.returns-in_default-clause-numbers
-returns-in_default-clause-numbers g c = keeps_none _
+pub returns-in_default-clause-call : goal.returns-in_default-clause-call
+returns-in_default-clause-call g c =
+    call_none
+
+pub returns-in_err-service_port-clause-call : goal.returns-in_err-service_port-clause-call
+returns-in_err-service_port-clause-call g c =
+    call_fails c.from_residual.ensures.1 c.in_err-service_port.ensures.call (omega arith)
+
+pub returns-clause-call : goal.returns-clause-call
+returns-clause-call g c =
+    call_wider c.in_ok-service_port.ensures.call (omega arith)

@@ -1,8 +1,8 @@
+use Rattle.usb_host.proofs.arrivals.KeptNumbers.{keeps_rests}
+use Rattle.usb_host.proofs.PartCalls.{call_finished}
 use Rattle.usb_host.proofs.PortServes.{own_finished}
 use Rattle.usb_host.proofs.PortLocations.{breaks, placed}
-use Rattle.usb_host.proofs.WorkingBuses.{finished_works}
 use Rattle.std.proofs.Common.{arith}
-use Rattle.usb_host.proofs.arrivals.KeptNumbers.{keeps_rests, keeps_then}
 use Rattle.usb_host.proofs.host.Host.handle_own.Goals as goal
 
 pub drop_lost_parent-requires-clause-broke : goal.drop_lost_parent-requires-clause-broke
@@ -16,18 +16,11 @@ returns-clause-serves g c known =
     c.drop_lost_parent.ensures.ends.ends (c.drop_lost_parent.ensures.finishes known)
     c.clear_own-cleared.ensures.rests (c.clear_own-cleared.ensures.clears known)
 
-pub returns-clause-works : goal.returns-clause-works
-returns-clause-works g c known =
-    finished_works c.clear_own-cleared.result c.drop_lost_parent.result c.args.self.now
-    c.clear_own-cleared.new.self c.drop_lost_parent.new.self c.drop_lost_parent.ensures.ends.ends
-    (c.clear_own-cleared.ensures.clears known).requested.works
-    (c.drop_lost_parent.ensures.works known)
-
-pub returns-clause-spends : goal.returns-clause-spends
-returns-clause-spends g c =
-    omega (arith, c.clear_own-cleared.ensures.spends, c.drop_lost_parent.ensures.goes.spends)
-
-pub returns-clause-numbers : goal.returns-clause-numbers
-returns-clause-numbers g c =
-    keeps_then (keeps_rests c.args.self.now c.clear_own-cleared.ensures.rests)
-    c.drop_lost_parent.ensures.goes.numbers
+pub returns-clause-call : goal.returns-clause-call
+returns-clause-call g c =
+    call_finished _ c.clear_own-cleared.result c.drop_lost_parent.ensures.call
+    c.drop_lost_parent.ensures.ends.ends
+    c.clear_own-cleared.ensures.spends
+    (keeps_rests c.args.self.now c.clear_own-cleared.ensures.rests) (λ known.
+    (c.clear_own-cleared.ensures.clears known).requested.works)
+    (omega arith)

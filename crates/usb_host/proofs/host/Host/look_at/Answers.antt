@@ -1,4 +1,4 @@
-use Rattle.std.proofs.lemmas.Result.{err_from_is_err_and}
+use Rattle.usb_host.proofs.StepSums.{handed_is}
 use Rattle.usb_host.proofs.looks.LookCalls.{made_known, made_stops, made_unknown}
 use Rattle.usb_host.proofs.host.Host.look_at.Goals as goal
 
@@ -7,12 +7,12 @@ returns-in_default-clause-made g c known = made_unknown (c.in_default.ensures.no
 
 pub returns-in_err-look_over-clause-made : goal.returns-in_err-look_over-clause-made
 returns-in_err-look_over-clause-made g c known =
-    let told = err_from_is_err_and c.from_residual.result c.from_residual.ensures.1 in
-    rw (told.1, told.2, ← c.begin_afresh.ensures) (made_stops c.in_err-look_over.field-0.0
-    (rw known at c.in_err-look_over.ensures.told) (c.in_err-look_over.ensures.works known)
+    rw (handed_is c.from_residual.ensures.1, ← c.begin_afresh.ensures) (made_stops
+    c.in_err-look_over.field-0.0
+    (rw known at c.in_err-look_over.ensures.call.told) (c.in_err-look_over.ensures.call.works known)
     (c.in_err-look_over.ensures.looks known))
 
 pub returns-clause-made : goal.returns-clause-made
 returns-clause-made g c known =
     rw (← c.begin_afresh.ensures) (made_known (c.in_ok-look_over.ensures.looks known)
-    c.listed.result (c.in_ok-look_over.ensures.works known) (c.listed.ensures.modelled known))
+    c.listed.result (c.in_ok-look_over.ensures.call.works known) (c.listed.ensures.modelled known))

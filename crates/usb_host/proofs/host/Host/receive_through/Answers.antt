@@ -2,7 +2,8 @@ use Rattle.std.proofs.Common.{arith, refl, rules}
 use Rattle.std.proofs.lemmas.Grind.{common_steps}
 use Rattle.usb_table.specs.{asked_through, receives_miss, pipes_at, receives_through, unless_broken}
 use Rattle.usb_host.proofs.knowledge.Soundness.{transfer_kept}
-use Rattle.usb_host.proofs.TransferCalls.{had_stopped, over, stopped_any, stopped_tells, transfers_any}
+use Rattle.usb_host.proofs.TransferCalls.{had_stopped, over, stopped_any, stopped_tells}
+use Rattle.usb_host.proofs.TransferCalls.{transfers_any}
 use Rattle.usb_host.proofs.Refusals.{moves_or_refuses}
 use Rattle.usb_host.proofs.WorkingBuses.{received_works}
 use Rattle.usb_host.proofs.arrivals.KeptNumbers.{keeps_by}
@@ -11,7 +12,7 @@ use Rattle.usb_host.proofs.host.Host.receive_through.Goals as goal
 pub returns-then-self-clause-tells : goal.returns-then-self-clause-tells
 returns-then-self-clause-tells g c known =
     stopped_tells (first_of (search rules, grind (arith, common_steps)))
-    (λ running. absurd (had_stopped c.self.view_is c.if-self.true running))
+    (had_stopped c.self.view_is c.if-self.true)
 
 pub returns-clause-tells : goal.returns-clause-tells
 returns-clause-tells g c known =
@@ -25,9 +26,9 @@ returns-clause-tells g c known =
           c.as_host_fault-received.ensures
           receives.did);
       did = first_of (search rules, grind (arith, common_steps));
-      keeps = rw (← c.self.view_is) (transfer_kept _ _ _ _ _ c.self.invariant
+      keeps = rw (← c.self.view_is) (transfer_kept c.self.invariant
           c.receive.ensures.through.entries refl receives.went
-          receives.keeps c.if-self.false (λ still. still));
+          receives.keeps c.if-self.false);
     }
 
 pub returns-clause-any_bus : goal.returns-clause-any_bus
@@ -50,5 +51,5 @@ returns-clause-any_bus g c = rw (← c.self.view_is) (record {
 pub returns-then-self-clause-any_bus : goal.returns-then-self-clause-any_bus
 returns-then-self-clause-any_bus g c = record {
   calls = stopped_any;
-  refuses = λ running. absurd (had_stopped c.self.view_is c.if-self.true running);
+  refuses = had_stopped c.self.view_is c.if-self.true;
 }

@@ -1,5 +1,5 @@
-use Rattle.std.proofs.Common.{arith, rules, ◌≡◌, ap, refl, sym, subst, ◌∙◌, IfOk, OnErr, Bool}
-use Rattle.std.proofs.Common.{None, true, false}
+use Rattle.std.proofs.Common.{arith, rules, ◌≡◌, ap, refl, sym, subst, ◌∙◌, IfOk, OnErr, Bool, None}
+use Rattle.std.proofs.Common.{true, false}
 use Rattle.std.proofs.lemmas.Grind.{common_steps}
 use Rattle.usb_host.specs.{round_bound, HostInvariant, HostState, RoundsSound, PaysRound, HostSteps}
 use Rattle.usb_host.specs.{DidParts, HostWorks, KeepsNumbers, QuietKeeps, StopsIn}
@@ -61,10 +61,11 @@ returns-clause-tells g c known =
           x.keeps.part.goes.went;
       told = first_of (search rules, grind (arith, common_steps));
       works = subst (λ (h : HostState). HostWorks a result h) (sym c.self-2.view_is)
-          (c.run_round-round.ensures.works known);
+          (c.run_round-round.ensures.call.part.works known);
       did = subst (λ (h : HostState). IfOk result
           (λ round. DidParts round a (record h { stopped = stopped }))) (sym c.self-2.view_is)
-          (parts_done result a b stopped going value x (c.run_round-round.ensures.works known));
+          (parts_done result a b stopped going value x (c.run_round-round.ensures.call.part.works
+          known));
       fails = subst (λ (h : HostState). OnErr result (a.stopped ≡ false → HostInvariant a
           → a.world.fault ≡ None → StopsIn a (record h { stopped = stopped })))
           (sym c.self-2.view_is) (parts_stopped result a b stopped value x);
@@ -89,17 +90,17 @@ returns-clause-any_bus g c =
     let stopped = c.is_err-self-inside.result in
     record {
       calls = record {
-        spends = rw same c.run_round-round.ensures.goes.spends;
+        spends = rw same c.run_round-round.ensures.call.part.spends;
         told = λ off. rw same (part_reported g.B.Bus.modelled c.run_round-round.result
-            c.run_round-round.new.self c.run_round-round.ensures.told off);
+            c.run_round-round.new.self c.run_round-round.ensures.call.part.told off);
         numbers = subst (λ (h : HostState). KeepsNumbers c.args.self.now (record h {
           stopped = stopped;
-        })) (sym c.self-2.view_is) c.run_round-round.ensures.goes.numbers;
+        })) (sym c.self-2.view_is) c.run_round-round.ensures.call.part.numbers;
       };
       quiet = subst (λ (h : HostState). QuietKeeps c.run_round-round.result c.args.self.now
           (record h { stopped = stopped })) (sym c.self-2.view_is)
           (quiet_stopped c.run_round-round.result c.args.self.now c.run_round-round.new.self stopped
-          c.run_round-round.ensures.quiet);
+          c.run_round-round.ensures.call.quiet);
     }
 
 pub returns-then-self-clause-any_bus : goal.returns-then-self-clause-any_bus

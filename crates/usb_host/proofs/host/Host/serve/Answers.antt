@@ -1,9 +1,10 @@
-use Rattle.std.proofs.Common.{◌∙◌, sym}
-use Rattle.std.proofs.lemmas.Result.{err_from_is_err_and}
+use Rattle.std.proofs.Common.{◌*◌, arith, ◌∙◌, sym}
+use Rattle.usb_pipe.specs.{write_bound}
+use Rattle.usb_host.proofs.PortParts.{port_after, port_rests}
+use Rattle.usb_host.proofs.StepSums.{handed_is}
 use Rattle.usb_enum.specs.{read_bound}
 use Rattle.usb_host.proofs.PortServes.{serve_failed, serve_fails, serve_looked, serve_settled}
 use Rattle.usb_host.proofs.PortLocations.{placed, placed_on}
-use Rattle.usb_host.proofs.arrivals.KeptNumbers.{keeps_rests, keeps_then}
 use Rattle.usb_host.proofs.host.Host.serve.Goals as goal
 
 pub enumerate_again-requires : goal.enumerate_again-requires
@@ -20,8 +21,7 @@ look_after_error-requires g c =
 
 pub returns-in_err-status-clause-serves : goal.returns-in_err-status-clause-serves
 returns-in_err-status-clause-serves g c known =
-    let told = err_from_is_err_and c.from_residual.result c.from_residual.ensures.1 in
-    rw (told.1, told.2) (serve_fails c.args.port (placed known c.requires)
+    rw (handed_is c.from_residual.ensures.1) (serve_fails c.args.port (placed known c.requires)
     c.in_err-status.ensures.rests (c.in_err-status.ensures.shows known))
 
 pub returns-then-status-clause-serves : goal.returns-then-status-clause-serves
@@ -35,7 +35,7 @@ returns-then-has_failed-clause-serves g c known =
     (c.in_ok-status.ensures.shows known) c.if-status.false
     (sym c.has_failed.ensures ∙ c.if-has_failed.true)
     (c.look_after_error.ensures.looks known)
-    c.look_after_error.ensures.hubs
+    c.look_after_error.ensures.call.hubs
 
 pub returns-else-has_failed-clause-serves : goal.returns-else-has_failed-clause-serves
 returns-else-has_failed-clause-serves g c known =
@@ -44,20 +44,23 @@ returns-else-has_failed-clause-serves g c known =
     c.settle.ensures.rests (c.settle.ensures.settles known)
     (sym c.has_failed.ensures ∙ c.if-has_failed.false)
 
-pub returns-in_err-status-clause-numbers : goal.returns-in_err-status-clause-numbers
-returns-in_err-status-clause-numbers g c = keeps_rests c.args.self.now c.in_err-status.ensures.rests
+pub returns-in_err-status-clause-call : goal.returns-in_err-status-clause-call
+returns-in_err-status-clause-call g c =
+    port_rests c.status.ensures.spends (rw (handed_is c.from_residual.ensures.1)
+    c.in_err-status.ensures.told) c.in_err-status.ensures.rests (omega arith)
 
-pub returns-then-status-clause-numbers : goal.returns-then-status-clause-numbers
-returns-then-status-clause-numbers g c =
-    keeps_then (keeps_rests c.args.self.now c.in_ok-status.ensures.rests)
-    c.enumerate_again.ensures.numbers
+pub returns-then-status-clause-call : goal.returns-then-status-clause-call
+returns-then-status-clause-call g c =
+    port_after _ c.enumerate_again.ensures.call
+    c.status.ensures.spends c.in_ok-status.ensures.rests (omega arith)
 
-pub returns-then-has_failed-clause-numbers : goal.returns-then-has_failed-clause-numbers
-returns-then-has_failed-clause-numbers g c =
-    keeps_then (keeps_rests c.args.self.now c.in_ok-status.ensures.rests)
-    c.look_after_error.ensures.numbers
+pub returns-then-has_failed-clause-call : goal.returns-then-has_failed-clause-call
+returns-then-has_failed-clause-call g c =
+    port_after _ c.look_after_error.ensures.call
+    c.status.ensures.spends c.in_ok-status.ensures.rests (omega arith)
 
-pub returns-else-has_failed-clause-numbers : goal.returns-else-has_failed-clause-numbers
-returns-else-has_failed-clause-numbers g c =
-    keeps_then (keeps_rests c.args.self.now c.in_ok-status.ensures.rests) (keeps_rests
-    c.status.new.self c.settle.ensures.rests)
+pub returns-else-has_failed-clause-call : goal.returns-else-has_failed-clause-call
+returns-else-has_failed-clause-call g c =
+    port_after _ (port_rests {k = 4 * write_bound}
+    c.settle.ensures.spends c.settle.ensures.told c.settle.ensures.rests (omega arith))
+    c.status.ensures.spends c.in_ok-status.ensures.rests (omega arith)

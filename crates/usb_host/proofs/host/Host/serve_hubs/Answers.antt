@@ -1,23 +1,19 @@
+use Rattle.usb_host.specs.{hub_poll_bound}
+use Rattle.usb_host.proofs.PartCalls.{call_then, round_fails, round_none, round_then, round_wider}
 use Rattle.std.proofs.Common.{arith, refl}
 use Rattle.usb_host.proofs.rests.IdleRounds.{none_next}
-use Rattle.usb_host.proofs.entries.Ranks.{rank_most, rank_rises}
+use Rattle.usb_host.proofs.entries.Ranks.{rank_after, rank_after_most, rank_more, rank_most}
+use Rattle.usb_host.proofs.entries.Ranks.{rank_rises, rank_within}
 use Rattle.usb_host.proofs.rests.RestingRounds.{next_listed}
 use Rattle.usb_host.proofs.RoundLoops.{hubs_begin, hubs_cut, hubs_all_handled, hubs_handled}
-use Rattle.usb_host.proofs.StepSums.{either_quiet}
-use Rattle.std.proofs.Common.{◌∙◌, sym}
-use Rattle.usb_host.proofs.LeftRoots.{quiet_none, quiet_then}
-use Rattle.usb_host.proofs.arrivals.KeptNumbers.{keeps_none, keeps_then}
 use Rattle.usb_host.proofs.host.Host.serve_hubs.Goals as goal
 
 pub hubs-init : goal.hubs-init
 hubs-init g c = record {
-  quiet = λ is. quiet_none _;
-  spends = omega arith;
-  numbers = keeps_none _;
+  call = round_none;
   so = λ known. hubs_begin _;
   idle = λ none. (refl, refl);
   path = tt;
-  works = λ known none. none;
 }
 
 pub serve_hub-requires : goal.serve_hub-requires
@@ -34,32 +30,21 @@ pub hubs-preserved : goal.hubs-preserved
 hubs-preserved g c =
     let i = c.hubs.invariant in
     let next = c.in-Some.ensures.some in
-    let rises = rank_rises c.hubs.last c.in-Some.hub i.path c.numbers-numbers.ensures.path
-    c.in-Some.ensures.some.stands.after in
+    let is = c.numbers-numbers.ensures.path in
     record {
-      quiet = λ is.
-          let both = either_quiet _ _ (sym c.and-round.ensures ∙ is) in
-          quiet_then (i.quiet both.0) (c.in_ok-serve_hub.ensures.quiet both.1);
-      spends = omega (
-        arith,
-        i.spends,
-        rises,
-        rank_most c.in-Some.hub c.numbers-numbers.ensures.path,
-        c.serve_hub.ensures.goes.spends,
-      );
-      numbers = keeps_then i.numbers c.serve_hub.ensures.goes.numbers;
-      so = λ known. rw c.and-round.ensures (hubs_handled (i.so known) i.path
-          c.numbers-numbers.ensures.path next (c.in_ok-serve_hub.ensures.polls known));
+      call = rw c.and-round.ensures (round_then i.call c.in_ok-serve_hub.ensures.call
+          (rank_more hub_poll_bound c.hubs.last c.in-Some.hub i.path is next.stands.after));
+      so = λ known. rw c.and-round.ensures (hubs_handled (i.so known) i.path is next
+          (c.in_ok-serve_hub.ensures.polls known));
       idle = λ none. absurd (none_next (i.idle none).1 none next);
-      path = c.numbers-numbers.ensures.path;
-      works = λ known none. c.in_ok-serve_hub.ensures.works known (i.works known none);
+      path = is;
     }
 
 pub returns-in_err-serve_hub-clause-hubs : goal.returns-in_err-serve_hub-clause-hubs
 returns-in_err-serve_hub-clause-hubs g c known =
     let i = c.hubs.invariant in
     hubs_cut (i.so known) i.path c.numbers-numbers.ensures.path c.in-Some.ensures.some
-    (i.works known)
+    (i.call.part.works known)
     c.from_residual.ensures.0 (c.in_err-serve_hub.ensures.polls known) (λ none. (i.idle none).1)
 
 pub returns-clause-hubs : goal.returns-clause-hubs
@@ -68,27 +53,20 @@ returns-clause-hubs g c known =
     hubs_all_handled c.hubs.last c.hubs.round (i.so known) i.path
     c.in_default.ensures.none c.in_default.ensures.agree i.idle
 
-pub returns-in_err-serve_hub-clause-goes : goal.returns-in_err-serve_hub-clause-goes
-returns-in_err-serve_hub-clause-goes g c = record {
-  spends = let rises = rank_rises c.hubs.last c.in-Some.hub c.hubs.invariant.path
-      c.numbers-numbers.ensures.path
-      c.in-Some.ensures.some.stands.after in
-      omega (
-        arith,
-        c.hubs.invariant.spends,
-        rises,
-        rank_most c.in-Some.hub c.numbers-numbers.ensures.path,
-        c.serve_hub.ensures.goes.spends,
-      );
-  numbers = keeps_then c.hubs.invariant.numbers c.serve_hub.ensures.goes.numbers;
-}
+pub returns-in_err-serve_hub-clause-call : goal.returns-in_err-serve_hub-clause-call
+returns-in_err-serve_hub-clause-call g c =
+    let i = c.hubs.invariant in
+    let is = c.numbers-numbers.ensures.path in
+    round_fails c.from_residual.ensures.1 (call_then i.call.part
+    c.in_err-serve_hub.ensures.call.part)
+    (omega (
+      arith,
+      rank_rises c.hubs.last c.in-Some.hub i.path is c.in-Some.ensures.some.stands.after,
+      rank_most c.in-Some.hub is,
+    ))
 
-pub returns-clause-goes : goal.returns-clause-goes
-returns-clause-goes g c = record {
-  spends = omega (arith, c.hubs.invariant.spends);
-  numbers = c.hubs.invariant.numbers;
-}
-
-pub returns-clause-quiet : goal.returns-clause-quiet
-returns-clause-quiet g c is =
-    c.hubs.invariant.quiet is
+pub returns-clause-call : goal.returns-clause-call
+returns-clause-call g c =
+    let i = c.hubs.invariant in
+    round_wider i.call
+    (rank_within hub_poll_bound (rank_after c.hubs.last) (rank_after_most c.hubs.last i.path))

@@ -1,3 +1,4 @@
+use Rattle.usb_host.proofs.PartCalls.{call_none}
 use Rattle.std.proofs.Common.{◌≡◌, ◌∙◌, ◌++◌, ◌∷◌, [], None, IsSome, IsTrue, ap, arith, refl, subst}
 use Rattle.std.proofs.Common.{sym}
 use Rattle.usb_port.proofs.Interface.{parent}
@@ -7,7 +8,6 @@ use Rattle.usb_host.proofs.StepSums.{host_goes_none}
 use Rattle.usb_host.proofs.devices.Owners.{stays_owned_none}
 use Rattle.usb_host.proofs.PortServes.{own_at}
 use Rattle.usb_host.proofs.services.Services.{pushed_part}
-use Rattle.usb_host.proofs.arrivals.KeptNumbers.{keeps_none}
 use Rattle.usb_host.proofs.host.Host.serve_own.Goals as goal
 
 pub returns-then-not-push-clause-serves : goal.returns-then-not-push-clause-serves
@@ -42,8 +42,10 @@ returns-clause-serves g c known =
     c.duplicate-path.ensures in
     own_at c.args.hub.now (rw path at (c.handle_own.ensures.serves known))
 
-pub returns-then-not-push-clause-numbers : goal.returns-then-not-push-clause-numbers
-returns-then-not-push-clause-numbers g c = keeps_none _
+pub returns-then-not-push-clause-call : goal.returns-then-not-push-clause-call
+returns-then-not-push-clause-call g c =
+    call_none
 
-pub returns-in_default-clause-numbers : goal.returns-in_default-clause-numbers
-returns-in_default-clause-numbers g c = keeps_none _
+pub returns-in_default-clause-call : goal.returns-in_default-clause-call
+returns-in_default-clause-call g c =
+    call_none

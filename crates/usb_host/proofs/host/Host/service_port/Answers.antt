@@ -1,8 +1,7 @@
+use Rattle.usb_host.proofs.PartCalls.{call_finished}
 use Rattle.usb_host.proofs.PortServes.{handle_finished}
 use Rattle.usb_host.proofs.PortLocations.{breaks, placed}
-use Rattle.usb_host.proofs.WorkingBuses.{finished_works}
 use Rattle.std.proofs.Common.{arith}
-use Rattle.usb_host.proofs.arrivals.KeptNumbers.{keeps_then}
 use Rattle.usb_host.proofs.host.Host.service_port.Goals as goal
 
 pub drop_lost_parent-requires-clause-broke : goal.drop_lost_parent-requires-clause-broke
@@ -16,16 +15,11 @@ returns-clause-handles g c known =
     c.drop_lost_parent.ensures.ends.ends (c.drop_lost_parent.ensures.finishes known)
     (c.serve-served.ensures.serves known)
 
-pub returns-clause-works : goal.returns-clause-works
-returns-clause-works g c known =
-    finished_works c.serve-served.result c.drop_lost_parent.result c.args.self.now
-    c.serve-served.new.self c.drop_lost_parent.new.self c.drop_lost_parent.ensures.ends.ends
-    (c.serve-served.ensures.serves known).requested.works (c.drop_lost_parent.ensures.works known)
-
-pub returns-clause-spends : goal.returns-clause-spends
-returns-clause-spends g c =
-    omega (arith, c.serve-served.ensures.spends, c.drop_lost_parent.ensures.goes.spends)
-
-pub returns-clause-numbers : goal.returns-clause-numbers
-returns-clause-numbers g c =
-    keeps_then c.serve-served.ensures.numbers c.drop_lost_parent.ensures.goes.numbers
+pub returns-clause-call : goal.returns-clause-call
+returns-clause-call g c =
+    call_finished _ c.serve-served.result c.drop_lost_parent.ensures.call
+    c.drop_lost_parent.ensures.ends.ends
+    c.serve-served.ensures.call.spends
+    c.serve-served.ensures.call.numbers (λ known. (c.serve-served.ensures.serves
+    known).requested.works)
+    (omega arith)

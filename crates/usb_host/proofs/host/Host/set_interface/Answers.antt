@@ -2,7 +2,8 @@ use Rattle.std.proofs.Common.{arith, refl, rules}
 use Rattle.std.proofs.lemmas.Grind.{common_steps}
 use Rattle.usb_table.specs.{interface_target}
 use Rattle.usb_host.proofs.knowledge.Soundness.{transfer_under}
-use Rattle.usb_host.proofs.TransferCalls.{had_stopped, over, stopped_any, stopped_tells, transfers_any}
+use Rattle.usb_host.proofs.TransferCalls.{had_stopped, over, stopped_any, stopped_tells}
+use Rattle.usb_host.proofs.TransferCalls.{transfers_any}
 use Rattle.usb_host.proofs.Refusals.{sets_or_refuses}
 use Rattle.usb_host.proofs.WorkingBuses.{set_works}
 use Rattle.usb_host.proofs.arrivals.KeptNumbers.{keeps_by}
@@ -11,7 +12,7 @@ use Rattle.usb_host.proofs.host.Host.set_interface.Goals as goal
 pub returns-then-self-clause-tells : goal.returns-then-self-clause-tells
 returns-then-self-clause-tells g c known =
     stopped_tells (first_of (search rules, grind (arith, common_steps)))
-    (λ running. absurd (had_stopped c.self.view_is c.if-self.true running))
+    (had_stopped c.self.view_is c.if-self.true)
 
 pub returns-clause-tells : goal.returns-clause-tells
 returns-clause-tells g c known =
@@ -29,9 +30,13 @@ returns-clause-tells g c known =
         did = sets.did;
         keeps = sets.keeps;
       });
-      keeps = rw (← c.self.view_is) (transfer_under _ _ _ _ _ c.self.invariant
-          c.set_interface.ensures.through.entries refl sets.went
-          sets.keeps c.if-self.false (λ still. still));
+      keeps = rw (← c.self.view_is) (transfer_under (record {
+        agrees = c.self.invariant;
+        same = c.set_interface.ensures.through.entries;
+        width = refl;
+        went = sets.went;
+        levels = sets.keeps;
+      }) c.if-self.false);
     }
 
 pub returns-clause-any_bus : goal.returns-clause-any_bus
@@ -54,5 +59,5 @@ returns-clause-any_bus g c = rw (← c.self.view_is) (record {
 pub returns-then-self-clause-any_bus : goal.returns-then-self-clause-any_bus
 returns-then-self-clause-any_bus g c = record {
   calls = stopped_any;
-  refuses = λ running. absurd (had_stopped c.self.view_is c.if-self.true running);
+  refuses = had_stopped c.self.view_is c.if-self.true;
 }

@@ -1,12 +1,12 @@
-use Rattle.std.proofs.lemmas.Result.{err_from_is_err_and}
+use Rattle.usb_host.proofs.StepSums.{handed_is}
 use Rattle.usb_host.proofs.PortRequests.{port_settled, settled_fails}
 use Rattle.usb_host.proofs.host.Host.settle.Goals as goal
 
 pub returns-in_err-clear_other_changes-clause-settles :
     goal.returns-in_err-clear_other_changes-clause-settles
 returns-in_err-clear_other_changes-clause-settles g c known =
-    let told = err_from_is_err_and c.from_residual.result c.from_residual.ensures.1 in
-    rw (told.1, told.2) (settled_fails (c.in_err-clear_other_changes.ensures.tidies known))
+    rw (handed_is c.from_residual.ensures.1) (settled_fails
+    (c.in_err-clear_other_changes.ensures.tidies known))
 
 pub returns-clause-settles : goal.returns-clause-settles
 returns-clause-settles g c known =

@@ -3,10 +3,8 @@ use Rattle.usb_request.specs.{PORT_POWER}
 use Rattle.usb_world.specs.{World, roots_of}
 use Rattle.usb_bus.specs.{still, Traced}
 use Rattle.usb_bus.proofs.Interface.{traced_cleared, traced_set}
-use Rattle.usb_host.proofs.parts.Powers.{powered_none, powers_one, powered_all}
-use Rattle.usb_host.proofs.parts.Powers.{powered_world}
-use Rattle.usb_host.proofs.entries.Agreements.{nested_none}
-use Rattle.usb_host.proofs.entries.RisingEntries.{rises_none}
+use Rattle.usb_host.proofs.parts.Powers.{powered_none, powers_one, powered_all, powered_world}
+use Rattle.usb_host.proofs.entries.Agreements.{nested_none, rises_none}
 use Rattle.usb_host.proofs.entries.FoundEntries.{found_none}
 use Rattle.usb_host.proofs.entries.Balances.{accounts_none, range_none}
 use Rattle.usb_host.proofs.BusCounts.{counts_known}

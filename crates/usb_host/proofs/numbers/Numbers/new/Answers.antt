@@ -1,6 +1,6 @@
 use Rattle.std.proofs.Common.{arith, ◌∙◌, refl}
 use Rattle.std.proofs.Math.ListN.{length-set}
-use Rattle.usb_host.proofs.arrivals.GivenNumbers.{are_indexes, index_written, indexes_are}
+use Rattle.usb_host.proofs.arrivals.KeptNumbers.{are_indexes, index_written, indexes_are}
 use Rattle.usb_host.proofs.numbers.Numbers.new.Goals as goal
 
 pub addresses-init : goal.addresses-init

@@ -1,7 +1,8 @@
 use Rattle.std.proofs.Common.{refl, sym, subst, Ok}
-use Rattle.usb_run.specs.{Next}
+use Rattle.usb_run.specs.{Memory, Next, behind}
 use Rattle.usb_run.proofs.items.ReportedItems.{ReportSoFar, report_begun, report_over}
-use Rattle.usb_run.proofs.items.ReportedItems.{report_refused, report_stopped, report_told}
+use Rattle.usb_run.proofs.items.ReportedItems.{report_stopped, report_told}
+use Rattle.usb_run.proofs.items.Transcripts.{appends_no_text, stopped_next, told_next}
 use Rattle.usb_run.proofs.runs.Runner.finish.Goals as goal
 
 pub items-init : goal.items-init
@@ -14,10 +15,9 @@ pub returns-in_err-item : goal.returns-in_err-item
 returns-in_err-item g c = record {
   finishes = λ knows.
       let so_far = c.items.invariant knows in
-      report_stopped so_far c.next_item.new.self.over c.next_item.new.self.host
-      c.in_err-item.field-0.0 c.from_residual.result c.in_err-item.field-0.0 refl
-      c.from_residual.ensures.1 (c.in_err-item.ensures.next so_far.knows)
-      c.in_err-item.ensures.caused;
+      report_stopped c.from_residual.result c.in_err-item.field-0.0 c.from_residual.ensures.1
+      (stopped_next c.next_item.new.self.over c.in_err-item.field-0.0 refl so_far.so_far
+      (c.in_err-item.ensures.next so_far.knows)) c.in_err-item.ensures.caused;
 }
 
 pub items-preserved : goal.items-preserved
@@ -37,8 +37,9 @@ returns-in_err-push g c = record {
       let k = c.next_item.new.self.host in
       let next = subst (λ x. Next c.items.self.over c.items.self.host (Ok x) on k) c.in-Some.is
       (c.in_ok-item.ensures.next so_far.knows) in
-      report_refused so_far c.in-Some.item on k c.from_residual-in_err-push.result
-      c.from_residual-in_err-push.ensures.1 next;
+      report_stopped c.from_residual-in_err-push.result Memory
+      c.from_residual-in_err-push.ensures.1
+      (behind (λ cut. cut) (told_next so_far.so_far next (appends_no_text k))) tt;
 }
 
 pub returns : goal.returns

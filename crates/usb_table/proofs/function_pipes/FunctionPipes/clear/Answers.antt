@@ -1,26 +1,25 @@
 use Rattle.std.proofs.Common.{◌∙◌, sym}
-use Rattle.usb_bus.specs.{still}
 use Rattle.usb_table.specs.{ClearedOfThrough, pipe_to, clears_miss}
-use Rattle.usb_table.proofs.FunctionCalls.{call_made, call_through}
+use Rattle.usb_table.proofs.FunctionCalls.{PutBack, call_made, call_through}
 use Rattle.usb_table.proofs.levels.StandingPipes.{to_picks}
 use Rattle.usb_table.proofs.function_pipes.FunctionPipes.clear.Goals as goal
 
-pub returns-in_default-clause-traced : goal.returns-in_default-clause-traced
-returns-in_default-clause-traced g c known = still
+put_back : (g : _) (c : goal.After-table_answer g) → PutBack (pipe_to c.args.endpoint)
+    c.args.self.now c.put.new.self c.in-Some.pipe c.clear-cleared.new.self
+put_back g c = record {
+  picks = to_picks c.args.endpoint;
+  placed = c.requires;
+  picked = sym c.pipe_to.ensures ∙ c.in-Some.is;
+  put = c.put.ensures;
+  same = c.clear-cleared.ensures.same;
+}
 
 pub returns-clause-made : goal.returns-clause-made
-returns-clause-made g c =
-    call_made
-    (pipe_to c.args.endpoint) (to_picks c.args.endpoint) c.args.self.now c.put.new.self c.requires
-    c.in-Some.pipe c.clear-cleared.new.self (sym c.pipe_to.ensures ∙ c.in-Some.is) c.put.ensures
-    c.clear-cleared.ensures.same
+returns-clause-made g c = call_made (put_back g c)
 
 pub returns-clause-cleared : goal.returns-clause-cleared
 returns-clause-cleared g c known =
-    call_through
-    (pipe_to c.args.endpoint) (to_picks c.args.endpoint) c.args.self.now c.put.new.self c.requires
-    c.in-Some.pipe c.clear-cleared.new.self (sym c.pipe_to.ensures ∙ c.in-Some.is) c.put.ensures
-    c.clear-cleared.ensures.same (clears_miss c.args.endpoint) ClearedOfThrough _
+    call_through (put_back g c) (clears_miss c.args.endpoint) ClearedOfThrough _
     c.table_answer.result _ (record {
       answer = c.clear-cleared.result;
       told = c.table_answer.ensures;

@@ -1,18 +1,22 @@
-use Rattle.std.proofs.Common.{◌∙◌, sym, arith}
-use Rattle.usb_bus.proofs.Interface.{went_none, went_wider}
+use Rattle.std.proofs.Common.{◌∙◌, sym}
 use Rattle.usb_table.specs.{first_pipe}
+use Rattle.usb_table.proofs.IdleCalls.{idle_steps}
 use Rattle.usb_table.proofs.FunctionCalls.{call_first, call_made}
 use Rattle.usb_table.proofs.levels.StandingPipes.{first_picks}
 use Rattle.usb_table.proofs.function_pipes.FunctionPipes.clear_first.Goals as goal
 
 pub returns-in_default-clause-steps : goal.returns-in_default-clause-steps
-returns-in_default-clause-steps g c known = went_wider 0 1600 went_none (omega arith)
+returns-in_default-clause-steps g c known = idle_steps 1600 _ _
 
 pub returns-clause-made : goal.returns-clause-made
 returns-clause-made g c =
-    call_made (first_pipe c.args.is_in) (first_picks c.args.is_in) c.args.self.now c.put.new.self
-    c.requires c.in-Some.pipe c.clear_halt-cleared.new.self
-    (sym c.first_pipe.ensures ∙ c.in-Some.is) c.put.ensures c.clear_halt-cleared.ensures.same
+    call_made (record {
+      picks = first_picks c.args.is_in;
+      placed = c.requires;
+      picked = sym c.first_pipe.ensures ∙ c.in-Some.is;
+      put = c.put.ensures;
+      same = c.clear_halt-cleared.ensures.same;
+    })
 
 pub returns-clause-cleared : goal.returns-clause-cleared
 returns-clause-cleared g c known =

@@ -1,7 +1,8 @@
 use Rattle.std.proofs.Common.{◌≡◌, ◌∙◌, sym, refl, arith, Err, None, Ok, true}
-use Rattle.usb_bus.proofs.Interface.{went_none, went_then, went_wider}
-use Rattle.usb_table.specs.{clear_miss, first_unclear}
-use Rattle.usb_table.proofs.FunctionCalls.{both_cleared, first_failed, in_turn_of, second_missed}
+use Rattle.usb_bus.proofs.Interface.{went_then, went_wider}
+use Rattle.usb_table.specs.{first_unclear}
+use Rattle.usb_table.proofs.IdleCalls.{idle_steps}
+use Rattle.usb_table.proofs.FunctionCalls.{both_cleared, first_failed, second_missed}
 use Rattle.usb_table.proofs.levels.StandingPipes.{placed_made}
 use Rattle.usb_table.proofs.transfers.ControlReads.{told_error}
 use Rattle.usb_table.proofs.function_pipes.FunctionPipes.clear_halt.Goals as goal
@@ -11,17 +12,18 @@ clear_first-requires-2 g c = placed_made c.args.self.now c.clear_first.new.self
     c.clear_first.ensures.made c.requires
 
 pub returns-in-Some-clause-steps : goal.returns-in-Some-clause-steps
-returns-in-Some-clause-steps g c known = went_wider 0 3200 went_none (omega arith)
+returns-in-Some-clause-steps g c known = idle_steps 3200 _ _
 
 pub returns-in_err-clear_first-clause-cleared : goal.returns-in_err-clear_first-clause-cleared
 returns-in_err-clear_first-clause-cleared g c known =
-    let none : clear_miss c.args.self.now ≡ None = sym c.clear_miss.ensures ∙ c.in_default.is in
-    in_turn_of c.args.self.now _ c.from_residual.result c.clear_first.new.self _ none
-    (rw (told_error c.in_err-clear_first.field-0.0 c.from_residual.result
-    c.from_residual.ensures.0 c.from_residual.ensures.1)
+    rw (
+      sym c.clear_miss.ensures ∙ c.in_default.is,
+      told_error c.in_err-clear_first.field-0.0 c.from_residual.result
+          c.from_residual.ensures.0 c.from_residual.ensures.1,
+    )
     (first_failed c.args.self.now c.clear_first.new.self c.requires _
     (Err c.in_err-clear_first.field-0.0) _ (c.in_err-clear_first.ensures.cleared known)
-    c.in_err-clear_first.field-0.0 refl))
+    c.in_err-clear_first.field-0.0 refl)
 
 pub returns-in-Some-first_unclear-clause-steps : goal.returns-in-Some-first_unclear-clause-steps
 returns-in-Some-first_unclear-clause-steps g c known =
@@ -29,8 +31,7 @@ returns-in-Some-first_unclear-clause-steps g c known =
 
 pub returns-in-Some-first_unclear-clause-cleared : goal.returns-in-Some-first_unclear-clause-cleared
 returns-in-Some-first_unclear-clause-cleared g c known =
-    let none : clear_miss c.args.self.now ≡ None = sym c.clear_miss.ensures ∙ c.in_default.is in
-    in_turn_of c.args.self.now _ _ c.clear_first.new.self _ none
+    rw (sym c.clear_miss.ensures ∙ c.in_default.is)
     (second_missed c.args.self.now c.clear_first.new.self c.requires _
     (Ok c.in_ok-clear_first.field-0) _ (c.in_ok-clear_first.ensures.cleared known)
     c.in_ok-clear_first.field-0 refl c.in-Some-first_unclear.why
@@ -42,10 +43,9 @@ returns-clause-steps g c known = went_then 1600 1600 (c.clear_first.ensures.step
 
 pub returns-clause-cleared : goal.returns-clause-cleared
 returns-clause-cleared g c known =
-    let none : clear_miss c.args.self.now ≡ None = sym c.clear_miss.ensures ∙ c.in_default.is in
     let clear : first_unclear true c.clear_first.new.self ≡ None =
     sym c.first_unclear.ensures ∙ c.in_default-first_unclear.is in
-    in_turn_of c.args.self.now _ c.table_answer.result c.clear_first-2.new.self _ none
+    rw (sym c.clear_miss.ensures ∙ c.in_default.is)
     (both_cleared c.args.self.now c.clear_first.new.self c.requires _
     (Ok c.in_ok-clear_first.field-0) _ (c.in_ok-clear_first.ensures.cleared known) clear
     c.in_ok-clear_first.field-0 refl c.clear_first-2.result c.table_answer.result

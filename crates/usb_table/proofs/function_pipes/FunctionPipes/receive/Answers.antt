@@ -1,12 +1,18 @@
 use Rattle.std.proofs.Common.{◌∙◌, sym}
-use Rattle.usb_bus.specs.{still}
 use Rattle.usb_table.specs.{ReceivedThrough, receives_through, receives_miss}
-use Rattle.usb_table.proofs.FunctionCalls.{call_made, call_refused, call_through, told_bus}
+use Rattle.usb_table.proofs.FunctionCalls.{PutBack, call_made, call_refused, call_through, told_bus}
 use Rattle.usb_table.proofs.levels.StandingPipes.{receives_picks, receives_way}
 use Rattle.usb_table.proofs.function_pipes.FunctionPipes.receive.Goals as goal
 
-pub returns-in_default-clause-traced : goal.returns-in_default-clause-traced
-returns-in_default-clause-traced g c known = still
+put_back : (g : _) (c : goal.After-table_answer g) → PutBack (receives_through c.args.choice)
+    c.args.self.now c.put.new.self c.in-Some.pipe c.receive-received.new.self
+put_back g c = record {
+  picks = receives_picks c.args.choice;
+  placed = c.requires;
+  picked = sym c.receives_through.ensures ∙ c.in-Some.is;
+  put = c.put.ensures;
+  same = c.receive-received.ensures.same;
+}
 
 pub receive-received-requires : goal.receive-received-requires
 receive-received-requires g c = record {
@@ -19,36 +25,19 @@ returns-clause-any_bus g c = (
   c.receive-received.ensures.any_bus.0,
   told_bus c.receive-received.result c.table_answer.result _ c.table_answer.ensures
       c.receive-received.ensures.any_bus.1,
-  call_refused
-      (receives_through c.args.choice) (receives_picks c.args.choice) c.args.self.now
-      c.put.new.self c.requires
-      c.in-Some.pipe c.receive-received.new.self
-      (sym c.receives_through.ensures ∙ c.in-Some.is) c.put.ensures
-      c.receive-received.ensures.same (receives_miss c.args.choice c.args.self.now) c.args.bus.now
-      c.receive-received.new.bus
-      c.receive-received.result c.table_answer.result c.table_answer.ensures
-      c.receive-received.ensures.broken,
+  call_refused (put_back g c) (receives_miss c.args.choice c.args.self.now) c.args.bus.now
+      c.receive-received.new.bus c.receive-received.result c.table_answer.result
+      c.table_answer.ensures c.receive-received.ensures.broken,
 )
 
 pub returns-clause-made : goal.returns-clause-made
-returns-clause-made g c =
-    call_made
-    (receives_through c.args.choice) (receives_picks c.args.choice) c.args.self.now
-    c.put.new.self c.requires
-    c.in-Some.pipe c.receive-received.new.self
-    (sym c.receives_through.ensures ∙ c.in-Some.is) c.put.ensures
-    c.receive-received.ensures.same
+returns-clause-made g c = call_made (put_back g c)
 
 pub returns-clause-received : goal.returns-clause-received
 returns-clause-received g c known =
-    call_through
-    (receives_through c.args.choice) (receives_picks c.args.choice) c.args.self.now
-    c.put.new.self c.requires
-    c.in-Some.pipe c.receive-received.new.self
-    (sym c.receives_through.ensures ∙ c.in-Some.is) c.put.ensures
-    c.receive-received.ensures.same
-    (receives_miss c.args.choice) (λ p. ReceivedThrough p c.args.packets) _ c.table_answer.result _
-    (record {
+    call_through (put_back g c) (receives_miss c.args.choice)
+    (λ p. ReceivedThrough p c.args.packets) _
+    c.table_answer.result _ (record {
       answer = c.receive-received.result;
       told = c.table_answer.ensures;
       count = (c.receive-received.ensures.steps known).spends;

@@ -1,12 +1,18 @@
 use Rattle.std.proofs.Common.{◌∙◌, sym, arith}
-use Rattle.usb_bus.specs.{still}
 use Rattle.usb_table.specs.{SentThrough, sends_through, sends_miss}
-use Rattle.usb_table.proofs.FunctionCalls.{call_made, call_refused, call_through, told_bus}
+use Rattle.usb_table.proofs.FunctionCalls.{PutBack, call_made, call_refused, call_through, told_bus}
 use Rattle.usb_table.proofs.levels.StandingPipes.{sends_picks, sends_way}
 use Rattle.usb_table.proofs.function_pipes.FunctionPipes.send.Goals as goal
 
-pub returns-in_default-clause-traced : goal.returns-in_default-clause-traced
-returns-in_default-clause-traced g c known = still
+put_back : (g : _) (c : goal.After-table_answer g) → PutBack (sends_through c.args.choice)
+    c.args.self.now c.put.new.self c.in-Some.pipe c.send-sent.new.self
+put_back g c = record {
+  picks = sends_picks c.args.choice;
+  placed = c.requires;
+  picked = sym c.sends_through.ensures ∙ c.in-Some.is;
+  put = c.put.ensures;
+  same = c.send-sent.ensures.same;
+}
 
 pub send-sent-requires : goal.send-sent-requires
 send-sent-requires g c = record {
@@ -22,36 +28,18 @@ returns-clause-any_bus g c = (
   ),
   told_bus c.send-sent.result c.table_answer.result _ c.table_answer.ensures
       c.send-sent.ensures.any_bus.1,
-  call_refused
-      (sends_through c.args.choice) (sends_picks c.args.choice) c.args.self.now
-      c.put.new.self c.requires
-      c.in-Some.pipe c.send-sent.new.self
-      (sym c.sends_through.ensures ∙ c.in-Some.is) c.put.ensures
-      c.send-sent.ensures.same (sends_miss c.args.choice c.args.self.now) c.args.bus.now
-      c.send-sent.new.bus
-      c.send-sent.result c.table_answer.result c.table_answer.ensures
+  call_refused (put_back g c) (sends_miss c.args.choice c.args.self.now) c.args.bus.now
+      c.send-sent.new.bus c.send-sent.result c.table_answer.result c.table_answer.ensures
       c.send-sent.ensures.broken,
 )
 
 pub returns-clause-made : goal.returns-clause-made
-returns-clause-made g c =
-    call_made
-    (sends_through c.args.choice) (sends_picks c.args.choice) c.args.self.now
-    c.put.new.self c.requires
-    c.in-Some.pipe c.send-sent.new.self
-    (sym c.sends_through.ensures ∙ c.in-Some.is) c.put.ensures
-    c.send-sent.ensures.same
+returns-clause-made g c = call_made (put_back g c)
 
 pub returns-clause-sent : goal.returns-clause-sent
 returns-clause-sent g c known =
-    call_through
-    (sends_through c.args.choice) (sends_picks c.args.choice) c.args.self.now
-    c.put.new.self c.requires
-    c.in-Some.pipe c.send-sent.new.self
-    (sym c.sends_through.ensures ∙ c.in-Some.is) c.put.ensures
-    c.send-sent.ensures.same
-    (sends_miss c.args.choice) (λ p. SentThrough p c.args.bytes.now) _ c.table_answer.result _
-    (record {
+    call_through (put_back g c) (sends_miss c.args.choice) (λ p. SentThrough p c.args.bytes.now) _
+    c.table_answer.result _ (record {
       answer = c.send-sent.result;
       told = c.table_answer.ensures;
       count = (c.send-sent.ensures.steps known).spends;

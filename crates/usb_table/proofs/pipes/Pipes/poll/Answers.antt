@@ -1,6 +1,5 @@
-use Rattle.std.proofs.Common.{arith}
-use Rattle.usb_bus.proofs.Interface.{went_none, went_wider}
+use Rattle.usb_table.proofs.IdleCalls.{idle_steps}
 use Rattle.usb_table.proofs.pipes.Pipes.poll.Goals as goal
 
 pub returns-in-Function-clause-steps : goal.returns-in-Function-clause-steps
-returns-in-Function-clause-steps g c known = went_wider 0 768 went_none (omega arith)
+returns-in-Function-clause-steps g c known = idle_steps 768 _ _

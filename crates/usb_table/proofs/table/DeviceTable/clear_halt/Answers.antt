@@ -1,53 +1,46 @@
 use Rattle.std.proofs.Common.{sym, refl, arith, Err}
-use Rattle.slab.specs.Slab.{get, with_value}
+use Rattle.slab.specs.Slab.{get}
 use Rattle.usb_bus.specs.{still}
 use Rattle.usb_world.proofs.Interface.{spends_none, spends_wider}
 use Rattle.usb_table.specs.{Transfer, NoDevice}
-use Rattle.usb_table.proofs.levels.PipeCalls.{CallThrough, placed_at, through_none}
-use Rattle.usb_table.proofs.levels.PipeCalls.{through_slot}
+use Rattle.usb_table.proofs.levels.PipeCalls.{SlotCall, placed_at, through_none, through_slot}
 use Rattle.usb_table.proofs.TransferLeaves.{table_clears}
 use Rattle.usb_table.proofs.table.DeviceTable.clear_halt.Goals as goal
 
 -- the entry is written back with the pipes that the call left
-passed : (g : _) (c : goal.After-self-1 g) → CallThrough c.args.path.now (get c.self.inside.entries)
-    (get (with_value c.self.inside.entries c.in-Some.key.now
-    (record c.index_mut.result.now { pipes = c.clear_halt.new.self })))
-    c.self.inside.indexes.by_path.entries c.self.inside.indexes.by_address.entries
-    c.index_mut.result.now.pipes c.clear_halt.new.self
-passed g c =
-    through_slot c.args.path.now c.self.inside.entries _ _ c.in-Some.key.now
-    c.index_mut.result.now c.clear_halt.new.self c.self.invariant (sym c.in-Some.ensures.value)
+passed : (g : _) (c : goal.After-self-1 g) → SlotCall c.args.path.now c.self.inside.entries
+    c.self.inside.indexes c.in-Some.key.now c.index_mut.result.now c.clear_halt.new.self
+passed g c = through_slot c.self.inside.entries c.self.invariant (sym c.in-Some.ensures.value)
     c.index_mut.ensures.value c.clear_halt.ensures.made
 
 pub clear_halt-requires : goal.clear_halt-requires
-clear_halt-requires g c =
-    placed_at c.args.path.now c.self.inside.entries _ c.in-Some.key.now c.index_mut.result.now
-    c.self.invariant.1 (sym c.in-Some.ensures.value) c.index_mut.ensures.value
+clear_halt-requires g c = placed_at c.args.path.now c.self.inside.entries _ c.self.invariant.1
+    (sym c.in-Some.ensures.value) c.index_mut.ensures.value
 
 pub invariant_of-self : goal.invariant_of-self
 invariant_of-self g c = ((passed g c).indexes, (passed g c).piped)
 
-pub returns-in-Some-clause-through : goal.returns-in-Some-clause-through
-returns-in-Some-clause-through g c = rw (← c.self.view_is) (passed g c).goes
+pub returns-in-Some : goal.returns-in-Some
+returns-in-Some g c =
+    let x = passed g c in
+    rw (← c.self.view_is) (record {
+      any_bus = c.clear_halt.ensures.any_bus;
+      through = x.goes;
+      clears = λ known.
+          let steps = c.clear_halt.ensures.steps known in
+          table_clears c.args.path.now _ _ _ _ _ _ x.goes steps.traced c.clear_halt.result
+          steps.spends (rw (x.was, x.is) (c.clear_halt.ensures.cleared known));
+    })
 
-pub returns-in-Some-clause-clears : goal.returns-in-Some-clause-clears
-returns-in-Some-clause-clears g c known =
-    rw (← c.self.view_is)
-    (table_clears c.args.path.now _ _ _ _ _ _ (passed g c).goes
-    (c.clear_halt.ensures.steps known).traced c.clear_halt.result
-    (c.clear_halt.ensures.steps known).spends
-    (rw ((passed g c).was, (passed g c).is) (c.clear_halt.ensures.cleared known)))
-
-pub returns-in-None-clause-through : goal.returns-in-None-clause-through
-returns-in-None-clause-through g c =
-    rw (← c.self.view_is) (through_none c.args.path.now (get c.self.inside.entries) _ _
-    c.self.invariant (sym c.in-None.ensures.value)).goes
-
-pub returns-in-None-clause-clears : goal.returns-in-None-clause-clears
-returns-in-None-clause-clears g c known =
-    let none =
-    through_none c.args.path.now (get c.self.inside.entries) c.self.inside.indexes.by_path.entries
-    c.self.inside.indexes.by_address.entries c.self.invariant (sym c.in-None.ensures.value) in
-    rw (← c.self.view_is) (table_clears c.args.path.now _ _ _ _ _ _ none.goes still
-    (Err (Transfer NoDevice)) (spends_wider 0 3200 _ _ (spends_none _) (omega arith))
-    (rw none.was (refl, refl, refl)))
+pub returns-in-None : goal.returns-in-None
+returns-in-None g c =
+    let x =
+    through_none c.args.path.now (get c.self.inside.entries) _ _ c.self.invariant
+    (sym c.in-None.ensures.value) in
+    rw (← c.self.view_is) (record {
+      any_bus = ((omega arith, refl), tt);
+      through = x.goes;
+      clears = λ known.
+          table_clears c.args.path.now _ _ _ _ _ _ x.goes still (Err (Transfer NoDevice))
+          (spends_wider 0 3200 _ _ (spends_none _) (omega arith)) (rw x.was (refl, refl, refl));
+    })

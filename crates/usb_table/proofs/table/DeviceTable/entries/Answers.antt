@@ -21,41 +21,33 @@ index-requires c =
     (c.self.invariant.0.stands c.in-Some.path.now c.in-Some.key.now turn)
 
 pub returns-in_err-entries-clause-rising : goal.returns-in_err-entries-clause-rising
-returns-in_err-entries-clause-rising c =
-    rw (← c.self.view_is)
+returns-in_err-entries-clause-rising c = rw (← c.self.view_is)
     (entries_rise (findings (get c.self.inside.entries)) _ c.len.ensures.ordered)
-
-pub returns-in_err-try_clone-clause-rising : goal.returns-in_err-try_clone-clause-rising
-returns-in_err-try_clone-clause-rising c =
-    rw (← c.self.view_is)
-    (entries_rise (findings (get c.self.inside.entries)) _ c.iter-path-items.ensures.ordered)
-
-pub returns-in_err-push-clause-rising : goal.returns-in_err-push-clause-rising
-returns-in_err-push-clause-rising c =
-    rw (← c.self.view_is)
-    (entries_rise (findings (get c.self.inside.entries)) _ c.iter-path-items.ensures.ordered)
-
-pub returns-clause-rising : goal.returns-clause-rising
-returns-clause-rising c =
-    rw (← c.self.view_is)
-    (entries_rise (findings (get c.self.inside.entries)) _ c.iter-path-items.ensures.ordered)
 
 pub returns-in_err-entries-clause-pipes : goal.returns-in_err-entries-clause-pipes
 returns-in_err-entries-clause-pipes c path =
-    rw (← c.self.view_is) (are_pipes_at (get c.self.inside.entries) _ _ c.self.invariant.0
-    c.self.invariant.1 path)
+    rw (← c.self.view_is) (are_pipes_at _ _ _ c.self.invariant.0 c.self.invariant.1 path)
+
+pub returns-in_err-try_clone-clause-rising : goal.returns-in_err-try_clone-clause-rising
+returns-in_err-try_clone-clause-rising c = rw (← c.self.view_is)
+    (entries_rise (findings (get c.self.inside.entries)) _ c.iter-path-items.ensures.ordered)
 
 pub returns-in_err-try_clone-clause-pipes : goal.returns-in_err-try_clone-clause-pipes
 returns-in_err-try_clone-clause-pipes c path =
-    rw (← c.self.view_is) (are_pipes_at (get c.self.inside.entries) _ _ c.self.invariant.0
-    c.self.invariant.1 path)
+    rw (← c.self.view_is) (are_pipes_at _ _ _ c.self.invariant.0 c.self.invariant.1 path)
+
+pub returns-in_err-push-clause-rising : goal.returns-in_err-push-clause-rising
+returns-in_err-push-clause-rising c = rw (← c.self.view_is)
+    (entries_rise (findings (get c.self.inside.entries)) _ c.iter-path-items.ensures.ordered)
 
 pub returns-in_err-push-clause-pipes : goal.returns-in_err-push-clause-pipes
 returns-in_err-push-clause-pipes c path =
-    rw (← c.self.view_is) (are_pipes_at (get c.self.inside.entries) _ _ c.self.invariant.0
-    c.self.invariant.1 path)
+    rw (← c.self.view_is) (are_pipes_at _ _ _ c.self.invariant.0 c.self.invariant.1 path)
+
+pub returns-clause-rising : goal.returns-clause-rising
+returns-clause-rising c = rw (← c.self.view_is)
+    (entries_rise (findings (get c.self.inside.entries)) _ c.iter-path-items.ensures.ordered)
 
 pub returns-clause-pipes : goal.returns-clause-pipes
 returns-clause-pipes c path =
-    rw (← c.self.view_is) (are_pipes_at (get c.self.inside.entries) _ _ c.self.invariant.0
-    c.self.invariant.1 path)
+    rw (← c.self.view_is) (are_pipes_at _ _ _ c.self.invariant.0 c.self.invariant.1 path)

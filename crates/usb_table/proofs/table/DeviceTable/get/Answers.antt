@@ -30,10 +30,10 @@ returns-in-Some-clause-sound c =
 
 pub returns-in-Some-clause-pipes : goal.returns-in-Some-clause-pipes
 returns-in-Some-clause-pipes c =
-    rw (← c.self.view_is) (are_pipes_at (get c.self.inside.entries) _ _ c.self.invariant.0
-    c.self.invariant.1 c.args.path.now)
+    rw (← c.self.view_is)
+    (are_pipes_at _ _ _ c.self.invariant.0 c.self.invariant.1 c.args.path.now)
 
 pub returns-in-None-clause-pipes : goal.returns-in-None-clause-pipes
 returns-in-None-clause-pipes c =
-    rw (← c.self.view_is) (are_pipes_at (get c.self.inside.entries) _ _ c.self.invariant.0
-    c.self.invariant.1 c.args.path.now)
+    rw (← c.self.view_is)
+    (are_pipes_at _ _ _ c.self.invariant.0 c.self.invariant.1 c.args.path.now)

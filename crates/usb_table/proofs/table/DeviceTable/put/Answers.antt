@@ -1,12 +1,7 @@
 -- What is put stands under a key that was vacant.
-use Rattle.std.proofs.Common.{◌≡◌, ◌∙◌, sym, ap, subst, ℕ, Option, Some, None, Result, Ok}
-use Rattle.std.proofs.Common.{Err, OnErr}
-use Rattle.std.specs.BTreeMap.{is_at}
-use Rattle.std.specs.Map.{lookup}
-use Rattle.slab.specs.Slab.{Slab, get, Updates}
-use Rattle.usb_port.specs.{path_cmp}
-use Rattle.usb_table.specs.{HasNewAddress, Entry, findings, Enters, Table, address_found}
-use Rattle.usb_table.specs.{with_entry}
+use Rattle.std.proofs.Common.{◌≡◌, ◌∙◌, sym, ap, Result, Ok, Err, OnErr}
+use Rattle.slab.specs.Slab.{Slab, get}
+use Rattle.usb_table.specs.{Entry, findings, address_found, with_entry}
 use Rattle.usb_table.proofs.entries.NewEntries.{away_key, free_key}
 use Rattle.usb_table.proofs.entries.OneMore.{OneMore, come, come_piped, come_table, entered_one}
 use Rattle.usb_table.proofs.table.DeviceTable.put.Goals as goal
@@ -17,12 +12,9 @@ on_err (Err x) P p = p
 
 pub insert-requires : goal.insert-requires
 insert-requires c =
-    let s = c.self.inside in
     rw (c.address_number-address.ensures, c.finding.ensures)
-    (free_key (findings (get s.entries)) s.indexes.by_path.entries s.indexes.by_address.entries
-    c.args.entry.finding c.self.invariant.0
-    (subst (λ (t : Table). HasNewAddress c.args.entry.finding t.entries) (sym c.self.view_is)
-    c.requires.address))
+    (free_key _ _ _ c.args.entry.finding c.self.invariant.0
+    (rw (← c.self.view_is) at c.requires.address))
 
 pub invariant_of-self : goal.invariant_of-self
 invariant_of-self c = rw c.reserve.ensures.rest_kept c.self.invariant
@@ -52,26 +44,20 @@ came c =
     let kept = c.reserve.ensures.rest_kept in
     let same : c.insert_reserved.result ≡ c.vacant_key-key.result = c.insert_reserved.ensures.key
     ∙ sym c.vacant_key-key.ensures.value in
-    let updates = subst (λ (k : ℕ). Updates c.reserve.new.self c.insert_reserved.new.self k
-    (Some c.args.entry)) same c.insert_reserved.ensures.updates in
+    let updates = rw same at c.insert_reserved.ensures.updates in
     let address : c.address_number-address.result ≡ address_found c.args.entry.finding =
     c.address_number-address.ensures ∙ ap address_found c.finding.ensures in
     entered_one (get s.entries) (get c.insert_reserved.new.self) c.args.path c.vacant_key-key.result
     c.args.entry
-    (subst (λ (t : Slab Entry). get t c.vacant_key-key.result ≡ None) kept
-    c.vacant_key-key.ensures.vacant)
+    (rw kept at c.vacant_key-key.ensures.vacant)
     updates.changed
     (λ k ne. updates.others k ne ∙ ap (λ (t : Slab Entry). get t k) kept) s.indexes
     c.insert.new.self
     (away_key (findings (get s.entries)) c.args.path s.indexes.by_path.entries
-    (subst (λ (t : Table). lookup (is_at (path_cmp c.args.path)) t.entries ≡ None)
-    (sym c.self.view_is) c.requires.away))
-    (free_key (findings (get s.entries)) s.indexes.by_path.entries s.indexes.by_address.entries
-    c.args.entry.finding c.self.invariant.0
-    (subst (λ (t : Table). HasNewAddress c.args.entry.finding t.entries) (sym c.self.view_is)
-    c.requires.address))
-    (subst (λ (a : Option ℕ). Enters c.args.path a c.vacant_key-key.result s.indexes
-    c.insert.new.self) address c.in_ok-insert.ensures.ok)
+    (rw (← c.self.view_is) at c.requires.away))
+    (free_key _ _ _ c.args.entry.finding c.self.invariant.0
+    (rw (← c.self.view_is) at c.requires.address))
+    (rw address at c.in_ok-insert.ensures.ok)
 
 pub invariant_of-self-2 : goal.invariant_of-self-2
 invariant_of-self-2 c =

@@ -1,11 +1,8 @@
 -- What is taken out leaves its key vacant.
-use Rattle.std.proofs.Common.{◌∙◌, sym, ap, subst, ℕ, List, Option, Some, None, IfNone}
+use Rattle.std.proofs.Common.{◌∙◌, sym, ap, ℕ, List, Option, Some, None, IfNone}
 use Rattle.std.specs.BTreeMap.{BTreeMap}
-use Rattle.std.specs.List.Sorted.{IsStrictlySortedBy}
-use Rattle.std.specs.Map.{keys_of}
 use Rattle.slab.specs.Slab.{get}
-use Rattle.usb_port.specs.{path_cmp}
-use Rattle.usb_table.specs.{address_found, PathKeys, findings, key_of_path, UpdatesAddress, removed}
+use Rattle.usb_table.specs.{findings, key_of_path, removed}
 use Rattle.usb_table.proofs.entries.Keys.{entries_of-key, findings-standing, entries-has_at}
 use Rattle.usb_table.proofs.entries.OneMore.{OneMore, go, go_piped, go_table, left_one}
 use Rattle.usb_table.proofs.table.DeviceTable.take_at.Goals as goal
@@ -35,9 +32,7 @@ went c =
     c.remove_address.new.self.by_address.entries c.self.invariant.0 (sym c.in_ok-key.ensures.value)
     (λ q. ap (λ (m : BTreeMap (List ℕ) ℕ). key_of_path m.entries q) c.remove_address.ensures.paths
     ∙ c.in_ok-key.ensures.updates.0 q)
-    (subst (λ (a : Option ℕ). UpdatesAddress a None s.indexes.by_address.entries
-    c.remove_address.new.self.by_address.entries)
-    (c.address_number.ensures ∙ ap address_found c.finding.ensures) c.remove_address.ensures.keys)
+    (rw (c.address_number.ensures, c.finding.ensures) at c.remove_address.ensures.keys)
 
 pub invariant_of-self-2 : goal.invariant_of-self-2
 invariant_of-self-2 c =
@@ -58,7 +53,6 @@ returns-clause-some c =
           ∙ ap Some (sym c.into_finding.ensures));
       rest =
           go_table (went c) c.self.invariant.0 (left ∙ c.in_ok-key.ensures.entries)
-          (subst (λ (es : PathKeys). IsStrictlySortedBy path_cmp (keys_of es)) (sym left)
-          c.in_ok-key.ensures.ordered)
+          (rw left c.in_ok-key.ensures.ordered)
           ∙ ap (removed c.in_ok-first.first) c.self.view_is;
     }
