@@ -1,12 +1,10 @@
 -- What holds over the parts of a step, and over a fault, holds over a trace of steps.
 use Rattle.std.proofs.Common.{◌≡◌, ℕ, ◌||◌, true, List, Option, None, Some, Result, Ok, Err, refl}
 use Rattle.std.proofs.Common.{sym, subst}
-use Rattle.usb_device.specs.{held_addresses, repeats, Ports}
 use Rattle.usb_world.specs.{Attempt, BusFault, Limit, Memory, Failed, Outcome, is_made}
 use Rattle.usb_world.specs.{AnyStep, Left, at_event, at_packet, at_line, GaveUp, attempt, root_call}
-use Rattle.usb_world.specs.{at_attempt, World}
-use Rattle.usb_world.proofs.Interface.{OverSteps, over_coming, over_ready, over_step}
-use Rattle.usb_tree.proofs.Interface.{unequal}
+use Rattle.usb_world.specs.{at_attempt, World, Ports, held_addresses, repeats}
+use Rattle.usb_world.proofs.Interface.{OverSteps, over_coming, over_ready, over_step, unequal}
 use Rattle.usb_bus.specs.{Attempts, Traced, still, attempted, called}
 
 -- memory was refused for the host's data, which some devices had

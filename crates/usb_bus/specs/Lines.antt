@@ -1,8 +1,7 @@
 -- The lines of the trace that steps write, and what an event asks of the host.
 use Rattle.std.specs.Prelude.{ℕ, ◌+◌, ◌-◌, ◌==◌, if◌then◌else◌, List, [], ◌∷◌, ◌++◌, take, flat_map}
 use Rattle.std.specs.Prelude.{map, slice_get, Option, Some, None}
-use Rattle.usb_device.specs.{Spec}
-use Rattle.usb_world.specs.{Action, Plug, Unplug, Attempt, World, at_attempt, made_in, ask_of}
+use Rattle.usb_world.specs.{Spec, Action, Plug, Unplug, Attempt, World, at_attempt, made_in, ask_of}
 use Rattle.usb_world.specs.declared.event.Action.TheVariants.{Change, Ask}
 use Rattle.usb_world.specs.declared.event.Ask.{Ask as Asked}
 use Rattle.usb_bus.specs.Shown.{shown_name}

@@ -6,7 +6,7 @@ ghost use Rattle.usb_world.specs.declared.types.BusFault.{BusFault as AFault};
 ghost use Rattle.usb_world.specs.PlainAttempts.{attempt_data};
 ghost use Rattle.usb_world.specs.Worlds.{World, IsAttempt, FitsMaximum, root_port_at, roots_of};
 ghost use Rattle.usb_world.specs.Steps.{WorldInvariant, SetsRoot, ClearsRoot};
-ghost use Rattle.usb_tree.specs.AttemptPackets.{IsSettled};
+ghost use Rattle.usb_world.specs.{IsSettled};
 ghost use Rattle.usb_bus.specs.Traces.{Attempts, Spends};
 ghost use Rattle.usb_bus.specs.OutcomeKinds.{result_with};
 ghost use Rattle.usb_bus.specs.Rows.{InsMade, OutsMade, IsDestination, CountsRow, RowTold, row_attempts};

@@ -157,3 +157,7 @@ pub use declared.transfer.InEndpoint.{InEndpoint}
 pub use declared.transfer.RememberedPacket.{RememberedPacket}
 pub use declared.write.WriteData.{WriteData}
 pub use declared.write.WriteData.TheVariants.{Next, Repeat, TooLong, Wrong}
+-- words of crates below, for crates that need no more of these
+pub use Rattle.usb_packet.specs.{Ack, Payload, Token}
+pub use Rattle.usb_port.specs.{ClearConnectionChange, ClearPower, PortCall, PortState, SetReset}
+pub use Rattle.usb_port.specs.{is_attached, is_reset}

@@ -2,7 +2,7 @@
 use Rattle.std.proofs.Common.{◌≡◌, ℕ, zero, suc, Bool, true, false, ◌&&◌, ◌==◌, [], ◌∷◌, None, Some}
 use Rattle.std.proofs.Common.{◌⊎◌, inl, inr, refl, sym, ap, ◌∙◌}
 use Rattle.std.proofs.lemmas.Option.{same_Some}
-use Rattle.usb_port.specs.{PortState}
+use Rattle.usb_device.specs.{PortState}
 use Rattle.usb_device.specs.{State, Ports, ended, vacant, taken, reach_at, state_at, place_at}
 use Rattle.usb_device.specs.{path_to}
 use Rattle.usb_tree.specs.{address_of, NobodyHolds, Found}

@@ -3,7 +3,7 @@ use Rattle.std.proofs.Common.{◌≡◌, ℕ, zero, suc, ◌+◌, ◌≤◌, ◌
 use Rattle.std.proofs.Common.{true, false, List, [], ◌∷◌, ◌++◌, Some, option_map, refl, ap, sym}
 use Rattle.std.proofs.Common.{subst, ◌∙◌, arith}
 use Rattle.std.proofs.lemmas.Option.{same_Some}
-use Rattle.usb_port.specs.{PortState}
+use Rattle.usb_device.specs.{PortState}
 use Rattle.usb_device.specs.{State, Ports, ended, vacant, taken, reach_at, state_at, path_to}
 use Rattle.usb_device.specs.{held_addresses, has, repeats}
 use Rattle.usb_tree.specs.{address_of, HoldsAddress, Two}

@@ -1,8 +1,8 @@
 -- The host's packets of an attempt, as they go out, and the tree after them.
 use Rattle.std.specs.Prelude.{◌≡◌, ℕ, ◌==◌, Bool, true, false, List, [], ◌∷◌, Option, None, Some}
 use Rattle.std.specs.Prelude.{option_map, if◌then◌else◌, ⊤}
-use Rattle.usb_packet.specs.{Token, Payload, Ack}
-use Rattle.usb_port.specs.{PortState}
+use Rattle.usb_device.specs.{Token, Payload, Ack}
+use Rattle.usb_device.specs.{PortState}
 use Rattle.usb_device.specs.{Answer, Content, Whole, Broken, Sent, State, Reply, is_own, Ports}
 use Rattle.usb_device.specs.{reach_at, state_at, Location, reach_on, state_on, after_packet}
 use Rattle.usb_device.specs.{all_forgotten, held_addresses, repeats, hears, reply_to, answers}

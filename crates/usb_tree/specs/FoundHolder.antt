@@ -1,6 +1,6 @@
 -- A reachable device that holds an address.
 use Rattle.std.specs.Prelude.{◌≡◌, ℕ, true, Some}
-use Rattle.usb_port.specs.{PortState}
+use Rattle.usb_device.specs.{PortState}
 use Rattle.usb_device.specs.{State, Ports, Location, full, reach_on, place_on}
 use Rattle.usb_tree.specs.Paths.{address_of}
 

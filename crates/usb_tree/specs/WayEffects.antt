@@ -3,8 +3,8 @@
 -- leaves what is pending.
 use Rattle.std.specs.Prelude.{◌≡◌, ℕ, zero, suc, ◌&&◌, ◌||◌, not, Bool, true, false, List, [], ◌∷◌}
 use Rattle.std.specs.Prelude.{Option, None, Some}
-use Rattle.usb_port.specs.{is_attached, PortCall, SetReset, ClearPower, ClearConnectionChange}
-use Rattle.usb_port.specs.{is_reset}
+use Rattle.usb_device.specs.{is_attached, PortCall, SetReset, ClearPower, ClearConnectionChange}
+use Rattle.usb_device.specs.{is_reset}
 use Rattle.usb_device.specs.declared.transfer.RememberedPacket.TheVariants.{Nothing}
 use Rattle.usb_device.specs.{State, reset_state, Effect, Leaves, Calls, PortsOff, Ports, ended}
 use Rattle.usb_device.specs.{vacant, taken, all_off, empty, full, place_at, effect_of, Sent, Place}

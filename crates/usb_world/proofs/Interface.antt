@@ -72,3 +72,4 @@ pub use Rattle.usb_world.proofs.courses.StepInvariants.{settled_happened, settle
 pub use Rattle.usb_world.proofs.courses.StepInvariants.{settled_wider}
 pub use Rattle.usb_world.proofs.ways.Ways.{at_or_below_way, reach_on_way, way_apart, way_itself}
 pub use Rattle.usb_world.proofs.ways.Ways.{way_parent, way_rest, way_shorter, way_trans}
+pub use Rattle.usb_tree.proofs.Interface.{unequal}

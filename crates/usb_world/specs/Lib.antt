@@ -96,3 +96,7 @@ pub use declared.types.Outcome.{Outcome}
 pub use declared.wire.Mark.{Mark}
 pub use declared.wire.Mark.TheVariants.{Flipped, Lost, PreLost, Whole}
 pub use declared.wire.Outgoing.{Outgoing}
+-- words of crates below, for crates that need no more of these
+pub use Rattle.usb_device.specs.{Ports, Spec}
+unfoldable pub use Rattle.usb_device.specs.{held_addresses, repeats}
+pub use Rattle.usb_tree.specs.{IsSettled}

@@ -4,3 +4,5 @@
 
 #[cfg(test)]
 mod tests;
+
+fn main() {}
