@@ -2,7 +2,7 @@
 use Rattle.std.proofs.Common.{◌≡◌, refl, ap, arith, add-one, ℕ, suc, ◌+◌, List, [], ◌∷◌, ◌++◌}
 use Rattle.std.proofs.Common.{length, Bool, Some, slice_get}
 use Rattle.usb_enum.specs.{Finding}
-use Rattle.usb_table.specs.{Entries, SpecTree}
+use Rattle.usb_serve.specs.{Entries, SpecTree}
 use Rattle.usb_drawing.specs.{Style, drawing_lines, drawn_entries, ruled_line}
 
 length-entry_lines : (style : Style) (wide : Bool) (tree : SpecTree) (all entries : Entries)

@@ -11,7 +11,7 @@ use Rattle.usb_enum.specs.{Cause, Stalled, Request, Accepted, Finding, HubFacts,
 use Rattle.usb_enum.specs.{BadConfiguration, NoPower}
 use Rattle.usb_enum.specs.declared.cause.Request.TheVariants as request
 use Rattle.usb_enum.specs.declared.finding.Finding.TheVariants.{Device, Refused}
-use Rattle.usb_table.specs.{Entries, SpecTree}
+use Rattle.usb_serve.specs.{Entries, SpecTree}
 use Rattle.usb_text.specs.{escaped_text, is_plain_unit, unit_text}
 use Rattle.usb_drawing.specs.{Style, Lines, Ascii, art, branch, trunk, trunks, ports_text}
 use Rattle.usb_drawing.specs.{cause_number, cause_words, device_text, drawing_lines, drawn_entries}

@@ -2,7 +2,7 @@
 use Rattle.std.specs.Prelude.{ℕ, zero, suc, ◌-◌, List, [], ◌∷◌, ◌++◌, length, take, Bool, true}
 use Rattle.std.specs.Prelude.{false, ◌&&◌, ◌||◌, nat_lt, nat_eq, codes, slice_index}
 use Rattle.std.specs.List.{starts_with}
-use Rattle.usb_table.specs.{Entries}
+use Rattle.usb_serve.specs.{Entries}
 use Rattle.usb_drawing.specs.declared.art.Style.{Style}
 use Rattle.usb_drawing.specs.declared.art.Style.TheVariants.{Lines, Ascii}
 

@@ -8,7 +8,7 @@ use Rattle.usb_port.specs.{parent_of, path_text}
 use Rattle.usb_resources.specs.{supply_of}
 use Rattle.usb_enum.specs.{Finding, HubFacts}
 use Rattle.usb_enum.specs.declared.finding.Finding.TheVariants.{Device, Refused}
-use Rattle.usb_table.specs.{Entries, SpecTree}
+use Rattle.usb_serve.specs.{Entries, SpecTree}
 use Rattle.usb_drawing.specs.declared.art.Style.{Style}
 use Rattle.usb_drawing.specs.Art.{art}
 use Rattle.usb_drawing.specs.Devices.{finding_text}

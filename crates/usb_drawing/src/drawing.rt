@@ -8,8 +8,7 @@ use crate::listing::drawing_lines;
 use std::alloc::{AllocError, Global};
 use std::io::{Read, Write};
 use usb_bus::Watched;
-use usb_run::Item;
-use usb_serve::{ItemLines, ServeFault, item_lines, plan_of, write_items};
+use usb_serve::{Item, ItemLines, ServeFault, item_lines, plan_of, write_items};
 use usb_sim::Plan;
 use usb_text::Lines;
 

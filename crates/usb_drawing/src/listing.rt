@@ -1,8 +1,7 @@
 //! The lines of a drawn listing.
 ghost use Rattle.std.specs.Prelude.{◌≡◌, ◌+◌, ◌++◌, ◌∷◌, All, ℕ, Bool, List, length, slice_get, true, Some, OnOk, IfOk};
 ghost use Rattle.usb_enum.specs.declared.finding.Finding.{Finding as AFinding};
-ghost use Rattle.usb_table.specs.Listing.{SpecTree, tree_after};
-ghost use Rattle.usb_table.specs.TableEntries.{Entries};
+ghost use Rattle.usb_serve.specs.{Entries, SpecTree, tree_after};
 ghost use Rattle.usb_drawing.specs.declared.art.Style.{Style as AStyle};
 ghost use Rattle.usb_drawing.specs.Drawings.{columns, drawing_lines, entry_line, drawn_entries, finding_supply, gap, granted_at, heading, heading_end, hub_supply, is_unbroken, listed_supply, ruled_line, widest};
 

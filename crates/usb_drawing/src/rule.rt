@@ -1,7 +1,7 @@
 //! The rule that the bytes of a refused device break.
 ghost use Rattle.std.specs.Prelude.{◌≡◌, [], ◌++◌, OnOk, option_copied};
 ghost use Rattle.usb_world.specs.PluggedDevices.{device_indexed, index_at, plugged_by};
-ghost use Rattle.usb_table.specs.Listing.{tree_after};
+ghost use Rattle.usb_serve.specs.{tree_after};
 ghost use Rattle.usb_drawing.specs.Rules.{index_after, is_bad_configuration, is_cause_of, rule_if, rule_of, rule_text};
 
 use std::alloc::{AllocError, Global};

@@ -133,5 +133,3 @@ pub use declared.host.Round.{Round}
 pub use declared.look.Look.{Look}
 pub use declared.look.Look.TheVariants.{Empty, Found}
 pub use declared.host.Round.TheVariants.{Quiet, Worked}
--- words of crates below, for crates that need no more of these
-pub use Rattle.usb_enum.specs.{usual_options}

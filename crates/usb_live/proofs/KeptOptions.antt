@@ -1,6 +1,6 @@
 -- That news keep the options of a host.
 use Rattle.std.proofs.Common.{◌≡◌, ◌∙◌, refl, ap, List, Option, Some, None}
-use Rattle.usb_host.specs.{HostState, News, ReportsNews, Left, Arrived}
+use Rattle.usb_run.specs.{HostState, News, ReportsNews, Left, Arrived}
 use Rattle.usb_run.specs.{AllNews, SomeNews, SomeNewsAre, no_news, one_news}
 
 reported_options : (told : Option News) (old new : HostState) → ReportsNews old told new

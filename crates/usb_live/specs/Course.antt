@@ -3,13 +3,13 @@ use Rattle.std.specs.Prelude.{◌≡◌, ⊤, ℕ, ◌+◌, ◌≤◌, ◌==◌,
 use Rattle.std.specs.Prelude.{List, [], length, Option, Some, None, Result, Ok, Err}
 use Rattle.std.specs.Global.{Vec}
 use Rattle.std.specs.Str.{bytes_eq}
-use Rattle.usb_enum.specs.{HostOptions, usual_options}
-use Rattle.usb_table.specs.{At, EndpointChoice, Entries, FirstBulk, TransferFault}
-use Rattle.usb_text.specs.{lines_text, listing_lines}
+use Rattle.usb_run.specs.{HostOptions, usual_options}
+use Rattle.usb_run.specs.{At, EndpointChoice, Entries, FirstBulk, TransferFault}
+use Rattle.usb_run.specs.{lines_text, listing_lines}
 use Rattle.usb_wire.specs.{Answer, Question}
 use Rattle.usb_wire.specs.declared.answer.Answer.TheVariants as answer
 use Rattle.usb_wire.specs.declared.question.Question.TheVariants.{Hello, Wait}
-use Rattle.usb_host.specs.{Agrees, Round, Quiet, Worked}
+use Rattle.usb_run.specs.{Agrees, Round, Quiet, Worked}
 use Rattle.usb_bus.specs.{RowDone}
 use Rattle.usb_packet.specs.{Toggle}
 use Rattle.usb_world.specs.{Destination}

@@ -4,7 +4,7 @@ use Rattle.usb_world.specs.declared.event.Ask.{Ask}
 use Rattle.usb_world.specs.declared.event.Ask.TheVariants as ask
 use Rattle.usb_wire.specs.{Answer}
 use Rattle.usb_wire.specs.declared.answer.Answer.TheVariants as answer
-use Rattle.usb_host.specs.{HostState}
+use Rattle.usb_run.specs.{HostState}
 use Rattle.usb_run.specs.{Does, Item, Listing, Memory, RunFault}
 use Rattle.usb_live.specs.Course.{owed_by, settles}
 use Rattle.usb_live.specs.declared.owed.Owed.TheVariants as owed

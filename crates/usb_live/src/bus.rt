@@ -11,8 +11,7 @@ use arrayvec::ArrayVec;
 use std::io::{Read, Write};
 use std::marker::{Brand, PhantomData};
 use usb_bus::{Attempt, Bus, BusFault, Destination, Outcome, ROW_ROOM, RowDone, Toggle, Watched};
-use usb_run::Item;
-use usb_serve::number_of;
+use usb_run::{Item, number_of};
 use usb_stream::{LiveFault, StreamBus};
 use usb_wire::Answer;
 
@@ -203,7 +202,7 @@ impl<R: Read, W: Write, B: Begun> Bus for CourseBus<R, W, B> {
 }
 
 impl<R: Read, W: Write, B: Begun> CourseBus<R, W, B> {
-    ghost use Rattle.usb_enum.specs.Verdicts.{usual_options};
+    ghost use Rattle.usb_run.specs.{usual_options};
     ghost use Rattle.usb_live.specs.Course.{IsShown, Lives, settles, told_text};
     ghost use Rattle.usb_run.specs.ItemLines.{number_of};
     ghost use Rattle.std.specs.Prelude.{true};

@@ -1,7 +1,6 @@
 //! The host, from the hello to the end.
 ghost use Rattle.std.specs.Prelude.{◌≡◌, IfOk, IfSome, OnOk, false};
-ghost use Rattle.usb_enum.specs.Verdicts.{usual_options};
-ghost use Rattle.usb_text.specs.ListingLines.{written_lines};
+ghost use Rattle.usb_run.specs.{usual_options, written_lines};
 ghost use Rattle.usb_lines.specs.Pipes.{out_pipe_of, pipe_of};
 ghost use Rattle.usb_live.specs.Course.{IsShown, ListsEntries, Lives, goes_on, live_host, told_text};
 ghost use Rattle.usb_live.specs.Wanted.{IsOwed};
@@ -13,9 +12,7 @@ use std::alloc::{AllocError, Global};
 use std::io::{Read, Write};
 use std::marker::Brand;
 use usb_bus::Watched;
-use usb_host::{Host, HostFault, Round};
-use usb_run::{Item, RunFault};
-use usb_serve::item_lines;
+use usb_run::{Host, HostFault, Item, Round, RunFault, item_lines};
 use usb_wire::Answer;
 
 /// The number of rounds in a row that may work before the one after which the host asks what is

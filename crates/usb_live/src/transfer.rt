@@ -4,15 +4,14 @@ ghost use Rattle.usb_run.specs.Transfers.{Gives};
 ghost use Rattle.usb_world.specs.declared.event.Ask.{Ask};
 ghost use Rattle.usb_live.specs.Course.{IsShown, settles};
 ghost use Rattle.usb_run.specs.declared.item.Task.{Task};
-ghost use Rattle.usb_table.specs.declared.choice.EndpointChoice.TheVariants.{At};
+ghost use Rattle.usb_run.specs.{At};
 ghost use Rattle.usb_live.specs.declared.owed.EndOwed.{EndOwed};
 ghost use Rattle.usb_live.specs.declared.owed.Owed.{Owed};
 
 use usb_bus::Bus;
-use usb_host::Host;
 use usb_port::PortPath;
 use usb_request::{EndpointAddress, ReadRequest};
-use usb_run::{EndpointChoice, Item, RunFault, Task, TaskEnd, answered, counted};
+use usb_run::{EndpointChoice, Host, Item, RunFault, Task, TaskEnd, answered, counted};
 use usb_wire::ControlWrite;
 
 /// Reads from endpoint 0 of the device at a path.

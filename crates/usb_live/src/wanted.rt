@@ -6,9 +6,9 @@ ghost use Rattle.usb_live.specs.Wanted.{DoesWanted, IsOwed};
 use crate::transfer::{clear_of, poll, read, receive_from, send_to, set_interface, write};
 use std::alloc::Global;
 use usb_bus::Bus;
-use usb_host::Host;
-use usb_run::{EndpointChoice, Item, RunFault, Task, TaskEnd, all_news, answered, counted};
-use usb_text::Said;
+use usb_run::{
+    EndpointChoice, Host, Item, RunFault, Said, Task, TaskEnd, all_news, answered, counted,
+};
 use usb_wire::Answer;
 
 /// Does what is requested, once. Returns the item that is reported of it, if there is one.

@@ -39,3 +39,12 @@ pub use declared.item.TaskEnd.TheVariants.{Done, Looked, Polled, Received, Sent}
 pub use declared.runs.Report.{Report}
 pub use declared.runs.RunFault.{RunFault}
 pub use declared.runs.RunFault.TheVariants.{LimitReached, Memory, TraceFailed}
+-- words of crates below, for crates that need no more of these
+pub use Rattle.usb_enum.specs.{HostOptions, usual_options}
+pub use Rattle.usb_table.specs.{At, EndpointChoice, Entries, FirstBulk, SpecTree, TransferFault}
+pub use Rattle.usb_table.specs.{tree_after}
+pub use Rattle.usb_host.specs.{Agrees, Arrived, HostState, Left, News, Quiet, ReportsNews, Round}
+pub use Rattle.usb_host.specs.{Worked, opening_host, plug_events}
+unfoldable pub use Rattle.usb_host.specs.{repowered}
+pub use Rattle.usb_text.specs.{lines_text, written_lines}
+unfoldable pub use Rattle.usb_text.specs.{listing_lines}

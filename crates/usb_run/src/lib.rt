@@ -11,20 +11,23 @@
 //! *Only tested*: the rows of plans.
 #![tactic(auto)]
 
+mod answers;
 mod asked;
 mod item;
+mod lines;
 mod mode;
 mod news;
 mod runs;
 mod transfer;
 
 pub use item::{Item, Task, TaskEnd};
+pub use lines::{item_lines, number_of};
 pub use mode::Mode;
 pub use news::all_news;
 pub use runs::{Report, RunFault, Runner, run, settle};
 pub use transfer::{answered, counted};
 pub use usb_bus::{BusFault, Watched};
-pub use usb_host::{Host, HostFault, Look, News, TransferFault, Tree};
+pub use usb_host::{Host, HostFault, Look, News, Round, TransferFault, Tree};
 pub use usb_port::PortPath;
 pub use usb_request::EndpointAddress;
 pub use usb_sim::{Plan, SimBus, Trace, Tracer, Untraced};

@@ -4,3 +4,4 @@ pub mod ServedItems
 pub mod ServedThrough
 pub mod Refused
 pub mod WrittenEnough
+pub mod Interface

@@ -3,7 +3,7 @@ use Rattle.std.proofs.Common.{◌≡◌, ◌≢◌, ◌∙◌, refl, sym, ap, in
 use Rattle.std.proofs.Common.{◌⊎◌, Ok, Err, IsSome, is_some}
 use Rattle.usb_world.specs.{BusFault, LineEnds, PutLine, World}
 use Rattle.usb_world.specs.declared.types.BusFault.TheVariants as bus
-use Rattle.usb_host.specs.{HostState}
+use Rattle.usb_run.specs.{HostState}
 use Rattle.usb_run.specs.{CutsText, IsCaused, run_fault}
 use Rattle.usb_serve.specs.{LinesPut, report_fault}
 

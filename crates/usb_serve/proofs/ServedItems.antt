@@ -9,7 +9,7 @@ use Rattle.std.proofs.KnownBytes.{Appends-nil, Appends-trans}
 use Rattle.usb_bus.specs.{AppendsFront, PutsText}
 use Rattle.usb_bus.proofs.Interface.{front_after_first}
 use Rattle.usb_world.specs.{PlanData, to_come}
-use Rattle.usb_host.specs.{HostState}
+use Rattle.usb_run.specs.{HostState}
 use Rattle.usb_plan.specs.{bound_of}
 use Rattle.usb_run.specs.{Answer, AppendsText, CutsText, Item, Knows, Listing, Mode, Next, Opens}
 use Rattle.usb_run.specs.{RunFault, RunsTo, Tree, begun, behind, item_lines, item_text, items_left}

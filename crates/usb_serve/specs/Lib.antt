@@ -20,3 +20,7 @@ pub use ServedThrough.{LetsOut, ServesThrough, all, cut, writer_fault}
 pub use declared.output.Output.{Output}
 pub use declared.tracing.OutputTracer.{OutputTracer}
 pub use declared.serving.ServeFault.{ServeFault}
+-- words of crates below, for crates that need no more of these
+pub use Rattle.usb_run.specs.{Answer, Entries, Item, LimitReached, Listing, Memory, SpecTree}
+pub use Rattle.usb_run.specs.{TraceFailed, item_lines, tree_after}
+pub use Rattle.usb_run.specs.declared.item.Item.TheVariants.{News}

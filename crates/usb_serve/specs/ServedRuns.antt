@@ -4,7 +4,7 @@ use Rattle.std.specs.Prelude.{Bool, true, false, Result, Ok, Err, IsErrOf, IfErr
 use Rattle.std.specs.Io.KnownBytes.{Appends}
 use Rattle.usb_world.specs.{PlanData}
 use Rattle.usb_bus.specs.{AppendsFront}
-use Rattle.usb_host.specs.{HostState, plug_events}
+use Rattle.usb_run.specs.{HostState, plug_events}
 use Rattle.usb_plan.specs.{PlanFault, bound_of, spelled_plan}
 use Rattle.usb_plan.specs.declared.fault.PlanFault.TheVariants as plan
 use Rattle.usb_run.specs.{Item, LimitReached, Mode, Tree, ListsRight, Opens, RunsTo, item_lines}

@@ -1,6 +1,6 @@
 -- How a run with its text ends, to the one who is served.
 use Rattle.std.specs.Prelude.{◌≡◌, ◌≢◌, ◌⊎◌, ℕ, List, Bool, Result, Ok, Err}
-use Rattle.usb_host.specs.{HostState}
+use Rattle.usb_run.specs.{HostState}
 use Rattle.usb_run.specs.{AppendsText, CutsText, Item, RunFault, RunsTo}
 use Rattle.usb_run.specs.declared.mode.Mode.TheVariants.{Run}
 use Rattle.usb_serve.specs.declared.serving.ServeFault.{ServeFault}

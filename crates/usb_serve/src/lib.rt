@@ -11,7 +11,6 @@
 //! *Only tested*: the rows of plans, byte for byte.
 #![tactic(auto)]
 
-mod answers;
 mod input;
 mod items;
 mod output;
@@ -19,10 +18,12 @@ mod serving;
 mod tracing;
 
 pub use input::{InputFault, read_text};
-pub use items::{ItemLines, item_lines, number_of};
+pub use items::ItemLines;
 pub use output::{Output, ROOM};
 pub use serving::{ServeFault, plan_of, serve, serve_through, write_items};
 pub use usb_bus::{Watched, WriteFailed};
 pub use usb_plan::PlanFault;
-pub use usb_run::{BusFault, Item, Mode, Plan, RunFault, Runner, Trace, Untraced};
+pub use usb_run::{
+    BusFault, Item, Mode, Plan, RunFault, Runner, Trace, Untraced, item_lines, number_of,
+};
 pub use usb_text::Lines;

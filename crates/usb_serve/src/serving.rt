@@ -15,7 +15,7 @@ ghost use Rattle.usb_run.specs.Transcript.{Next};
 ghost use Rattle.usb_serve.specs.ServedTranscripts.{LinesPut, RunEnds};
 
 use crate::input::{InputFault, read_text};
-use crate::items::{ItemLines, PlainLines, item_lines, number_of};
+use crate::items::{ItemLines, PlainLines};
 use crate::output::Output;
 use crate::tracing::OutputTracer;
 use std::alloc::{AllocError, Global};
@@ -24,7 +24,7 @@ use std::str;
 use thiserror::Error;
 use usb_bus::{BusFault, Watched, WriteFailed};
 use usb_plan::{PlanFault, bound, read_plan};
-use usb_run::{Item, Mode, RunFault, Runner};
+use usb_run::{Item, Mode, RunFault, Runner, item_lines, number_of};
 use usb_sim::{Plan, Trace, Tracer, Untraced, untraced_fault};
 use usb_text::bound_line;
 

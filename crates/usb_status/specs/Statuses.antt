@@ -5,10 +5,9 @@ use Rattle.std.specs.Prelude.{ℕ, Result, Ok, Err}
 use Rattle.usb_world.specs.{BusFault}
 use Rattle.usb_world.specs.declared.types.BusFault.TheVariants as bus
 use Rattle.usb_plan.specs.declared.fault.PlanFault.TheVariants as plan
-use Rattle.usb_run.specs.declared.runs.RunFault.TheVariants as run
 use Rattle.usb_text.specs.declared.line.LineFault.{LineFault}
 use Rattle.usb_text.specs.declared.line.LineFault.TheVariants as line
-use Rattle.usb_serve.specs.{ServeFault}
+use Rattle.usb_serve.specs.{LimitReached, Memory, ServeFault, TraceFailed}
 use Rattle.usb_serve.specs.declared.serving.ServeFault.TheVariants as serve
 use Rattle.usb_explain.specs.{ExplainFault}
 use Rattle.usb_explain.specs.declared.explaining.ExplainFault.TheVariants as explain
@@ -49,9 +48,9 @@ serve_status (serve.Plan (plan.BadPath place)) = 1
 serve_status (serve.Plan (plan.PortTaken place)) = 1
 serve_status (serve.Plan (plan.PortEmpty place)) = 1
 serve_status (serve.Plan plan.Memory) = 4
-serve_status (serve.Run run.LimitReached) = 3
-serve_status (serve.Run run.Memory) = 4
-serve_status (serve.Run run.TraceFailed) = 4
+serve_status (serve.Run LimitReached) = 3
+serve_status (serve.Run Memory) = 4
+serve_status (serve.Run TraceFailed) = 4
 serve_status serve.Write = 4
 serve_status serve.Memory = 4
 

@@ -12,8 +12,7 @@ use usb_live::{LiveEnd, LiveFault};
 use usb_pcap::PcapFault;
 use usb_places::PlacesFault;
 use usb_plan::PlanFault;
-use usb_run::RunFault;
-use usb_serve::ServeFault;
+use usb_serve::{RunFault, ServeFault};
 use usb_text::LineFault;
 
 /// All was done.

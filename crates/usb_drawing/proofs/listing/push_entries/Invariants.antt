@@ -1,5 +1,5 @@
 use Rattle.std.proofs.Common.{◌≡◌, ◌++◌, length}
-use Rattle.usb_table.specs.{tree_after}
+use Rattle.usb_serve.specs.{tree_after}
 use Rattle.usb_drawing.specs.{drawn_entries}
 use Rattle.usb_drawing.proofs.listing.push_entries.Given as goal
 

@@ -1,5 +1,5 @@
 use Rattle.std.proofs.Common.{◌≡◌, take}
-use Rattle.usb_text.specs.{written_lines}
+use Rattle.usb_run.specs.{written_lines}
 use Rattle.usb_live.proofs.host.joined.Given as goal
 
 -- the lines so far

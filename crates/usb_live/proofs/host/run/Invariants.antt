@@ -1,5 +1,5 @@
 use Rattle.std.proofs.Common.{◌≡◌}
-use Rattle.usb_enum.specs.{usual_options}
+use Rattle.usb_run.specs.{usual_options}
 use Rattle.usb_live.proofs.host.run.Given as goal
 
 -- the host has the options that it is to have

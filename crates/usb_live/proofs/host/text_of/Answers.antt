@@ -1,6 +1,6 @@
 use Rattle.std.proofs.Common.{◌≡◌, ◌∙◌, sym, ap, subst, [], ◌∷◌, ◌++◌, IfOk}
 use Rattle.std.proofs.lemmas.List.Folds.{flat_map-map}
-use Rattle.usb_text.specs.{lines_text}
+use Rattle.usb_run.specs.{lines_text}
 use Rattle.usb_live.proofs.host.text_of.Goals as goal
 
 pub returns : goal.returns

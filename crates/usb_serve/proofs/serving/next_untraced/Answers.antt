@@ -1,7 +1,7 @@
 use Rattle.std.proofs.Common.{◌≡◌, ◌≢◌, ◌∙◌, ap, subst, Some}
 use Rattle.usb_world.specs.declared.types.BusFault.TheVariants as bus
 use Rattle.usb_world.specs.{World}
-use Rattle.usb_host.specs.{HostState}
+use Rattle.usb_run.specs.{HostState}
 use Rattle.usb_serve.proofs.ServedThrough.{caused_untraced}
 use Rattle.usb_serve.proofs.serving.next_untraced.Goals as goal
 

@@ -3,10 +3,10 @@ ghost use Rattle.std.specs.Prelude.{◌≡◌, ◌++◌, map, OnOk, IfOk};
 ghost use Rattle.usb_run.specs.TransferLines.{answer_line, choice_text, done_end, end_text, endpoint_text, failed_end, fault_word};
 ghost use Rattle.usb_run.specs.TransferLines.{look_end, news_lines, one_news_line, place_text, polled_end, received_end, sent_end, setting_text, task_word};
 
+use crate::{EndpointAddress, EndpointChoice, Look, News, Task, TaskEnd, TransferFault};
 use arrayvec::ArrayVec;
 use std::alloc::{AllocError, Global};
 use usb_port::PortPath;
-use usb_run::{EndpointAddress, EndpointChoice, Look, News, Task, TaskEnd, TransferFault};
 use usb_text::{Lines, push_cause, push_decimal, push_hex, push_path};
 
 /// The word of the task, its path, the place there, and how it ended: `send PATH done N`, or
@@ -15,7 +15,7 @@ use usb_text::{Lines, push_cause, push_decimal, push_hex, push_path};
 /// # Errors
 ///
 /// Memory was refused.
-#[tactic(auto, unfolding(usb_run::specs::TransferLines::answer_line))]
+#[tactic(auto, unfolding(crate::specs::TransferLines::answer_line))]
 pub fn answer_line(
     alloc: Global,
     path: &PortPath,
@@ -90,7 +90,7 @@ fn push_end(line: &mut Vec<u8>, end: &TaskEnd) -> Result<(), AllocError>
 /// # Errors
 ///
 /// Memory was refused.
-#[tactic(auto, unfolding(usb_run::specs::TransferLines::news_lines))]
+#[tactic(auto, unfolding(crate::specs::TransferLines::news_lines))]
 pub fn news_lines(alloc: Global, news: &[News]) -> Result<Lines, AllocError>
     ensures { IfOk result (λ lines. lines ≡ news_lines news.now) }
 {

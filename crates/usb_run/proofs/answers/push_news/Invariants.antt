@@ -1,6 +1,6 @@
 use Rattle.std.proofs.Common.{◌≡◌, ◌++◌, map, take}
 use Rattle.usb_run.specs.{one_news_line}
-use Rattle.usb_serve.proofs.answers.push_news.Given as goal
+use Rattle.usb_run.proofs.answers.push_news.Given as goal
 
 -- the lines of the news so far are written
 abbrev pub invariant-news : goal.invariant-news
