@@ -1,11 +1,9 @@
 -- What drawing a plan's run wrote.
 use Rattle.std.specs.Prelude.{◌≡◌, ℕ, List, Option, Bool, Result, Ok, Err, IfSome}
 use Rattle.usb_world.specs.{PlanData}
-use Rattle.usb_serve.specs.{tree_after}
+use Rattle.usb_serve.specs.{Answer, IsOfRun, IsUnread, Item, ItemsWritten, Listing, MarksWrite}
+use Rattle.usb_serve.specs.{News, ServeFault, item_lines, tree_after}
 use Rattle.usb_plan.specs.{spelled_plan}
-use Rattle.usb_serve.specs.{Answer, Item, Listing, item_lines}
-use Rattle.usb_serve.specs.{News}
-use Rattle.usb_serve.specs.{ServeFault, IsOfRun, IsUnread, ItemsWritten, MarksWrite}
 use Rattle.usb_drawing.specs.declared.art.Style.{Style}
 use Rattle.usb_drawing.specs.Drawings.{drawing_lines}
 

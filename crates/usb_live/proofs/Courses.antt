@@ -4,7 +4,7 @@ use Rattle.std.proofs.Common.{Option, Some, None, Result, Ok, Err, refl, sym, ap
 use Rattle.std.proofs.Common.{Bool, is_ok, true, false, nat_lt, if◌then◌else◌}
 use Rattle.std.proofs.lemmas.Bool.{cases_lt}
 use Rattle.std.proofs.lemmas.Grind.{not_there}
-use Rattle.usb_run.specs.{usual_options}
+use Rattle.usb_run.specs.{Item, Listing, lines_text, listing_lines, number_of, usual_options}
 use Rattle.usb_port.specs.{PortCall}
 use Rattle.usb_world.specs.{BusFault, Destination, Outcome, destination_of}
 use Rattle.usb_world.specs.declared.types.Attempt.{Attempt}
@@ -13,7 +13,6 @@ use Rattle.usb_wire.specs.{Answer, Question}
 use Rattle.usb_wire.specs.declared.answer.Answer.TheVariants as answer
 use Rattle.usb_wire.specs.declared.question.Question.TheVariants.{Hello, Wait, Port}
 use Rattle.usb_lines.specs.{OutPipe, Pipe}
-use Rattle.usb_run.specs.{Item, Listing, number_of}
 use Rattle.usb_stream.specs.{AsksNoQuestion, AsksOnce, AttemptsByLine, AttemptsBy, Calls, Kept}
 use Rattle.usb_stream.specs.{Restarts, restart_of}
 use Rattle.usb_stream.specs.{SaysHello, WritesLines, bus_fault, greeted, kept_of, question_for}
@@ -25,7 +24,6 @@ use Rattle.usb_bus.specs.{RowDone, RowEnd, Whole, Answered, Faulted}
 use Rattle.usb_packet.specs.{Toggle}
 use Rattle.std.proofs.Common.{length}
 use Rattle.std.specs.Int.{div_ceil}
-use Rattle.usb_run.specs.{lines_text, listing_lines}
 use Rattle.usb_live.specs.{LiveCourse, LiveHost, CourseTo, EndsBy, EndsLiveAs, IsShown}
 use Rattle.usb_live.specs.{StandsAtStage, Lives, is_nothing, is_wait, listed, owed_by, owed_left}
 use Rattle.usb_live.specs.{owes, questions_in, settles, stage_behind, stage_behind_answer}

@@ -3,20 +3,18 @@ use Rattle.std.specs.Prelude.{◌≡◌, ⊤, ℕ, ◌+◌, ◌≤◌, ◌==◌,
 use Rattle.std.specs.Prelude.{List, [], length, Option, Some, None, Result, Ok, Err}
 use Rattle.std.specs.Global.{Vec}
 use Rattle.std.specs.Str.{bytes_eq}
-use Rattle.usb_run.specs.{HostOptions, usual_options}
-use Rattle.usb_run.specs.{At, EndpointChoice, Entries, FirstBulk, TransferFault}
-use Rattle.usb_run.specs.{lines_text, listing_lines}
+use Rattle.usb_run.specs.{Agrees, At, Done, EndpointChoice, Entries, FirstBulk, HostOptions, Item}
+use Rattle.usb_run.specs.{Listing, Looked, Polled, Quiet, Received, Round, Sent, Task, TaskEnd}
+use Rattle.usb_run.specs.{TransferFault, Worked, item_lines, lines_text, listing_lines, number_of}
+use Rattle.usb_run.specs.{usual_options}
 use Rattle.usb_wire.specs.{Answer, Question}
 use Rattle.usb_wire.specs.declared.answer.Answer.TheVariants as answer
 use Rattle.usb_wire.specs.declared.question.Question.TheVariants.{Hello, Wait}
-use Rattle.usb_run.specs.{Agrees, Round, Quiet, Worked}
 use Rattle.usb_bus.specs.{RowDone}
 use Rattle.usb_packet.specs.{Toggle}
 use Rattle.usb_world.specs.{Destination}
 use Rattle.usb_lines.specs.{OutPipe, Pipe}
 use Rattle.usb_resources.specs.{Addresses}
-use Rattle.usb_run.specs.{Done, Item, Listing, Looked, Polled, Received, Sent, Task, TaskEnd}
-use Rattle.usb_run.specs.{item_lines, number_of}
 use Rattle.usb_run.specs.declared.item.Item.TheVariants as item
 use Rattle.usb_run.specs.declared.item.Task.TheVariants as task
 use Rattle.usb_stream.specs.{AskedWell, AsksNoQuestion, AsksOnce, InsByLine, Kept, OutsByLine}

@@ -7,11 +7,11 @@ use Rattle.usb_world.specs.{after_event}
 use Rattle.usb_world.specs.declared.event.Action.TheVariants as act
 use Rattle.usb_world.specs.declared.event.Change.TheVariants as change
 use Rattle.usb_world.specs.declared.event.Ask.{Ask}
-use Rattle.usb_run.specs.{HostState, opening_host as host_opening, repowered, usual_options}
+use Rattle.usb_run.specs.{Arrives, EndsWell, HostState, LimitReached, Mode, Ran, Reaches}
+use Rattle.usb_run.specs.{TraceFailed, Tree, idle, opening_host as host_opening, repowered, silent}
+use Rattle.usb_run.specs.{usual_options}
 use Rattle.usb_plan.specs.{PlanFault, spelled_plan}
 use Rattle.usb_plan.specs.declared.fault.PlanFault.TheVariants as plan_fault
-use Rattle.usb_run.specs.{LimitReached, TraceFailed, Mode, Tree, Arrives, Ran, idle, silent}
-use Rattle.usb_run.specs.{Reaches, EndsWell}
 use Rattle.usb_serve.specs.{ServeFault, IsServed, IsUnread, IsWritten, of_plan, unread}
 use Rattle.usb_serve.specs.declared.serving.ServeFault.TheVariants as serve
 

@@ -9,11 +9,11 @@ use Rattle.std.proofs.KnownBytes.{Appends-nil, Appends-trans}
 use Rattle.usb_bus.specs.{AppendsFront, PutsText}
 use Rattle.usb_bus.proofs.Interface.{front_after_first}
 use Rattle.usb_world.specs.{PlanData, to_come}
-use Rattle.usb_run.specs.{HostState}
+use Rattle.usb_run.specs.{Answer, AppendsText, CutsText, HostState, Item, Knows, Listing, Mode}
+use Rattle.usb_run.specs.{Next, Opens, RunFault, RunsTo, StoppedRun, Tree, begun, behind}
+use Rattle.usb_run.specs.{item_lines, item_text, items_left, items_text, listings, never, number_of}
+use Rattle.usb_run.specs.{shown}
 use Rattle.usb_plan.specs.{bound_of}
-use Rattle.usb_run.specs.{Answer, AppendsText, CutsText, Item, Knows, Listing, Mode, Next, Opens}
-use Rattle.usb_run.specs.{RunFault, RunsTo, Tree, begun, behind, item_lines, item_text, items_left}
-use Rattle.usb_run.specs.{StoppedRun, items_text, listings, never, number_of, shown}
 use Rattle.usb_run.specs.declared.item.Item.TheVariants.{News}
 use Rattle.usb_run.specs.declared.runs.RunFault.TheVariants as run
 use Rattle.usb_run.specs.declared.mode.Mode.TheVariants.{Run}

@@ -1,9 +1,8 @@
 -- What serves a plan of at most 127 plugs whose limit is its bound never tells its limit.
 use Rattle.std.proofs.Common.{◌≢◌, ◌≤◌, ℕ, subst, inl, inr, List, Option, Result, Err, IfErr}
 use Rattle.usb_world.specs.{PlanData}
-use Rattle.usb_run.specs.{plug_events}
+use Rattle.usb_run.specs.{LimitReached, Mode, Tree, never, plug_events}
 use Rattle.usb_plan.specs.{bound_of}
-use Rattle.usb_run.specs.{LimitReached, Mode, Tree, never}
 use Rattle.usb_run.specs.declared.mode.Mode.TheVariants.{Run}
 use Rattle.usb_serve.specs.{ServeFault, IsWritten, IsCausedInRun, IsCausedInTree, at_write, of_run}
 use Rattle.usb_serve.specs.declared.serving.ServeFault.TheVariants as serve

@@ -4,11 +4,10 @@ use Rattle.std.specs.Prelude.{Bool, true, false, Result, Ok, Err, IsErrOf, IfErr
 use Rattle.std.specs.Io.KnownBytes.{Appends}
 use Rattle.usb_world.specs.{PlanData}
 use Rattle.usb_bus.specs.{AppendsFront}
-use Rattle.usb_run.specs.{HostState, plug_events}
+use Rattle.usb_run.specs.{HostState, Item, LimitReached, ListsRight, Mode, Opens, RunsTo, Tree}
+use Rattle.usb_run.specs.{item_lines, items_text, plug_events}
 use Rattle.usb_plan.specs.{PlanFault, bound_of, spelled_plan}
 use Rattle.usb_plan.specs.declared.fault.PlanFault.TheVariants as plan
-use Rattle.usb_run.specs.{Item, LimitReached, Mode, Tree, ListsRight, Opens, RunsTo, item_lines}
-use Rattle.usb_run.specs.{items_text}
 use Rattle.usb_run.specs.declared.mode.Mode.TheVariants.{Run}
 use Rattle.usb_serve.specs.declared.serving.ServeFault.{ServeFault}
 use Rattle.usb_serve.specs.declared.serving.ServeFault.TheVariants as serve
