@@ -33,9 +33,9 @@ use Rattle.usb_host.specs.{Forgets, Agrees, HostState, HasLost, HasPlugs, KeepsP
 use Rattle.usb_host.specs.{WasPlugged, is_plug, plug_events, EntersOne, HostSteps, OnlyBusSteps}
 use Rattle.usb_host.specs.{ClearsAndReads, DoneWhere}
 use Rattle.usb_host.proofs.StepSums.{went_before}
-use Rattle.usb_host.proofs.entries.Agreements.{lookup-insert_entry_elsewhere}
-use Rattle.usb_host.proofs.entries.Balances.{accounts_listed, one_when, lookup-insert_entry_here}
-use Rattle.usb_host.proofs.devices.BulkPipes.{accepted_device_of-some}
+use Rattle.usb_host.proofs.entries.Agreements.{lookup-insert_entry_elsewhere, accounts_listed}
+use Rattle.usb_host.proofs.entries.Agreements.{one_when, lookup-insert_entry_here}
+use Rattle.usb_host.proofs.devices.Pipes.{accepted_device_of-some}
 use Rattle.usb_host.proofs.knowledge.Places.{finding-dropped, finding-kept, finding-none}
 
 -- Of some element
@@ -60,21 +60,17 @@ module _ {X : Type 0} (P : X → Type 0) where
 
   any_taken : (m n : ℕ) (xs : List X) → m ≤ n → Any P (take m xs) → Any P (take n xs)
   any_taken (suc m) zero (x ∷ xs) le a = absurd (omega arith)
-  any_taken (suc m) (suc n) (x ∷ xs) le a =
-      pick (any_taken m n xs (omega arith)) (any_cases x (take m xs) a)
-    where
-      pick : (Any P (take m xs) → Any P (take n xs)) → P x ⊎ Any P (take m xs)
-          → Any P (x ∷ take n xs)
-      pick on (inl so) = any_first x (take n xs) so
-      pick on (inr more) = any_later x (take n xs) (on more)
+  any_taken (suc m) (suc n) (x ∷ xs) le a = elim (any_cases x (take m xs) a) [
+    | inl so ↦ any_first x (take n xs) so
+    | inr more ↦ any_later x (take n xs) (any_taken m n xs (omega arith) more)
+  ]
   any_taken _ n _ le a = absurd (any_none a)
 
   any_all : (n : ℕ) (xs : List X) → Any P (take n xs) → Any P xs
-  any_all (suc n) (x ∷ xs) a = pick (any_all n xs) (any_cases x (take n xs) a)
-    where
-      pick : (Any P (take n xs) → Any P xs) → P x ⊎ Any P (take n xs) → Any P (x ∷ xs)
-      pick on (inl so) = any_first x xs so
-      pick on (inr more) = any_later x xs (on more)
+  any_all (suc n) (x ∷ xs) a = elim (any_cases x (take n xs) a) [
+    | inl so ↦ any_first x xs so
+    | inr more ↦ any_later x xs (any_all n xs more)
+  ]
   any_all _ _ a = absurd (any_none a)
 
 abbrev AtPath : List ℕ → Event → Type 0
@@ -215,15 +211,11 @@ plug_later q a more false has = has
 plug_among : (es : Entries) (path : List ℕ) (events : List Event) → Any (AtPath path) events
     → list_any (eqb (address_or es path)) (plug_addresses es events) ≡ true
 plug_among es path [] a = absurd (any_none (AtPath path) a)
-plug_among es path (e ∷ events) a = pick (plug_among es path events)
-    (any_cases (AtPath path) e events a)
-  where
-    pick : (Any (AtPath path) events → list_any (eqb (address_or es path))
-        (plug_addresses es events) ≡ true) → PlugsAt path e.action ⊎ Any (AtPath path) events
-        → list_any (eqb (address_or es path)) (plug_addresses es (e ∷ events)) ≡ true
-    pick among (inl is) = plug_here es path e.action (plug_addresses es events) is
-    pick among (inr more) = plug_later (address_or es path) (plug_address es e.action)
-        (plug_addresses es events) (is_plug e.action) (among more)
+plug_among es path (e ∷ events) a = elim (any_cases (AtPath path) e events a) [
+  | inl is ↦ plug_here es path e.action (plug_addresses es events) is
+  | inr more ↦ plug_later (address_or es path) (plug_address es e.action)
+      (plug_addresses es events) (is_plug e.action) (plug_among es path events more)
+]
 
 device_there : (o : Option Finding) {a : ℕ} → address_in o ≡ Some a → (device : Accepted)
     × (accepted_device_of o ≡ Some device)
@@ -309,11 +301,10 @@ plugs_rests a b went r = plugs_kept a b went.spends.onward (ap (λ (h : HostStat
 
 was_listed : (first path : List ℕ) (es : Entries) (f : Finding) → finding_at path (without first es)
     ≡ Some f → finding_at path es ≡ Some f
-was_listed first path es f at = pick (decided (is_way first path))
-  where
-    pick : (is_way first path ≡ true) ⊎ (is_way first path ≡ false) → finding_at path es ≡ Some f
-    pick (inl way) = absurd (cc (finding-dropped first path es way, at))
-    pick (inr away) = sym (finding-kept first path es away) ∙ at
+was_listed first path es f at = elim (decided (is_way first path)) [
+  | inl way ↦ absurd (cc (finding-dropped first path es way, at))
+  | inr away ↦ sym (finding-kept first path es away) ∙ at
+]
 
 -- what was found at a port and below it is forgotten
 pub plugs_forgot : {n : ℕ} {path : List ℕ} {a b c : HostState} → HostSteps n a c

@@ -23,7 +23,7 @@ use Rattle.usb_table.specs.{supply_at, ListsEach, Matches}
 use Rattle.usb_table.proofs.Interface.{FoundPort, port_found-some}
 use Rattle.usb_host.specs.{PortsListed, known_supply, IsTruthOf, DevicesAccurate, RefusalsJustified}
 use Rattle.usb_host.specs.{Accounted, IsAtRest}
-use Rattle.usb_host.proofs.entries.Balances.{claims_distinct, claims_taken}
+use Rattle.usb_host.proofs.entries.Agreements.{claims_distinct, claims_taken}
 
 -- A reachable device stands
 

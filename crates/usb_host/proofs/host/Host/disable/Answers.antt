@@ -4,14 +4,14 @@ use Rattle.usb_host.proofs.PortLocations.{placed}
 use Rattle.std.proofs.Common.{refl, subst, sym, IsSome, Ok, arith, rules}
 use Rattle.usb_host.specs.{HostState, counts_of}
 use Rattle.usb_hub.proofs.Interface.{keeps_devices_none, clear_works}
-use Rattle.usb_host.proofs.OwnedPorts.{none_disabled, cleared_enable_disabled, port_failed}
+use Rattle.usb_host.proofs.devices.Owners.{none_disabled, cleared_enable_disabled, port_failed}
 use Rattle.usb_host.proofs.devices.Causes.{told_caused, untold_caused}
-use Rattle.usb_host.proofs.knowledge.DroppedHubs.{fault_after-no_bus, told_backlog, told_dropped}
-use Rattle.usb_host.proofs.knowledge.DroppedHubs.{untold_droppable, nowhere_dropped}
+use Rattle.usb_host.proofs.knowledge.HandledPorts.{fault_after-no_bus, told_backlog, told_dropped}
+use Rattle.usb_host.proofs.knowledge.HandledPorts.{untold_droppable, nowhere_dropped}
 use Rattle.usb_enum.proofs.Interface.{order_most}
 use Rattle.usb_host.proofs.StepSums.{goes_by, host_goes_none}
 use Rattle.usb_host.proofs.BusCounts.{counts_last, counts_spend}
-use Rattle.usb_host.proofs.WorkingBuses.{other_works}
+use Rattle.usb_host.proofs.Transfers.{other_works}
 use Rattle.std.proofs.lemmas.Grind.{common_steps}
 use Rattle.usb_request.specs.{PORT_ENABLE}
 use Rattle.usb_port.specs.{ClearEnable}

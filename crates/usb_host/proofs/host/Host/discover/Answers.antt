@@ -1,18 +1,17 @@
 use Rattle.std.proofs.Common.{arith, rules, ◌≡◌, ◌∙◌, Err, ap, refl, subst, sym}
 use Rattle.std.proofs.lemmas.Grind.{common_steps}
-use Rattle.usb_host.proofs.PortParts.{port_enters}
-use Rattle.usb_host.proofs.StepSums.{handed_is}
+use Rattle.usb_host.proofs.PartCalls.{port_enters}
+use Rattle.usb_host.proofs.StepSums.{handed_is, askable_wide}
 use Rattle.std.proofs.lemmas.Option.{same_Some}
 use Rattle.usb_table.specs.{KnownPort, Table}
 use Rattle.usb_host.specs.{IsFoundAt}
-use Rattle.usb_host.proofs.entries.Agreements.{nested_entered, rises_entered}
-use Rattle.usb_host.proofs.entries.Balances.{accounts_entered, range_claimed}
-use Rattle.usb_host.proofs.PortLooks.{discover_done, discover_fails, discover_lost}
+use Rattle.usb_host.proofs.entries.Agreements.{nested_entered, rises_entered, accounts_entered}
+use Rattle.usb_host.proofs.entries.Agreements.{range_claimed}
+use Rattle.usb_host.proofs.PortServes.{discover_done, discover_fails, discover_lost}
 use Rattle.usb_host.proofs.PortLocations.{placed}
 use Rattle.usb_host.proofs.BusCounts.{counts_spend, counts_told}
 use Rattle.usb_enum.proofs.Interface.{enumeration_most}
-use Rattle.usb_host.proofs.devices.Enumerations.{askable_wide}
-use Rattle.usb_host.proofs.entries.FoundEntries.{found_entered}
+use Rattle.usb_host.proofs.entries.KeptBytes.{found_entered}
 use Rattle.usb_host.proofs.arrivals.KeptNumbers.{keeps_by, keeps_entered, keeps_none}
 use Rattle.usb_host.proofs.host.Host.discover.Goals as goal
 

@@ -2,7 +2,7 @@ use Rattle.std.proofs.Common.{refl}
 use Rattle.usb_host.proofs.PortRequests.{shows}
 use Rattle.usb_host.proofs.BusCounts.{counts_spend, counts_told}
 use Rattle.usb_enum.proofs.Interface.{status_most, ports_reported}
-use Rattle.usb_host.proofs.devices.Enumerations.{askable_wide}
+use Rattle.usb_host.proofs.StepSums.{askable_wide}
 use Rattle.usb_host.proofs.host.Host.status.Goals as goal
 
 pub returns-clause-shows : goal.returns-clause-shows

@@ -1,29 +1,72 @@
--- How the parts of a port's handling make up what was done at the port.
-use Rattle.std.proofs.Common.{◌≡◌, ◌∙◌, inl, inr, refl, sym, ap, arith, length, length-append, ◌<◌}
-use Rattle.std.proofs.Common.{◌≤◌, not, cond, Bool, true, false, ℕ, ◌+◌, List, [], ◌∷◌, ◌++◌, Some}
-use Rattle.std.proofs.Common.{Result, Ok, Err, OnOk, OnErr, MatchResult}
+-- What is done at the ports, and what is left where the host stopped.
+use Rattle.std.proofs.Common.{◌≡◌, ◌∙◌, refl, sym, arith, true, false, ℕ, ◌+◌, ◌≤◌, ◌/◌, ◌%◌, ◌^◌}
+use Rattle.std.proofs.Common.{◌≢◌, bit_and, List, Ok, Err, OnOk, Result, inl, inr, ap, length}
+use Rattle.std.proofs.Common.{length-append, ◌<◌, not, cond, Bool, [], ◌∷◌, ◌++◌, Some, OnErr}
+use Rattle.std.proofs.Common.{MatchResult, None}
+use Rattle.std.proofs.lemmas.Bool.{eq-eqb, ne_eqb}
+use Rattle.std.proofs.lemmas.Nat.{and_mask}
+use Rattle.usb_port.specs.{has_bit, path_cmp, parent_of, port_on_hub, IsPath, IsPortNumber}
+use Rattle.usb_port.specs.{is_reset, PortCall, PortStatus}
+use Rattle.usb_world.specs.{World}
+use Rattle.usb_pipe.specs.{FaultAfter, PipeFault}
+use Rattle.usb_pipe.specs.declared.fault.PipeFault.TheVariants as pipe
+use Rattle.usb_host.specs.{BitsHandledSo, HostFault, OwnServed, ReportHandled, own_reported}
+use Rattle.usb_host.specs.{ports_reported, HostState, HandledSo, claims, HasLost, IsOwned, Watches}
+use Rattle.usb_host.specs.{EndsAs, StandsAt, HostProgress, HostSteps, OnlyBusSteps, HostInvariant}
+use Rattle.usb_host.specs.{DoneWhere, EndsAt, ForgetsOnWay, HandlesAt, LookedOnce, LookedOrLost}
+use Rattle.usb_host.specs.{LosesParent, Renews, ServedAt, ServedOrLost, StaysOrForgets, TidiesTold}
+use Rattle.usb_host.specs.{was_tidied, was_looked_at, was_lost, looked_once, lost_once, CutAt}
+use Rattle.usb_host.specs.{StaysWhere}
 use Rattle.std.specs.BTreeMap.{insert_entry}
-use Rattle.usb_port.specs.{path_cmp, parent_of, port_on_hub, IsPath, IsPortNumber, is_reset}
-use Rattle.usb_port.specs.{PortCall, PortStatus}
 use Rattle.usb_port.proofs.Interface.{parent, rejoined}
 use Rattle.usb_tree.specs.{is_way}
-use Rattle.usb_world.specs.{World}
-use Rattle.usb_world.proofs.Interface.{at_or_below_way, way_parent, way_trans}
+use Rattle.usb_world.proofs.Interface.{at_or_below_way, way_parent, way_trans, way_itself}
 use Rattle.usb_address.specs.{AddressMap, MapHolds, WhileBusWorks}
 use Rattle.usb_hub.specs.{HubPort, IsAt, CommandsPort, PortCallDone, PortStatusAt}
 use Rattle.usb_enum.specs.{EnumFault, ParentLost, Bus, Memory, Lost, Finding}
 use Rattle.usb_enum.specs.declared.finding.Finding.TheVariants.{Refused}
 use Rattle.usb_table.specs.{KnownPort, Entries, is_at_or_below, without}
-use Rattle.usb_host.specs.{HandledSo, HostState, claims, HasLost, IsOwned, Watches, EndsAs}
-use Rattle.usb_host.specs.{StandsAt, HostProgress, HostSteps, OnlyBusSteps, HostInvariant}
-use Rattle.usb_host.specs.{DoneWhere, EndsAt, ForgetsOnWay, HandlesAt, LookedOnce, LookedOrLost}
-use Rattle.usb_host.specs.{LosesParent, Renews, ServedAt, ServedOrLost, StaysOrForgets, TidiesTold}
-use Rattle.usb_host.specs.{was_tidied, was_looked_at, was_lost, looked_once, lost_once, HostFault}
-use Rattle.usb_host.proofs.OwnedPorts.{owned_rests}
-use Rattle.usb_host.proofs.StepSums.{host_rests_then}
-use Rattle.usb_host.proofs.knowledge.ServedPorts.{rests_stands}
+use Rattle.usb_host.proofs.devices.Owners.{owned_rests}
+use Rattle.usb_host.proofs.StepSums.{host_rests_then, went_before}
+use Rattle.usb_host.proofs.knowledge.HandledPorts.{rests_stands}
 use Rattle.usb_host.proofs.knowledge.SettledListings.{port_number}
 use Rattle.usb_host.proofs.PortLocations.{stands_at-claim}
+use Rattle.usb_host.proofs.devices.Pipes.{AllStay, stays_where, where_joined}
+
+-- How what a hub reported is handled.
+
+-- A bit of a byte
+
+pub bit_so : (bits n : ℕ) → bit_and (bits / 2 ^ n) 1 ≡ 1 → has_bit bits n ≡ true
+unfolding has_bit
+bit_so bits n is = eq-eqb (bits / 2 ^ n % 2) 1 (sym (and_mask (bits / 2 ^ n) 1) ∙ is)
+
+pub bit_not : (bits n : ℕ) → bit_and (bits / 2 ^ n) 1 ≢ 1 → has_bit bits n ≡ false
+unfolding has_bit
+bit_not bits n not = ne_eqb (bits / 2 ^ n % 2) 1 (λ is. not (and_mask (bits / 2 ^ n) 1 ∙ is))
+
+-- a poll that failed took an attempt, where it was not the bus that failed
+pub failed_more : (old new : World) (fault : PipeFault) → ((told : _) → fault ≡ pipe.Bus told → ⊥)
+    → FaultAfter 0 old fault new → old.attempts + 1 ≤ new.attempts
+failed_more old new pipe.Broken other x = absurd x
+failed_more old new (pipe.Bus told) other x = absurd (other told refl)
+failed_more old new _ other x = omega (arith, x.least)
+
+-- What a hub reported is handled
+
+pub own_reports : (hub : List ℕ) (bits : ℕ) (result : Result (Unit {0}) HostFault)
+    (old new : HostState) → bits ≡ 1 → OnOk result (OwnServed hub old new)
+    → OnOk result (ReportHandled hub bits old new)
+own_reports hub bits (Ok done) old new is own = own_reported is own
+own_reports hub bits (Err fault) old new is own = tt
+
+pub ports_report : (hub : List ℕ) (bits : ℕ) (result : Result (Unit {0}) HostFault)
+    (old new : HostState) → bits ≢ 1 → OnOk result (BitsHandledSo hub bits 16 old new)
+    → OnOk result (ReportHandled hub bits old new)
+ports_report hub bits (Ok done) old new other ports = ports_reported other ports
+ports_report hub bits (Err fault) old new other ports = tt
+
+-- How the parts of a port's handling make up what was done at the port.
 
 -- Requests
 
@@ -191,3 +234,83 @@ pushed_part hub number least is =
       rw last (port_number (hub ++ (number ∷ [])) is),
       omega (arith, is.1),
     )
+
+-- What is left at a port where the host stopped.
+
+pub on_errors : {A E : Type 0} (result : Result A E) (P : Type 0) → P → OnErr result P
+on_errors (Ok done) P p = tt
+on_errors (Err why) P p = p
+
+-- the host stopped after a part
+pub cut_after : (So : Type 0) {a b : HostState} (c : HostState)
+    (result : Result (Unit {0}) EnumFault) → AllStay a b → OnErr result (StaysWhere So b c)
+    → OnErr result (StaysWhere So a c)
+cut_after So c (Ok done) first last = tt
+cut_after So {a = a} {b = b} c (Err fault) first last =
+    where_joined a b c (λ so. so) (stays_where a b first) last
+
+-- Entries
+
+-- nothing is forgotten, or what stood at the path
+pub forgets_there : (path : List ℕ) {old new : Entries} → StaysOrForgets path old new
+    → ForgetsOnWay path old new
+forgets_there path x = record { on = path; way = way_itself path; left = x }
+
+-- what stood at a path, and then on its way
+forgets_then : (path : List ℕ) (old : Entries) {mid new : Entries} → StaysOrForgets path old mid
+    → ForgetsOnWay path mid new → ForgetsOnWay path old new
+forgets_then path old (inl same) x = rw same at x
+forgets_then path old {mid = mid} {new = new} (inr gone) x = pick x.left
+  where
+    pick : StaysOrForgets x.on mid new → ForgetsOnWay path old new
+    pick (inl same) = forgets_there path (inr (same ∙ gone))
+    pick (inr went) = record {
+      on = x.on;
+      way = x.way;
+      left = inr (went ∙ ap (λ (es : Entries). without x.on es) gone ∙ without-way x.on path x.way
+          old);
+    }
+
+pub served_left : (path : List ℕ) (served : Result (Unit {0}) EnumFault) (a b : HostState)
+    → ServedOrLost path a served b → OnErr served (StaysOrForgets path a.entries b.entries)
+served_left path (Ok done) a b x = tt
+served_left path (Err fault) a b x = x
+
+pub looked_left : (path : List ℕ) (looked : Result (Unit {0}) EnumFault) (a b : HostState)
+    → LookedOrLost path a looked b → OnErr looked (StaysOrForgets path a.entries b.entries)
+looked_left path (Ok done) a b x = tt
+looked_left path (Err fault) a b x = x
+
+cut_entries : (path : List ℕ) (served : Result (Unit {0}) EnumFault) (fault : HostFault)
+    (a b d : HostState) → EndsAs served (Err fault) → EndsAt path served b (Err fault) d
+    → OnErr served (StaysOrForgets path a.entries b.entries)
+    → ForgetsOnWay path a.entries d.entries
+cut_entries path (Ok done) fault a b d ends left x = absurd (cc ends)
+cut_entries path (Err ParentLost) fault a b d ends left x = forgets_then path a.entries x left
+cut_entries path (Err (Bus why)) fault a b d ends left x = rw left (forgets_there path x)
+cut_entries path (Err Memory) fault a b d ends left x = rw left (forgets_there path x)
+
+-- Bulk pipes
+
+cut_bulk : (n : ℕ) (served : Result (Unit {0}) EnumFault) (fault : HostFault) (a b d : HostState)
+    → HostSteps n b d → EndsAs served (Err fault)
+    → OnErr served (StaysWhere (b.world.fault ≡ None) a b)
+    → StaysWhere (d.world.fault ≡ None) b d → StaysWhere (d.world.fault ≡ None) a d
+cut_bulk n (Ok done) fault a b d went ends x y = absurd (cc ends)
+cut_bulk n (Err why) fault a b d went ends x y =
+    where_joined a b d (λ still. went_before went still) x y
+
+-- A port was served, and its hub dropped where that was lost; one of them failed
+
+pub port_cut : {n : ℕ} (path : List ℕ) (served : Result (Unit {0}) EnumFault)
+    (result : Result (Unit {0}) HostFault) (a b d : HostState) → HostSteps n b d
+    → EndsAs served result → EndsAt path served b result d
+    → (HostInvariant a → OnErr served (StaysOrForgets path a.entries b.entries))
+    → (HostInvariant a → OnErr served (StaysWhere (b.world.fault ≡ None) a b))
+    → (HostInvariant a → OnErr result (StaysWhere (d.world.fault ≡ None) b d))
+    → OnErr result (HostInvariant a → CutAt path a d)
+port_cut path served (Ok done) a b d went ends left entries first last = tt
+port_cut {n = n} path served (Err fault) a b d went ends left entries first last = λ i. record {
+  entries = cut_entries path served fault a b d ends left (entries i);
+  bulk = cut_bulk n served fault a b d went ends (first i) (last i);
+}
