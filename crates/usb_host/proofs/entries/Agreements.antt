@@ -207,12 +207,11 @@ found_away q path f (e ∷ es) away found =
       | inr off ↦ found_away q path f es parts.1 (rw off at found)
     ]
 
-pub is_at-outside : (hub path : List ℕ) → is_at_or_below hub path ≡ false → (b : Bool)
-    → is_at (path_cmp hub) path ≡ b → b ≡ false
-is_at-outside hub path away true tie =
-    let same : pointwise nat_eq hub path ≡ true = texts_ties hub path ∙ tie in
-    absurd (cc (same, (neither (pointwise nat_eq hub path) (is_below hub path) away).0))
-is_at-outside _ _ _ false _ = refl
+pub is_at-outside : (hub path : List ℕ) → is_at_or_below hub path ≡ false
+    → is_at (path_cmp hub) path ≡ false
+is_at-outside hub path away =
+    sym (texts_ties hub path)
+    ∙ (neither (pointwise nat_eq hub path) (is_below hub path) away).0
 
 -- a port of a hub that stands elsewhere is known as before
 known_entered_by : (q path : List ℕ) (f : Finding) (es : Entries)
@@ -230,13 +229,15 @@ pub known_entered : (q path : List ℕ) (f : Finding) (es : Entries)
     → known_port q (insert_entry path_cmp es path f) ≡ known_port q es
 known_entered q path f es apart = known_entered_by q path f es apart _ refl
 
-pub shorter_apart : (path hub : List ℕ) → parent_of path ≡ Some hub → (b : Bool)
-    → is_at (path_cmp hub) path ≡ b → b ≡ false
-shorter_apart path hub is true tie =
-    let long : length path ≡ length hub + 1 = ap length (rejoined path _ is) ∙ length-append hub
-    (port_on_hub path ∷ []) in
-    absurd (omega (arith, ap length (path_tied hub path tie)))
-shorter_apart _ _ _ false _ = refl
+pub shorter_apart : (path hub : List ℕ) → parent_of path ≡ Some hub
+    → is_at (path_cmp hub) path ≡ false
+shorter_apart path hub is = elim (decided (is_at (path_cmp hub) path)) [
+  | inl tie ↦
+      let long : length path ≡ length hub + 1 =
+      ap length (rejoined path _ is) ∙ length-append hub (port_on_hub path ∷ []) in
+      absurd (omega (arith, ap length (path_tied hub path tie)))
+  | inr apart ↦ apart
+]
 
 pub nested_entered : (path : List ℕ) (f : Finding) {es : Entries} → IsPath path
     → has_at path es ≡ false → IsSome (known_port path es) → Nested es
@@ -247,12 +248,12 @@ nested_entered path f {es = es} is away known n = record {
     | inr off ↦ n.path q g (sym (lookup-insert_entry_elsewhere q path f es off) ∙ found)
   ];
   each = λ q g found. elim (decided (is_at (path_cmp q) path)) [
-    | inl tie ↦ rw (path_tied q path tie) (rw (known_entered path path f es
-        (λ _ is. shorter_apart path _ is _ refl)) known)
+    | inl tie ↦
+        rw (path_tied q path tie) (rw (known_entered path path f es (shorter_apart path)) known)
     | inr off ↦
         let there = sym (lookup-insert_entry_elsewhere q path f es off) ∙ found in
         rw (known_entered q path f es (λ hub is. is_at-outside hub path
-        (hub_away q _ path is (found_away q path g es away there)) _ refl)) (n.each q g there)
+        (hub_away q _ path is (found_away q path g es away there)))) (n.each q g there)
   ];
 }
 
@@ -634,13 +635,14 @@ lookup-insert_entry_here path f [] = rw (path_itself path) refl
 lookup-insert_entry_here path f (e ∷ es) =
     here_step path e es (lookup-insert_entry_here path f es) (path_cmp path e.0) refl
 
-is_at-same_path : (path x : List ℕ) → same_path path x ≡ false → (b : Bool)
-    → is_at (path_cmp x) path ≡ b → b ≡ false
-is_at-same_path path x other true tie =
-    let same : same_path path x ≡ true = subst (λ (r : List ℕ). same_path r x ≡ true)
-    (path_tied x path tie) (self_path x) in
-    absurd (cc (same, other))
-is_at-same_path _ x _ false _ = refl
+is_at-same_path : (path x : List ℕ) → same_path path x ≡ false → is_at (path_cmp x) path ≡ false
+is_at-same_path path x other = elim (decided (is_at (path_cmp x) path)) [
+  | inl tie ↦
+      let same : same_path path x ≡ true = subst (λ (r : List ℕ). same_path r x ≡ true)
+      (path_tied x path tie) (self_path x) in
+      absurd (cc (same, other))
+  | inr apart ↦ apart
+]
 
 entered_by : (path : List ℕ) (f : Finding) (es : Entries) (x : List ℕ) (b : Bool)
     → same_path path x ≡ b → claims (insert_entry path_cmp es path f) x
@@ -648,8 +650,7 @@ entered_by : (path : List ℕ) (f : Finding) (es : Entries) (x : List ℕ) (b : 
 entered_by path f es x true same = rw (same_is path x same)
     (ap address_in (lookup-insert_entry_here path f es))
 entered_by path f es x false other =
-    ap address_in (lookup-insert_entry_elsewhere x path f es
-    (is_at-same_path path x other _ refl))
+    ap address_in (lookup-insert_entry_elsewhere x path f es (is_at-same_path path x other))
 
 pub claims-device : (path : List ℕ) (device : Accepted) (es : Entries) (x : List ℕ)
     → claims (insert_entry path_cmp es path (Device device)) x ≡ after_taking (claims es) path

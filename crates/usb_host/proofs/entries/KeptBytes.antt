@@ -64,16 +64,15 @@ module _ {options : HostOptions} (path : List ℕ) (f : Finding) {es : Entries}
       let same : q ≡ path = path_tied q path tie in
       let is : f ≡ g = same_Some f g (sym (lookup-insert_entry_here path f es) ∙ subst (λ r.
       lookup (is_at (path_cmp r)) (insert_entry path_cmp es path f) ≡ Some g) same found) in
-      let there : known_port path es ≡ Some port = sym (known_entered path path f es (λ hub above.
-      shorter_apart path hub above (is_at (path_cmp hub) path) refl)) ∙ subst (λ r. known_port r
+      let there : known_port path es ≡ Some port = sym (known_entered path path f es
+      (shorter_apart path)) ∙ subst (λ r. known_port r
       (insert_entry path_cmp es path f) ≡ Some port) same at in
       subst (λ r. IsFoundAt options r port g) (sym same)
       (subst (λ h. IsFoundAt options path port h) is (own port there))
   entered q g port false tie found at =
       let there = sym (lookup-insert_entry_elsewhere q path f es tie) ∙ found in
       w.each q g port there (sym (known_entered q path f es (λ hub above. is_at-outside hub
-      path (hub_away q hub path above (found_away q path g es away there)) (is_at
-      (path_cmp hub) path) refl)) ∙ at)
+      path (hub_away q hub path above (found_away q path g es away there)))) ∙ at)
 
   pub found_entered : AreFound options (insert_entry path_cmp es path f)
   found_entered = record {
@@ -155,7 +154,11 @@ counted ((path, Device device) ∷ es) a is = by (counted es a) (eqb a device.ad
         → 1 ≤ of_kind (has_address a) ((path, Device device) ∷ es)
     by rest true same found =
         let equal = eqb-true a device.address same in
-        omega (arith, of_kind-cons (has_address a) (path, Device device) es, one_of device.address a equal)
+        omega (
+          arith,
+          of_kind-cons (has_address a) (path, Device device) es,
+          one_of device.address a equal,
+        )
     by rest false other found =
         omega (arith, of_kind-cons (has_address a) (path, Device device) es, rest found)
 

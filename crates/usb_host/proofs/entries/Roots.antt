@@ -1,7 +1,7 @@
 -- Entries stand below the ports of the root.
-use Rattle.std.proofs.Common.{◌≡◌, refl, sym, ap, subst, ℕ, ◌≤◌, Bool, true, false, not, List, []}
-use Rattle.std.proofs.Common.{◌∷◌, ◌++◌, length, Option, None, Some, Result, Ok, Err, arith, IsSome}
-use Rattle.std.proofs.Common.{OnOk, inl, inr}
+use Rattle.std.proofs.Common.{◌≡◌, refl, sym, ap, subst, ℕ, ◌≤◌, true, not, List, [], ◌∷◌, ◌++◌}
+use Rattle.std.proofs.Common.{length, Option, None, Some, Result, Ok, Err, arith, IsSome, OnOk, inl}
+use Rattle.std.proofs.Common.{inr}
 use Rattle.std.specs.BTreeMap.{is_at, insert_entry}
 use Rattle.usb_port.specs.{path_cmp, parent_of, port_on_hub}
 use Rattle.usb_port.proofs.Interface.{rejoined}
@@ -42,19 +42,17 @@ pub rooted_kept : (a b : HostState) → b.entries ≡ a.entries → roots_of b.w
     → IsRooted a → IsRooted b
 rooted_kept a b same roots r path some = rw roots (r path (rw same at some))
 
-finding_at-without : (first path : List ℕ) (es : Entries) → (b : Bool)
-    → is_at_or_below path first ≡ b → IsSome (finding_at path (without first es))
-    → IsSome (finding_at path es)
-finding_at-without first path es true is some =
-    false_true (rw (lookup-without path first es (ap not is)) at some)
-finding_at-without first path es false is some =
-    rw (lookup-without path first es (ap not is)) at some
+finding_at-without : (first path : List ℕ) (es : Entries)
+    → IsSome (finding_at path (without first es)) → IsSome (finding_at path es)
+finding_at-without first path es some = elim (decided (is_at_or_below path first)) [
+  | inl is ↦ false_true (rw (lookup-without path first es (ap not is)) at some)
+  | inr is ↦ rw (lookup-without path first es (ap not is)) at some
+]
 
 pub rooted_dropped : (first : List ℕ) (a b : HostState) → b.entries ≡ without first a.entries
     → roots_of b.world ≡ roots_of a.world → IsRooted a → IsRooted b
 rooted_dropped first a b rest roots r path some =
-    let was = finding_at-without first path a.entries _ refl
-    (rw rest at some) in
+    let was = finding_at-without first path a.entries (rw rest at some) in
     rw roots (r path was)
 
 pub rooted_came : (first : List ℕ) (f : Finding) (a b : HostState)

@@ -462,7 +462,7 @@ pub supply_found : (path : List ℕ) {port : KnownPort} (f : Finding) (es : Entr
     ≡ port.supply
 supply_found path f es known =
     ap (λ (o : Option KnownPort). unwrap_or (option_map (λ (known : KnownPort). known.supply) o) 0)
-    (known_entered path path f es (λ hub is. shorter_apart path hub is _ refl) ∙ known)
+    (known_entered path path f es (shorter_apart path) ∙ known)
 
 hub_device : (f : Finding) (n : ℕ) → IsSomeAnd (hub_facts_in (Some f)) (λ facts. (1 ≤ n)
     × (n ≤ facts.ports)) → (device : Accepted) × (facts : HubFacts) × (f ≡ Device device)

@@ -217,25 +217,19 @@ pub finding-none : (first path : List ℕ) (es : Entries) → has_at first es �
 finding-none first path es gone way = lookup-none_there first path es gone
     (at_or_below_way path first ∙ way)
 
-untied_by : (first path : List ℕ) → is_way first path ≡ false → (b : Bool)
-    → is_at (path_cmp path) first ≡ b → b ≡ false
-untied_by first path away true tie =
-    false_true (sym (rw (path_tied path first tie) at away) ∙ way_itself first)
-untied_by _ _ _ false _ = refl
-
 pub untied : (first path : List ℕ) → is_way first path ≡ false → is_at (path_cmp path) first ≡ false
-untied first path away = untied_by first path away _ refl
-
-is_way-parent : (first path hub : List ℕ) → parent_of path ≡ Some hub → is_way first path ≡ false
-    → (b : Bool) → is_way first hub ≡ b → b ≡ false
-is_way-parent first path hub is away true way =
-    false_true (sym away ∙ way_trans first hub path way (way_parent path _ is))
-is_way-parent _ _ _ _ _ false _ = refl
+untied first path away = elim (decided (is_at (path_cmp path) first)) [
+  | inl tie ↦ false_true (sym (rw (path_tied path first tie) at away) ∙ way_itself first)
+  | inr apart ↦ apart
+]
 
 -- the hub of a path that stands elsewhere stands elsewhere
 hub_elsewhere : (first path hub : List ℕ) → parent_of path ≡ Some hub → is_way first path ≡ false
     → is_way first hub ≡ false
-hub_elsewhere first path hub is away = is_way-parent first path _ is away _ refl
+hub_elsewhere first path hub is away = elim (decided (is_way first hub)) [
+  | inl way ↦ false_true (sym away ∙ way_trans first hub path way (way_parent path _ is))
+  | inr apart ↦ apart
+]
 
 port_as : (roots : ℕ) (es fs : Entries) (n : ℕ) (o : Option (List ℕ))
     → ((hub : List ℕ) → o ≡ Some hub → finding_at hub es ≡ finding_at hub fs)

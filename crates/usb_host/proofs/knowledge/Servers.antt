@@ -21,13 +21,13 @@ use Rattle.usb_device.specs.{Spec, Hub, hub_ports, reach}
 use Rattle.usb_tree.specs.{address_of, is_way, pending, deep_at}
 use Rattle.usb_world.proofs.Interface.{sane_spec, way_shorter}
 use Rattle.usb_tree.proofs.Interface.{and_of, false_true}
-use Rattle.usb_enum.specs.{Accepted, HubFacts, facts_of, is_hub_device, target_of, configuration_of}
-use Rattle.usb_enum.specs.{HasServer, ServesAt, IsKnownAs, HostOptions}
+use Rattle.usb_enum.specs.{Accepted, HubFacts, facts_of, target_of, configuration_of, HasServer}
+use Rattle.usb_enum.specs.{ServesAt, IsKnownAs, HostOptions}
 use Rattle.usb_enum.specs.declared.finding.Finding.TheVariants.{Device}
 use Rattle.usb_enum.proofs.Interface.{AcceptsChosen, accepts, chosen_some, has_chosen}
 use Rattle.usb_host.proofs.entries.Roots.{accounted}
 use Rattle.usb_host.proofs.knowledge.SettledListings.{listed_port, listed_address, port_number}
-use Rattle.usb_host.proofs.knowledge.SettledListings.{reached_there}
+use Rattle.usb_host.proofs.knowledge.SettledListings.{reached_there, facts_given}
 
 -- A port below a hub is the hub's.
 
@@ -74,23 +74,13 @@ is_below_hub-deep j (n ∷ p) h = lt-ltb 1 (length (suc j ∷ n ∷ p)) (omega a
 
 facts_port : (spec : Spec) (facts : HubFacts) (n : ℕ) → facts_of spec ≡ Some facts → 1 ≤ n
     → n ≤ facts.ports → (hub : Hub) × (spec.hub ≡ Some hub) × (n ≤ hub.ports)
-facts_port spec facts n e least most = pick (is_hub_device spec.descriptor) e
+facts_port spec facts n e least most =
+    by_hub spec.hub refl (ap (λ (f : HubFacts). f.ports) (facts_given spec facts e))
   where
     by_hub : (o : Option Hub) → spec.hub ≡ o → facts.ports ≡ hub_ports o → (hub : Hub)
         × (spec.hub ≡ Some hub) × (n ≤ hub.ports)
     by_hub None is ports = absurd (omega arith)
     by_hub (Some hub) is ports = (hub, is, omega arith)
-
-    pick : (b : Bool) → (if b then Some (record {
-      ports = hub_ports spec.hub;
-      supply = supply_of false spec.self_powered;
-    }) else None) ≡ Some facts → (hub : Hub) × (spec.hub ≡ Some hub) × (n ≤ hub.ports)
-    pick true h = let same : record {
-      ports = hub_ports spec.hub;
-      supply = supply_of false spec.self_powered;
-    } ≡ facts = cc h in
-        by_hub spec.hub refl (ap (λ (f : HubFacts). f.ports) (sym same))
-    pick false h = absurd (cc h)
 
 module _ {w : World} (entries : Entries) (device : Accepted) {facts : HubFacts} (n : ℕ)
     (told : device.hub ≡ Some facts) (least : 1 ≤ n) (most : n ≤ facts.ports)

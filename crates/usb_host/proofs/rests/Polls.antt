@@ -27,10 +27,9 @@ use Rattle.usb_hub.proofs.Interface.{row_port}
 use Rattle.usb_address.proofs.Interface.{in_kept}
 use Rattle.usb_device.proofs.Interface.{law_is}
 use Rattle.usb_host.proofs.knowledge.ChangeWords.{none_counts, one_if, weight_of}
-use Rattle.usb_resources.specs.{Addresses, supply_of}
+use Rattle.usb_resources.specs.{Addresses}
 use Rattle.usb_pipe.specs.{Interrupt}
-use Rattle.usb_enum.specs.{Accepted, Finding, HubFacts, facts_of, is_hub_device, IsKnownAs}
-use Rattle.usb_enum.specs.{HostOptions}
+use Rattle.usb_enum.specs.{Accepted, Finding, HubFacts, facts_of, IsKnownAs, HostOptions}
 use Rattle.usb_enum.specs.declared.finding.Finding.TheVariants.{Device}
 use Rattle.usb_table.specs.{Pipes, Hub as HubPipe, Function, Absent, Entries, accepted_device_of}
 use Rattle.usb_table.specs.{accepted_device_at, is_below_hub, IsListening, finding_at, hub_facts_in}
@@ -41,7 +40,7 @@ use Rattle.usb_host.specs.{IsTruthOf, DevicesAccurate, known_supply, table_in}
 use Rattle.usb_host.proofs.entries.Roots.{accounted}
 use Rattle.usb_enum.proofs.Interface.{accepts}
 use Rattle.usb_host.proofs.knowledge.Servers.{server_hears, is_below_hub-deep}
-use Rattle.usb_host.proofs.knowledge.SettledListings.{listed_port, reached_there}
+use Rattle.usb_host.proofs.knowledge.SettledListings.{listed_port, reached_there, facts_given}
 
 -- A hub that answers a poll with NAK has no port whose change bits are set.
 
@@ -203,14 +202,7 @@ hub_there path entries facts h = let x = hub_facts_in-device (finding_at path en
 -- its description has as many ports
 pub facts_ports : (spec : Spec) (facts : HubFacts) → facts_of spec ≡ Some facts
     → facts.ports ≡ hub_ports spec.hub
-facts_ports spec facts h = pick (is_hub_device spec.descriptor) h
-  where
-    pick : (b : Bool) → (if b then Some (record {
-      ports = hub_ports spec.hub;
-      supply = supply_of false spec.self_powered;
-    }) else None) ≡ Some facts → facts.ports ≡ hub_ports spec.hub
-    pick true h = cc h
-    pick false h = absurd (cc h)
+facts_ports spec facts h = ap (λ (f : HubFacts). f.ports) (facts_given spec facts h)
 
 few_by : (o : Option Hub) → IfSome o IsHub → hub_ports o ≤ 15
 few_by None h = omega arith
