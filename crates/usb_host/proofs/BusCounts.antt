@@ -19,17 +19,10 @@ use Rattle.usb_host.proofs.PortRequests.{shows_shown}
 
 -- What a bus counts and reports, as its host has it.
 
-module _ {W : Type 0} (m : Bool) (spent : W → ℕ) (failed : W → Option BusFault)
-    (left : LeftStatuses) (bus after : W) where
-  pub counts_spend : {n : ℕ} (k : ℕ) → spent after ≤ spent bus + n → n ≤ k
-      → (counts_of m (spent after) (failed after) left).spent
-      ≤ (counts_of m (spent bus) (failed bus) left).spent + k
-  counts_spend {n} k most le = by m
-    where
-      by : (m : Bool) → (counts_of m (spent after) (failed after) left).spent
-          ≤ (counts_of m (spent bus) (failed bus) left).spent + k
-      by true = omega arith
-      by false = omega (arith, most, le)
+pub counts_spend : (m : Bool) (s t : ℕ) (f e : Option BusFault) (left : LeftStatuses) {n : ℕ}
+    (k : ℕ) → t ≤ s + n → n ≤ k → (counts_of m t e left).spent ≤ (counts_of m s f left).spent + k
+counts_spend true s t f e left k most le = omega arith
+counts_spend false s t f e left k most le = omega (arith, most, le)
 
 reported : {A : Type 0} (f : Option BusFault) (outcome : Result A TableFault)
     → TransferTold outcome f → IfErr (host_told outcome) (λ fault. IsReportedLast fault f)

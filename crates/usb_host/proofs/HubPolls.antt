@@ -18,7 +18,7 @@ use Rattle.usb_enum.specs.{Accepted, Finding, HubFacts}
 use Rattle.usb_enum.specs.declared.finding.Finding.TheVariants.{Device}
 use Rattle.usb_table.specs.{Absent, BitsOf, Function, GoesThrough, Hub as HubPipe, HubTold}
 use Rattle.usb_table.specs.{KeepsPolled, Pipes, PipesPolled, accepted_device_of, finding_at}
-use Rattle.usb_table.specs.{hub_facts_at, hub_facts_in, pipes_at}
+use Rattle.usb_table.specs.{hub_facts_at, hub_facts_in, pipes_at, TablePolls}
 use Rattle.usb_host.specs.{NoneHears, ServesPorts, AddsNoWork, Agrees, Costs, DropsOne, HostFault}
 use Rattle.usb_host.specs.{HostInvariant, HostProgress, HostRuns, HostState, HostSteps, HubPaid}
 use Rattle.usb_host.specs.{IsDroppable, KeepsBulk, KeepsInvariant, PartStays, Pays, PaysPart}
@@ -65,19 +65,19 @@ pub polled_by : {hub : List ℕ} {a b : HostState}
       trace = b.trace;
       counts = b.counts;
       pipes = b.pipes;
-    } → HostSteps 768 a b → GoesThrough hub (table_in a) (table_in b)
-    → PipesPolled (pipes_at hub (table_in a)) a.world answer (pipes_at hub (table_in b)) b.world
-    → KeepsPolled hub (table_in a) a.world answer (table_in b) b.world → HubPoll hub a told b
-polled_by {b = b} is agrees listed rest went through polled keeps = record {
+    } → GoesThrough hub (table_in a) (table_in b)
+    → TablePolls hub (table_in a) a.world a.trace answer (table_in b) b.world b.trace
+    → HubPoll hub a told b
+polled_by {b = b} is agrees listed rest through polls = record {
   agrees = agrees;
   listed = listed;
   once = record {
-    through = rw is at polled;
+    through = rw is at polls.polled;
     remains = ap (λ es. record b { entries = es }) through.entries ∙ rest;
   };
-  went = went;
+  went = polls.went;
   through = through;
-  keeps = rw is at keeps;
+  keeps = rw is at polls.keeps;
 }
 
 -- where the bus is at work, a poll that failed was not answered

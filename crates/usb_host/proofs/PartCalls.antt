@@ -121,15 +121,13 @@ call_forgets forgot = call_stands (ap (λ (h : HostState). h.counts) forgot.othe
     (ap (λ (h : HostState). h.world) forgot.others) (keeps_forgets forgot) tt
 
 -- a call on the bus alone
-pub call_bus : {W : Type 0} (modelled : Bool) (spent : W → ℕ) (failed : W → Option BusFault)
-    (left : LeftStatuses) (bus after : W) {n : ℕ} {a b : HostState}
-    → a.counts ≡ counts_of modelled (spent bus) (failed bus) left
-    → b.counts ≡ counts_of modelled (spent after) (failed after) left
-    → spent after ≤ spent bus + n → KeepsNumbers a b
+pub call_bus : (modelled : Bool) (s t : ℕ) (f e : Option BusFault) (left : LeftStatuses) {n : ℕ}
+    {a b : HostState} → a.counts ≡ counts_of modelled s f left
+    → b.counts ≡ counts_of modelled t e left → t ≤ s + n → KeepsNumbers a b
     → (modelled ≡ true → StillWorks a.world b.world)
     → PartCall {A = Unit {0}} modelled n a (Ok tt) b
-call_bus modelled spent failed left bus after {n = n} old new most numbers works = record {
-  spends = rw (old, new) (counts_spend modelled spent failed left bus after n most (omega arith));
+call_bus modelled s t f e left {n = n} old new most numbers works = record {
+  spends = rw (old, new) (counts_spend modelled s t f e left n most (omega arith));
   numbers = numbers;
   told = tt;
   works = works;

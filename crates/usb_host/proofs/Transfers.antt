@@ -443,7 +443,8 @@ module _ {W : Type 0} {view now : HostState} (m : Bool) (world : W → World)
         → TransfersAnyBus m k (over bus old before) result (over after new ends)
     calls_any {k = k} old new kept most told = record {
       calls = record {
-        spends = counts_spend m spent failed left bus after k most (omega arith);
+        spends = counts_spend m (spent bus) (spent after) (failed bus) (failed after) left k most
+            (omega arith);
         told = λ off.
             rw is (counts_transfer (spent after) (failed after) left m answer told off);
         numbers = keeps_by kept refl refl refl;

@@ -124,17 +124,14 @@ returns-clause-call g c =
     let old = g.B.Bus.world c.self.inside.bus in
     let new = g.B.Bus.world c.clear_port.new.bus in
     rw (← c.self.view_is) (record {
-      spends = counts_spend g.B.Bus.modelled g.B.Bus.spent g.B.Bus.failed c.self.inside.left
-          c.self.inside.bus c.clear_port.new.bus _
+      spends = counts_spend _ _ _ _ _ _ _
           c.clear_port.ensures.uses.spends.0 (order_most c.in-Some.port.port);
       numbers = keeps_by refl refl refl refl;
       told = elim c.match-clear_port.branch [
         | in-Ok w ↦ rw w.result-is tt
         | in-Err-Bus w ↦ rw w.result-is (
           λ known. rw w.in-Err-Bus.field-0-is at (w.in-Err-Bus.ensures.fault known),
-          counts_last (g.B.Bus.spent c.clear_port.new.bus) (g.B.Bus.failed c.clear_port.new.bus)
-              c.self.inside.left
-              g.B.Bus.modelled (rw w.in-Err-Bus.field-0-is at w.in-Err-Bus.ensures.uses.told),
+          counts_last _ _ _ _ (rw w.in-Err-Bus.field-0-is at w.in-Err-Bus.ensures.uses.told),
         )
         | in-Err w ↦ rw w.result-is tt
       ];

@@ -14,8 +14,7 @@ use Rattle.usb_host.proofs.host.Host.serve_hub.Goals as goal
 pub returns-in-Ok-None : goal.returns-in-Ok-None
 returns-in-Ok-None g c = record {
   call = rw (← c.self.view_is) (record {
-    part = call_wider (call_bus g.B.Bus.modelled g.B.Bus.spent
-        g.B.Bus.failed c.self.inside.left c.self.inside.bus c.poll.new.bus refl refl
+    part = call_wider (call_bus g.B.Bus.modelled _ _ _ _ _ refl refl
         c.poll.ensures.any_bus.0.0 (keeps_by c.poll.ensures.through.entries refl refl refl)
         (λ known. polled_works _ _ (Ok c.in-Ok-None.field-0) _ _ (c.in-Ok-None.ensures.polls
         known).polled tt)) (omega arith);
@@ -28,16 +27,14 @@ returns-in-Ok-None g c = record {
   polls = λ known.
       rw (← c.self.view_is) (poll_quiet (polled_by (ap (λ got. Ok got) c.in-Ok-None.field-0-is)
       c.self.invariant
-      (rw (← c.self.view_is) at c.requires) refl (c.poll.ensures.polls known).went
-      c.poll.ensures.through (c.in-Ok-None.ensures.polls known).polled (c.in-Ok-None.ensures.polls
-      known).keeps));
+      (rw (← c.self.view_is) at c.requires) refl c.poll.ensures.through
+      (c.in-Ok-None.ensures.polls known)));
 }
 
 pub returns-in_ok-service_reported-in-Ok-Some : goal.returns-in_ok-service_reported-in-Ok-Some
 returns-in_ok-service_reported-in-Ok-Some g c = record {
   call = rw (← c.self.view_is) (round_worked (call_after
-      c.in_ok-service_reported-in-Ok-Some.ensures.call (call_bus g.B.Bus.modelled g.B.Bus.spent
-      g.B.Bus.failed c.self.inside.left c.self.inside.bus c.poll.new.bus refl refl
+      c.in_ok-service_reported-in-Ok-Some.ensures.call (call_bus g.B.Bus.modelled _ _ _ _ _ refl refl
       c.poll.ensures.any_bus.0.0 (keeps_by c.poll.ensures.through.entries refl refl refl)
       (λ known. polled_works _ _ (Ok c.in-Ok-Some.field-0) _ _ (c.in-Ok-Some.ensures.polls
       known).polled tt))) (omega arith));
@@ -45,17 +42,15 @@ returns-in_ok-service_reported-in-Ok-Some g c = record {
       let ends = rw c.in-Ok-Some.field-0-is at (c.in-Ok-Some.ensures.polls known).took in
       rw (← c.self.view_is) (poll_served (c.in_ok-service_reported-in-Ok-Some.ensures.serves known)
       (polled_by (ap (λ got. Ok got) c.in-Ok-Some.field-0-is) c.self.invariant
-      (rw (← c.self.view_is) at c.requires) refl (c.poll.ensures.polls known).went
-      c.poll.ensures.through (c.in-Ok-Some.ensures.polls known).polled (c.in-Ok-Some.ensures.polls
-      known).keeps)
+      (rw (← c.self.view_is) at c.requires) refl c.poll.ensures.through
+      (c.in-Ok-Some.ensures.polls known))
       (c.told_bits.ensures ∙ ap told_bits c.as_slice.ensures.value) ends.still ends.least);
 }
 
 pub returns-in_err-service_reported-in-Ok-Some : goal.returns-in_err-service_reported-in-Ok-Some
 returns-in_err-service_reported-in-Ok-Some g c = record {
   call = rw (← c.self.view_is) (round_fails c.from_residual.ensures.1 (call_after
-      c.in_err-service_reported-in-Ok-Some.ensures.call (call_bus g.B.Bus.modelled g.B.Bus.spent
-      g.B.Bus.failed c.self.inside.left c.self.inside.bus c.poll.new.bus refl refl
+      c.in_err-service_reported-in-Ok-Some.ensures.call (call_bus g.B.Bus.modelled _ _ _ _ _ refl refl
       c.poll.ensures.any_bus.0.0 (keeps_by c.poll.ensures.through.entries refl refl refl)
       (λ known. polled_works _ _ (Ok c.in-Ok-Some.field-0) _ _ (c.in-Ok-Some.ensures.polls
       known).polled tt))) (omega arith));
@@ -64,9 +59,8 @@ returns-in_err-service_reported-in-Ok-Some g c = record {
       rw (handed_is c.from_residual.ensures.1, ← c.self.view_is) (poll_unserved
       (c.in_err-service_reported-in-Ok-Some.ensures.serves known)
       (polled_by (ap (λ got. Ok got) c.in-Ok-Some.field-0-is) c.self.invariant
-      (rw (← c.self.view_is) at c.requires) refl (c.poll.ensures.polls known).went
-      c.poll.ensures.through (c.in-Ok-Some.ensures.polls known).polled (c.in-Ok-Some.ensures.polls
-      known).keeps)
+      (rw (← c.self.view_is) at c.requires) refl c.poll.ensures.through
+      (c.in-Ok-Some.ensures.polls known))
       (c.told_bits.ensures ∙ ap told_bits c.as_slice.ensures.value) ends.still);
 }
 
@@ -74,13 +68,11 @@ pub returns-in-Err-Bus : goal.returns-in-Err-Bus
 returns-in-Err-Bus g c = record {
   call = rw (← c.self.view_is) (record {
     part = record {
-      spends = counts_spend g.B.Bus.modelled g.B.Bus.spent g.B.Bus.failed c.self.inside.left
-          c.self.inside.bus c.poll.new.bus _ c.poll.ensures.any_bus.0.0 (omega arith);
+      spends = counts_spend _ _ _ _ _ _ _ c.poll.ensures.any_bus.0.0 (omega arith);
       numbers = keeps_by c.poll.ensures.through.entries refl refl refl;
       told = (
         first_of (search rules, grind (arith, common_steps)),
-        counts_last (g.B.Bus.spent c.poll.new.bus) (g.B.Bus.failed c.poll.new.bus)
-            c.self.inside.left g.B.Bus.modelled
+        counts_last _ _ _ _
             (rw c.in-Err-Bus.field-0-is at c.in-Err-Bus.ensures.any_bus.1),
       );
       works = λ known sound. absurd sound;
@@ -90,17 +82,15 @@ returns-in-Err-Bus g c = record {
   polls = λ known.
       rw (← c.self.view_is) (poll_cut {why = c.in-Err-Bus.fault} (polled_by (ap (λ why. Err why)
       c.in-Err-Bus.field-0-is) c.self.invariant
-      (rw (← c.self.view_is) at c.requires) refl (c.poll.ensures.polls known).went
-      c.poll.ensures.through (c.in-Err-Bus.ensures.polls known).polled (c.in-Err-Bus.ensures.polls
-      known).keeps));
+      (rw (← c.self.view_is) at c.requires) refl c.poll.ensures.through
+      (c.in-Err-Bus.ensures.polls known)));
 }
 
 pub returns-in_err-drop_hub-in-Err : goal.returns-in_err-drop_hub-in-Err
 returns-in_err-drop_hub-in-Err g c = record {
   call =
       rw (← c.self.view_is) (round_fails c.from_residual-in_err-drop_hub-in-Err.ensures.1
-      (call_after c.in_err-drop_hub-in-Err.ensures.call (call_bus g.B.Bus.modelled g.B.Bus.spent
-      g.B.Bus.failed c.self.inside.left c.self.inside.bus c.poll.new.bus refl refl
+      (call_after c.in_err-drop_hub-in-Err.ensures.call (call_bus g.B.Bus.modelled _ _ _ _ _ refl refl
       c.poll.ensures.any_bus.0.0 (keeps_by c.poll.ensures.through.entries refl refl refl)
       (λ known. other_works 0 c.in-Err.field-0 _ _
       (λ fault is. first_of (search rules, grind (arith, common_steps))) (c.in-Err.ensures.polls
@@ -110,9 +100,8 @@ returns-in_err-drop_hub-in-Err g c = record {
       (poll_undropped
       (rw c.duplicate.ensures at (c.in_err-drop_hub-in-Err.ensures.drops known))
       (polled_by refl c.self.invariant
-      (rw (← c.self.view_is) at c.requires) refl (c.poll.ensures.polls known).went
-      c.poll.ensures.through (c.in-Err.ensures.polls known).polled (c.in-Err.ensures.polls
-      known).keeps) (other_works 0 c.in-Err.field-0 _ _
+      (rw (← c.self.view_is) at c.requires) refl c.poll.ensures.through
+      (c.in-Err.ensures.polls known)) (other_works 0 c.in-Err.field-0 _ _
       (λ fault is. first_of (search rules, grind (arith, common_steps))) (c.in-Err.ensures.polls
       known).took));
 }
@@ -120,8 +109,7 @@ returns-in_err-drop_hub-in-Err g c = record {
 pub returns-in_ok-drop_hub-in-Err : goal.returns-in_ok-drop_hub-in-Err
 returns-in_ok-drop_hub-in-Err g c = record {
   call = rw (← c.self.view_is) (round_worked (call_after c.in_ok-drop_hub-in-Err.ensures.call
-      (call_bus g.B.Bus.modelled g.B.Bus.spent
-      g.B.Bus.failed c.self.inside.left c.self.inside.bus c.poll.new.bus refl refl
+      (call_bus g.B.Bus.modelled _ _ _ _ _ refl refl
       c.poll.ensures.any_bus.0.0 (keeps_by c.poll.ensures.through.entries refl refl refl)
       (λ known. other_works 0 c.in-Err.field-0 _ _
       (λ fault is. first_of (search rules, grind (arith, common_steps))) (c.in-Err.ensures.polls
@@ -129,9 +117,8 @@ returns-in_ok-drop_hub-in-Err g c = record {
   polls = λ known. rw (← c.self.view_is) (poll_lost
       (rw c.duplicate.ensures at (c.in_ok-drop_hub-in-Err.ensures.drops known))
       (polled_by refl c.self.invariant
-      (rw (← c.self.view_is) at c.requires) refl (c.poll.ensures.polls known).went
-      c.poll.ensures.through (c.in-Err.ensures.polls known).polled (c.in-Err.ensures.polls
-      known).keeps) (failed_more _ _ c.in-Err.field-0
+      (rw (← c.self.view_is) at c.requires) refl c.poll.ensures.through
+      (c.in-Err.ensures.polls known)) (failed_more _ _ c.in-Err.field-0
       (λ fault is. first_of (search rules, grind (arith, common_steps))) (c.in-Err.ensures.polls
       known).took));
 }
