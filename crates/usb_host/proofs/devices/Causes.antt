@@ -30,9 +30,9 @@ use Rattle.usb_table.specs.{tier_of}
 use Rattle.usb_host.specs.{Forgets, Agrees, RestElsewhere, IsLost, HoldsAt, Watches, Tidies}
 use Rattle.usb_host.specs.{ClearsChange, MovesNoBulk, by_control, IsOpen, PortCaused, FindsSound}
 use Rattle.usb_host.specs.{Disabled, Climbs, HostState, claims, KeepsPort, DropsHub, StandsAt}
-use Rattle.usb_host.specs.{HostSteps, OnlyBusSteps, table_in, known_supply, RefusalsJustified}
-use Rattle.usb_host.specs.{CausesBut, IsJustifiedAt, IsFairTo, HostInvariant, IsSoundBut}
-use Rattle.usb_host.specs.{IsDroppable, DropsSound}
+use Rattle.usb_host.specs.{HostSteps, OnlyBusSteps, table_in, RefusalsJustified, CausesBut}
+use Rattle.usb_host.specs.{IsJustifiedAt, IsFairTo, HostInvariant, IsSoundBut, IsDroppable}
+use Rattle.usb_host.specs.{DropsSound}
 use Rattle.usb_backlog.specs.{KeepsAll}
 use Rattle.usb_host.proofs.StepSums.{went_before, EnumerationAt}
 use Rattle.usb_host.proofs.devices.Pipes.{AllStay, bulk_stays, stay_forgotten, stay_joined}
@@ -276,21 +276,16 @@ entered_caused {path = path} {port = port} {f = f} {a = a} {b = b} e o fair is c
     (causes_gone b.options path b.world a.entries e.away (found_causes e o fair caused)) here)
   where
     here : IsJustifiedAt b.options b.world (insert_entry path_cmp a.entries path f) path
-    here cause t at there = pick (e.gives.warrants.cause (claims a.entries) path
-        (found_fair e o fair) cause t (ap Ok found) there)
-      where
-        found : f ≡ Refused cause
-        found = cc (sym (lookup-insert_entry_here path f a.entries) ∙ at)
-
-        pick : (pending b.world.roots path ≡ true)
-            ⊎ IsRight (IsFull a.addresses) t.spec b.options (tier_of path) port.supply
-            (Refused cause) → (pending b.world.roots path ≡ true)
-            ⊎ IsRight ⊤ t.spec b.options (tier_of path)
-            (known_supply path (insert_entry path_cmp a.entries path f)) (Refused cause)
-        pick (inl x) = inl x
-        pick (inr x) = inr (rw (supply_found path f a.entries e.stands.known)
-            (right_free (IsFull a.addresses) t.spec b.options (tier_of path) port.supply
-            (Refused cause) x))
+    here cause t at there =
+        let found : f ≡ Refused cause =
+        cc (sym (lookup-insert_entry_here path f a.entries) ∙ at) in
+        elim (e.gives.warrants.cause (claims a.entries) path (found_fair e o fair) cause t
+        (ap Ok found) there) [
+          | inl x ↦ inl x
+          | inr x ↦ inr (rw (supply_found path f a.entries e.stands.known)
+              (right_free (IsFull a.addresses) t.spec b.options (tier_of path) port.supply
+              (Refused cause) x))
+        ]
 
 unfound_caused : {n : ℕ} {path : List ℕ} {port : KnownPort} {fault : EnumFault} {a b : HostState}
     → EnumerationAt n path port (Err fault) a b → IsOpen path a → IsFairTo a.world b.world

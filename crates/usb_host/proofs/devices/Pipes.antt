@@ -212,13 +212,11 @@ pub where_polled : {So : Type 0} (hub : List ℕ) (a b : HostState)
     → PipesPolled (pipes_at hub (table_in a)) a.world result (pipes_at hub (table_in b)) b.world
     → EachWas SparesBulk a.world b.world → StaysWhere So a b
 where_polled hub a b result goes polled each =
-    where_same goes.entries (λ path. pick path (is_at (path_cmp hub) path) refl) each
-  where
-    pick : (path : List ℕ) (tied : Bool) → is_at (path_cmp hub) path ≡ tied
-        → SameFunction (pipes_at path (table_in a)) (pipes_at path (table_in b))
-    pick path true tie = rw (path_tied hub path tie) at (polled_function (pipes_at hub (table_in a))
-        {left = pipes_at hub (table_in b)} a.world b.world result polled)
-    pick path false apart = same_function (goes.others path apart)
+    where_same goes.entries (λ path. elim (decided (is_at (path_cmp hub) path)) [
+      | inl tie ↦ rw (path_tied hub path tie) at (polled_function (pipes_at hub (table_in a))
+          {left = pipes_at hub (table_in b)} a.world b.world result polled)
+      | inr apart ↦ same_function (goes.others path apart)
+    ]) each
 
 -- an event comes
 pub stay_event : (a b : HostState) → b.entries ≡ a.entries → b.pipes ≡ a.pipes

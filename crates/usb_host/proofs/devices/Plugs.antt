@@ -264,27 +264,20 @@ plugs_fewer : {events : List Event} (a b : HostState) → a.world.taken ≤ b.wo
 plugs_fewer {events = events} a b onward was plugs = record {
   each = λ path device at. was_later events a.world.taken b.world.taken path onward
       (pick path device (finding_at path b.entries) refl at);
-  none_waits = λ few path at. waits few path (was path (Refused NoAddress) at);
+  none_waits = λ few path at. elim (was path (Refused NoAddress) at) [
+    | inl waits ↦ plugs.none_waits few path waits
+    | inr lost ↦ cc lost
+  ];
 }
   where
-    listed : (path : List ℕ) (device : Accepted)
-        → (finding_at path a.entries ≡ Some (Device device)) ⊎ (Device device ≡ Refused Lost)
-        → WasPlugged events a.world.taken path
-    listed path device (inl at) = plugs.each path device (ap accepted_device_of at)
-    listed path device (inr e) = absurd (cc e)
-
     pick : (path : List ℕ) (device : Accepted) (o : Option Finding) → finding_at path b.entries ≡ o
         → accepted_device_of o ≡ Some device → WasPlugged events a.world.taken path
     pick path device None at e = absurd (cc e)
     pick path device (Some f) at e =
-        listed path device (was path (Device device) (at ∙ ap (λ g. Some g)
-        (accepted_device_of-some f e)))
-
-    waits : plug_events events ≤ 127 → (path : List ℕ)
-        → (finding_at path a.entries ≡ Some (Refused NoAddress))
-        ⊎ (Refused NoAddress ≡ Refused Lost) → ⊥
-    waits few path (inl at) = plugs.none_waits few path at
-    waits few path (inr e) = cc e
+        elim (was path (Device device) (at ∙ ap (λ g. Some g) (accepted_device_of-some f e))) [
+          | inl listed ↦ plugs.each path device (ap accepted_device_of listed)
+          | inr lost ↦ absurd (cc lost)
+        ]
 
 -- the same is listed
 pub plugs_same : (events : List Event) (a b : HostState) → a.world.taken ≤ b.world.taken
@@ -322,24 +315,20 @@ with_lost path es = insert_entry path_cmp (without path es) path (Refused Lost)
 pub plugs_lost : {hub : List ℕ} (a b : HostState) → a.world.taken ≤ b.world.taken
     → HasLost hub a.entries b.entries → KeepsPlugs a b
 plugs_lost a b onward lost plan is paths course =
-    plugs_fewer a b onward (λ p f at. pick p f (is_at (path_cmp p) lost.path) refl
-    (ap (finding_at p) (sym lost.entries) ∙ at))
-  where
-    pick : (p : List ℕ) (f : Finding) (tied : Bool) → is_at (path_cmp p) lost.path ≡ tied
-        → finding_at p (with_lost lost.path a.entries) ≡ Some f
-        → (finding_at p a.entries ≡ Some f) ⊎ (f ≡ Refused Lost)
-    pick p f true tie at =
-        let here : finding_at lost.path (with_lost lost.path a.entries) ≡ Some f =
-        subst (λ (q : List ℕ). finding_at q (with_lost lost.path a.entries) ≡ Some f)
-        (path_tied p lost.path tie) at in
-        inr (cc (
-          here,
-          lookup-insert_entry_here lost.path (Refused Lost) (without lost.path a.entries),
-        ))
-    pick p f false apart at =
-        inl (was_listed lost.path p a.entries f
-        (sym (lookup-insert_entry_elsewhere p lost.path (Refused Lost) (without lost.path a.entries)
-        apart) ∙ at))
+    plugs_fewer a b onward (λ p f at.
+    let listed = ap (finding_at p) (sym lost.entries) ∙ at in
+    elim (decided (is_at (path_cmp p) lost.path)) [
+      | inl tie ↦
+          let here : finding_at lost.path (with_lost lost.path a.entries) ≡ Some f =
+          subst (λ (q : List ℕ). finding_at q (with_lost lost.path a.entries) ≡ Some f)
+          (path_tied p lost.path tie) listed in
+          inr (cc (
+            here,
+            lookup-insert_entry_here lost.path (Refused Lost) (without lost.path a.entries),
+          ))
+      | inr apart ↦ inl (was_listed lost.path p a.entries f (sym (lookup-insert_entry_elsewhere p
+          lost.path (Refused Lost) (without lost.path a.entries) apart) ∙ listed))
+    ])
 
 -- one finding is entered at a path at which a device was plugged
 plugs_entered : (events : List Event) (path : List ℕ) (a b : HostState)

@@ -285,17 +285,13 @@ pub known_whole : (first : List ℕ) (w : World) (es : Entries) → 1 ≤ length
     → KnownBut first w es → IsKnownAs w first (finding_at first es)
     → ((path hub : List ℕ) → parent_of path ≡ Some hub → is_way first hub ≡ true
     → IsListedPort (roots_of w) es path → IsKnownAs w path (finding_at path es)) → PortsListed w es
-known_whole first w es some others here below path port = pick (decided (is_way first path))
-  where
-    at : (path ≡ first) ⊎ ((hub : List ℕ) × (parent_of path ≡ Some hub) × (is_way first hub ≡ true))
-        → IsKnownAs w path (finding_at path es)
-    at (inl same) = rw same here
-    at (inr x) = below path x.0 x.1 x.2 port
-
-    pick : (is_way first path ≡ true) ⊎ (is_way first path ≡ false)
-        → IsKnownAs w path (finding_at path es)
-    pick (inl way) = at (split first path some way)
-    pick (inr away) = others path away port
+known_whole first w es some others here below path port = elim (decided (is_way first path)) [
+  | inl way ↦ elim (split first path some way) [
+    | inl same ↦ rw same here
+    | inr x ↦ below path x.0 x.1 x.2 port
+  ]
+  | inr away ↦ others path away port
+]
 
 -- Entries go
 
@@ -442,29 +438,27 @@ module _ (first : List ℕ) (f : Finding) (es : Entries) (some : 1 ≤ length fi
   pub truthful_found : {options : HostOptions} (w : World) → DevicesAccurate options w es
       → IsAccurateAt options w entered first
       → DevicesAccurate options w entered
-  truthful_found {options = options} w told here path = pick (is_at (path_cmp path) first) refl
-      (decided (is_way first path))
-    where
-      pick : (b : Bool) → is_at (path_cmp path) first ≡ b → (is_way first path ≡ true)
-          ⊎ (is_way first path ≡ false) → IsAccurateAt options w entered path
-      pick true tie _ = rw (path_tied path first tie) here
-      pick false apart (inl way) = λ device s at on stands. absurd (cc (
+  truthful_found w told here path = elim (decided (is_at (path_cmp path) first)) [
+    | inl tie ↦ rw (path_tied path first tie) here
+    | inr apart ↦ elim (decided (is_way first path)) [
+      | inl way ↦ λ device s at on stands. absurd (cc (
         ap accepted_device_of (finding-entered path apart ∙ finding-none first path es gone way),
         at,
       ))
-      pick false apart (inr away) = is_told_at-same w es entered path (finding-entered path apart)
+      | inr away ↦ is_told_at-same w es entered path (finding-entered path apart)
           (supply-entered path away) (told path)
+    ]
+  ]
 
   pub causes_found : (options : HostOptions) (w : World) → RefusalsJustified options w es
       → IsJustifiedAt options w entered first
       → RefusalsJustified options w entered
-  causes_found options w caused here path = pick (is_at (path_cmp path) first) refl
-      (decided (is_way first path))
-    where
-      pick : (b : Bool) → is_at (path_cmp path) first ≡ b → (is_way first path ≡ true)
-          ⊎ (is_way first path ≡ false) → IsJustifiedAt options w entered path
-      pick true tie _ = rw (path_tied path first tie) here
-      pick false apart (inl way) = λ cause s at stands. absurd
+  causes_found options w caused here path = elim (decided (is_at (path_cmp path) first)) [
+    | inl tie ↦ rw (path_tied path first tie) here
+    | inr apart ↦ elim (decided (is_way first path)) [
+      | inl way ↦ λ cause s at stands. absurd
           (cc (finding-entered path apart ∙ finding-none first path es gone way, at))
-      pick false apart (inr away) = caused_as options w es entered path (finding-entered path apart)
+      | inr away ↦ caused_as options w es entered path (finding-entered path apart)
           (supply-entered path away) (caused path)
+    ]
+  ]

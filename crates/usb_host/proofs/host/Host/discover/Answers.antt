@@ -80,7 +80,8 @@ pub returns-in_err-finding-clause-call : goal.returns-in_err-finding-clause-call
 returns-in_err-finding-clause-call g c =
     rw (← c.self.view_is) (port_enters (counts_spend _ _ _ _ _ _ _ c.enumerate.ensures.uses.spends.0
     (enumeration_most c.args.port.port (askable_wide c.args.port.port c.requires.port.askable)))
-    (keeps_none _) (rw (handed_is c.from_residual.ensures.1) (counts_told _ _ _ {A = Unit {0}} _ (Err c.in_err-finding.field-0.0)
+    (keeps_none _) (rw (handed_is c.from_residual.ensures.1) (counts_told _ _ _ {A = Unit {0}} _
+    (Err c.in_err-finding.field-0.0)
     c.in_err-finding.ensures.uses.told)) (rw (handed_is c.from_residual.ensures.1) refl))
 
 pub returns-in_err-enter-clause-call : goal.returns-in_err-enter-clause-call

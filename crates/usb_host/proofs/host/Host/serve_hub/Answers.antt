@@ -34,8 +34,9 @@ returns-in-Ok-None g c = record {
 pub returns-in_ok-service_reported-in-Ok-Some : goal.returns-in_ok-service_reported-in-Ok-Some
 returns-in_ok-service_reported-in-Ok-Some g c = record {
   call = rw (← c.self.view_is) (round_worked (call_after
-      c.in_ok-service_reported-in-Ok-Some.ensures.call (call_bus g.B.Bus.modelled _ _ _ _ _ refl refl
-      c.poll.ensures.any_bus.0.0 (keeps_by c.poll.ensures.through.entries refl refl refl)
+      c.in_ok-service_reported-in-Ok-Some.ensures.call (call_bus g.B.Bus.modelled _ _ _ _ _
+      refl refl c.poll.ensures.any_bus.0.0
+      (keeps_by c.poll.ensures.through.entries refl refl refl)
       (λ known. polled_works _ _ (Ok c.in-Ok-Some.field-0) _ _ (c.in-Ok-Some.ensures.polls
       known).polled tt))) (omega arith));
   polls = λ known.
@@ -50,8 +51,9 @@ returns-in_ok-service_reported-in-Ok-Some g c = record {
 pub returns-in_err-service_reported-in-Ok-Some : goal.returns-in_err-service_reported-in-Ok-Some
 returns-in_err-service_reported-in-Ok-Some g c = record {
   call = rw (← c.self.view_is) (round_fails c.from_residual.ensures.1 (call_after
-      c.in_err-service_reported-in-Ok-Some.ensures.call (call_bus g.B.Bus.modelled _ _ _ _ _ refl refl
-      c.poll.ensures.any_bus.0.0 (keeps_by c.poll.ensures.through.entries refl refl refl)
+      c.in_err-service_reported-in-Ok-Some.ensures.call (call_bus g.B.Bus.modelled _ _ _ _ _
+      refl refl c.poll.ensures.any_bus.0.0
+      (keeps_by c.poll.ensures.through.entries refl refl refl)
       (λ known. polled_works _ _ (Ok c.in-Ok-Some.field-0) _ _ (c.in-Ok-Some.ensures.polls
       known).polled tt))) (omega arith));
   polls = λ known.
@@ -90,8 +92,9 @@ pub returns-in_err-drop_hub-in-Err : goal.returns-in_err-drop_hub-in-Err
 returns-in_err-drop_hub-in-Err g c = record {
   call =
       rw (← c.self.view_is) (round_fails c.from_residual-in_err-drop_hub-in-Err.ensures.1
-      (call_after c.in_err-drop_hub-in-Err.ensures.call (call_bus g.B.Bus.modelled _ _ _ _ _ refl refl
-      c.poll.ensures.any_bus.0.0 (keeps_by c.poll.ensures.through.entries refl refl refl)
+      (call_after c.in_err-drop_hub-in-Err.ensures.call (call_bus g.B.Bus.modelled _ _ _ _ _
+      refl refl c.poll.ensures.any_bus.0.0
+      (keeps_by c.poll.ensures.through.entries refl refl refl)
       (λ known. other_works 0 c.in-Err.field-0 _ _
       (λ fault is. first_of (search rules, grind (arith, common_steps))) (c.in-Err.ensures.polls
       known).took))) (omega arith));
@@ -109,8 +112,9 @@ returns-in_err-drop_hub-in-Err g c = record {
 pub returns-in_ok-drop_hub-in-Err : goal.returns-in_ok-drop_hub-in-Err
 returns-in_ok-drop_hub-in-Err g c = record {
   call = rw (← c.self.view_is) (round_worked (call_after c.in_ok-drop_hub-in-Err.ensures.call
-      (call_bus g.B.Bus.modelled _ _ _ _ _ refl refl
-      c.poll.ensures.any_bus.0.0 (keeps_by c.poll.ensures.through.entries refl refl refl)
+      (call_bus g.B.Bus.modelled _ _ _ _ _
+      refl refl c.poll.ensures.any_bus.0.0
+      (keeps_by c.poll.ensures.through.entries refl refl refl)
       (λ known. other_works 0 c.in-Err.field-0 _ _
       (λ fault is. first_of (search rules, grind (arith, common_steps))) (c.in-Err.ensures.polls
       known).took))) (omega arith));
