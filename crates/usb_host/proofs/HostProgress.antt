@@ -1,6 +1,7 @@
 -- That the host gets on.
-use Rattle.std.proofs.Common.{◌≡◌, ◌∙◌, refl, ap, arith, inl, inr, true, false, Bool, ℕ, ◌+◌, ◌≤◌}
-use Rattle.std.proofs.Common.{◌⊎◌, List, Ok, Err, Result, OnOk}
+use Rattle.usb_tree.proofs.Interface.{decided}
+use Rattle.std.proofs.Common.{◌≡◌, ◌∙◌, refl, ap, arith, inl, inr, true, false, ℕ, ◌+◌, ◌≤◌, ◌⊎◌}
+use Rattle.std.proofs.Common.{List, Ok, Err, Result, OnOk}
 use Rattle.std.specs.BTreeMap.{insert_entry}
 use Rattle.usb_port.specs.{path_cmp, seen, PortStatus}
 use Rattle.usb_world.proofs.Interface.{way_itself}
@@ -24,17 +25,14 @@ waiting_is : (f : Finding) → is_waiting f ≡ true → f ≡ Refused cause.NoA
 waiting_is (Refused cause.NoAddress) h = refl
 waiting_is _ h = absurd (cc h)
 
-other_by : (path : List ℕ) (c : HostState) {d : HostState} (e : EntersOne path c d)
-    → (IsFull c.addresses → ⊥) → (b : Bool) → is_waiting e.finding ≡ b
-    → waiting d.entries ≤ waiting c.entries
-other_by _ c e free true h = absurd (free (e.waits (waiting_is e.finding h)))
-other_by path c e free false h =
-    omega (arith, ap waiting e.entries, waiting-entered_other path e.finding c.entries h)
-
 -- where an address is free, what is entered does not wait
 pub enters_other : (path : List ℕ) (c d : HostState) → EntersOne path c d → (IsFull c.addresses → ⊥)
     → waiting d.entries ≤ waiting c.entries
-enters_other path c d e free = other_by _ c e free _ refl
+enters_other path c d e free = elim (decided (is_waiting e.finding)) [
+  | inl waits ↦ absurd (free (e.waits (waiting_is e.finding waits)))
+  | inr other ↦
+      omega (arith, ap waiting e.entries, waiting-entered_other path e.finding c.entries other)
+]
 
 pub enters_few : (path : List ℕ) (c d : HostState) → EntersOne path c d
     → waiting d.entries ≤ waiting c.entries + 1

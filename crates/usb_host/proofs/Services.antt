@@ -1,7 +1,8 @@
 -- What is done at the ports, and what is left where the host stopped.
+use Rattle.usb_tree.proofs.Interface.{decided}
 use Rattle.std.proofs.Common.{◌≡◌, ◌∙◌, refl, sym, arith, true, false, ℕ, ◌+◌, ◌≤◌, ◌/◌, ◌%◌, ◌^◌}
 use Rattle.std.proofs.Common.{◌≢◌, bit_and, List, Ok, Err, OnOk, Result, inl, inr, ap, length}
-use Rattle.std.proofs.Common.{length-append, ◌<◌, not, cond, Bool, [], ◌∷◌, ◌++◌, Some, OnErr}
+use Rattle.std.proofs.Common.{length-append, ◌<◌, not, Bool, [], ◌∷◌, ◌++◌, Some, OnErr}
 use Rattle.std.proofs.Common.{MatchResult, None}
 use Rattle.std.proofs.lemmas.Bool.{eq-eqb, ne_eqb}
 use Rattle.std.proofs.lemmas.Nat.{and_mask}
@@ -23,7 +24,7 @@ use Rattle.usb_tree.specs.{is_way}
 use Rattle.usb_world.proofs.Interface.{at_or_below_way, way_parent, way_trans, way_itself}
 use Rattle.usb_address.specs.{AddressMap, MapHolds, WhileBusWorks}
 use Rattle.usb_hub.specs.{HubPort, IsAt, CommandsPort, PortCallDone, PortStatusAt}
-use Rattle.usb_enum.specs.{EnumFault, ParentLost, Bus, Memory, Lost, Finding}
+use Rattle.usb_enum.specs.{EnumFault, ParentLost, Bus, Memory, Lost}
 use Rattle.usb_enum.specs.declared.finding.Finding.TheVariants.{Refused}
 use Rattle.usb_table.specs.{KnownPort, Entries, is_at_or_below, without}
 use Rattle.usb_host.proofs.devices.Owners.{owned_rests}
@@ -89,27 +90,21 @@ done_not p c _ _ is same = rw is same
 -- Entries
 
 -- what is taken out below a path goes with the path
-without-without_by : (lost path : List ℕ) (e : List ℕ × Finding) (es : Entries)
-    → (is_at_or_below e.0 path ≡ true → is_at_or_below e.0 lost ≡ true)
-    → without lost (without path es) ≡ without lost es → (b c : Bool) → is_at_or_below e.0 path ≡ b
-    → is_at_or_below e.0 lost ≡ c
-    → without lost (cond (not b) (e ∷ without path es) (without path es))
-    ≡ cond (not c) (e ∷ without lost es) (without lost es)
-without-without_by lost path e es goes same true true is at = same
-without-without_by lost path e es goes same true false is at = absurd (cc (goes is, at))
-without-without_by lost path e es goes same false true is at = rw at same
-without-without_by lost path e es goes same false false is at =
-    rw at (ap (λ (l : Entries). e ∷ l) same)
-
 pub without-way : (lost path : List ℕ) → is_way lost path ≡ true → (es : Entries)
     → without lost (without path es) ≡ without lost es
 without-way _ _ _ [] = refl
-without-way lost path way (e ∷ es) = without-without_by lost path e es goes
-    (without-way lost path way es) _ _ refl refl
-  where
-    goes : is_at_or_below e.0 path ≡ true → is_at_or_below e.0 lost ≡ true
-    goes at = at_or_below_way e.0 lost ∙ way_trans lost path e.0 way (sym (at_or_below_way e.0 path)
-        ∙ at)
+without-way lost path way (e ∷ es) =
+    let rest = without-way lost path way es in
+    elim (decided (is_at_or_below e.0 path)) [
+      | inl at ↦
+          let goes : is_at_or_below e.0 lost ≡ true = at_or_below_way e.0 lost
+          ∙ way_trans lost path e.0 way (sym (at_or_below_way e.0 path) ∙ at) in
+          rw (at, goes) rest
+      | inr off ↦ rw off (elim (decided (is_at_or_below e.0 lost)) [
+        | inl on ↦ rw on rest
+        | inr away ↦ rw away (ap (λ (l : Entries). e ∷ l) rest)
+      ])
+    ]
 
 -- a hub above the port is lost, whatever was forgotten at the port before
 pub loses_then : (path : List ℕ) (old : Entries) {mid new : Entries} → StaysOrForgets path old mid

@@ -122,22 +122,22 @@ keeps_forgets {path} {a} {b} f =
 
 module _ (path : List ℕ) (es : Entries) where
   refused_device : (cause : Cause) (numbers : DeviceNumbers) (p : List ℕ) (d : KnownDevice)
-      → (b : Bool) → is_at (path_cmp p) path ≡ b
       → known_device (accepted_device_at p (insert_entry path_cmp es path (Refused cause))) numbers
       ≡ Some d → known_device (accepted_device_at p es) numbers ≡ Some d
-  refused_device cause numbers p d true tie at =
-      let same : p ≡ path = path_tied p path tie in
-      absurd (cc (rw (same, lookup-insert_entry_here path (Refused cause) es) at at))
-  refused_device cause _ p d false apart at =
-      rw (lookup-insert_entry_elsewhere p path (Refused cause) es apart) at at
+  refused_device cause numbers p d listed = elim (decided (is_at (path_cmp p) path)) [
+    | inl tie ↦
+        let same : p ≡ path = path_tied p path tie in
+        absurd (cc (rw (same, lookup-insert_entry_here path (Refused cause) es) at listed))
+    | inr apart ↦ rw (lookup-insert_entry_elsewhere p path (Refused cause) es apart) at listed
+  ]
 
   pub keeps_refused : (cause : Cause) {a b : Known} → a.entries ≡ es
       → b.entries ≡ insert_entry path_cmp es path (Refused cause) → b.numbers ≡ a.numbers
       → b.reported ≡ a.reported → b.options ≡ a.options → KeepsKnown a b
   keeps_refused cause {a} {b} before entered numbers reported options = record {
     rising = let next = ap (λ (m : DeviceNumbers). m.next) numbers in omega arith;
-    each = λ p d at. inl (rw before (refused_device cause a.numbers p d _
-        refl (rw (entered, numbers) at at)));
+    each = λ p d at. inl (rw before (refused_device cause a.numbers p d
+        (rw (entered, numbers) at at)));
     reported = reported;
     options = options;
   }

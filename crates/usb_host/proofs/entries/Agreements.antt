@@ -307,22 +307,18 @@ count-insert a path f (e ∷ es) h =
     address_count-insert_by a path f e es (path_cmp path e.0) refl parts.0
     (count-insert a path f es parts.1)
 
-remove_step : (a : ℕ) (f : Finding) (e : List ℕ × Finding) (es rest : Entries) (b : Bool)
-    (found : Option Finding) → cond b (Some e.1) found ≡ Some f
-    → (found ≡ Some f → address_count a es ≡ one_when (has_address a f) + address_count a rest)
-    → address_count a (e ∷ es) ≡ one_when (has_address a f) + address_count a (cond b es (e ∷ rest))
-remove_step a f e es rest true found is more =
-    let same : e.1 ≡ f = cc is in
-    subst (λ g. address_count a (e ∷ es) ≡ one_when (has_address a g) + address_count a es) same
-    (count-cons a e es)
-remove_step a f e es rest false found is more =
-    omega (arith, more is, count-cons a e es, count-cons a e rest)
-
 count-remove : (a : ℕ) (test : List ℕ → Bool) (f : Finding) (es : Entries) → lookup test es ≡ Some f
     → address_count a es ≡ one_when (has_address a f) + address_count a (remove_entry test es)
 count-remove a test f [] h = absurd cc
-count-remove a test f (e ∷ es) h = remove_step a f e es (remove_entry test es) (test e.0)
-    (lookup test es) h (count-remove a test f es)
+count-remove a test f (e ∷ es) h = elim (decided (test e.0)) [
+  | inl on ↦
+      let same : e.1 ≡ f = cc (rw on at h) in
+      rw on (subst (λ g. address_count a (e ∷ es) ≡ one_when (has_address a g) + address_count a es)
+      same (count-cons a e es))
+  | inr off ↦
+      let rest = count-remove a test f es (rw off at h) in
+      rw off (omega (arith, rest, count-cons a e es, count-cons a e (remove_entry test es)))
+]
 
 eq_yes : (a : ℕ) {b : ℕ} → a ≡ b → nat_eq b a ≡ true
 eq_yes a {b = b} e = eq-eqb b a (sym e)
@@ -386,28 +382,24 @@ address_count-twice a test f g e es has also most is found =
     one_when has in
     omega (arith, count-cons a e es, address_count-some a test g es also found)
 
-once_step : (a : ℕ) (p q : List ℕ) (f g : Finding) (e : List ℕ × Finding) (es : Entries)
-    → has_address a f ≡ true → has_address a g ≡ true → address_count a (e ∷ es) ≤ 1
-    → (address_count a es ≤ 1 → lookup (is_at (path_cmp p)) es ≡ Some f
-    → lookup (is_at (path_cmp q)) es ≡ Some g → p ≡ q) → (b c : Bool) → is_at (path_cmp p) e.0 ≡ b
-    → is_at (path_cmp q) e.0 ≡ c → cond b (Some e.1) (lookup (is_at (path_cmp p)) es) ≡ Some f
-    → cond c (Some e.1) (lookup (is_at (path_cmp q)) es) ≡ Some g → p ≡ q
-once_step a p q f g e _ _ _ _ _ true true at_p at_q _ _ = path_tied p e.0 at_p
-    ∙ sym (path_tied q e.0 at_q)
-once_step a p q f g e es has also most _ true false _ _ is_f is_g =
-    absurd (address_count-twice a (is_at (path_cmp q)) f g e es has also most is_f is_g)
-once_step a p q f g e es has also most _ false true _ _ is_f is_g =
-    absurd (address_count-twice a (is_at (path_cmp p)) g f e es also has most is_g is_f)
-once_step a p q f g e es has also most more false false at_p at_q is_f is_g =
-    more (omega (arith, count-cons a e es)) is_f is_g
-
 address_count-once : (a : ℕ) (p q : List ℕ) (f g : Finding) (es : Entries) → has_address a f ≡ true
     → has_address a g ≡ true → address_count a es ≤ 1 → lookup (is_at (path_cmp p)) es ≡ Some f
     → lookup (is_at (path_cmp q)) es ≡ Some g → p ≡ q
 address_count-once a p q f g [] has also most is_f is_g = absurd cc
 address_count-once a p q f g (e ∷ es) has also most is_f is_g =
-    once_step a p q f g e es has also most (address_count-once a p q f g es has also)
-    _ _ refl refl is_f is_g
+    elim (decided (is_at (path_cmp p) e.0)) [
+      | inl at_p ↦ elim (decided (is_at (path_cmp q) e.0)) [
+        | inl at_q ↦ path_tied p e.0 at_p ∙ sym (path_tied q e.0 at_q)
+        | inr off_q ↦ absurd (address_count-twice a (is_at (path_cmp q)) f g e es has also most
+            (rw at_p at is_f) (rw off_q at is_g))
+      ]
+      | inr off_p ↦ elim (decided (is_at (path_cmp q) e.0)) [
+        | inl at_q ↦ absurd (address_count-twice a (is_at (path_cmp p)) g f e es also has most
+            (rw at_q at is_g) (rw off_p at is_f))
+        | inr off_q ↦ address_count-once a p q f g es has also (omega (arith, count-cons a e es))
+            (rw off_p at is_f) (rw off_q at is_g)
+      ]
+    ]
 
 pub one_when-most : (b : Bool) → one_when b ≤ 1
 unfolding one_when
@@ -657,16 +649,12 @@ pub claims-device : (path : List ℕ) (device : Accepted) (es : Entries) (x : Li
     device.address x
 claims-device path device es x = entered_by path (Device device) es x _ refl
 
-claims-refused_by : (path : List ℕ) (cause : Cause) (es : Entries) (x : List ℕ)
-    → has_at path es ≡ false → (b : Bool) → same_path path x ≡ b
-    → claims (insert_entry path_cmp es path (Refused cause)) x ≡ claims es x
-claims-refused_by path cause es x away true same =
-    let none : claims es path ≡ None = claims_free path es away path (way_itself path) in
-    entered_by path (Refused cause) es x _ same ∙ sym
-    (ap (claims es) (same_is path x same) ∙ none)
-claims-refused_by path cause es x _ false other =
-    entered_by path (Refused cause) es x _ other
-
 pub claims-refused : (path : List ℕ) (cause : Cause) (es : Entries) → has_at path es ≡ false
     → (x : List ℕ) → claims (insert_entry path_cmp es path (Refused cause)) x ≡ claims es x
-claims-refused path cause es away x = claims-refused_by path cause es x away _ refl
+claims-refused path cause es away x = elim (decided (same_path path x)) [
+  | inl same ↦
+      let none : claims es path ≡ None = claims_free path es away path (way_itself path) in
+      entered_by path (Refused cause) es x true same
+      ∙ sym (ap (claims es) (same_is path x same) ∙ none)
+  | inr other ↦ entered_by path (Refused cause) es x false other
+]
