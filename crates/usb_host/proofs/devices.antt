@@ -2,6 +2,6 @@
 pub mod Causes
 pub mod Fairness
 pub mod Owners
+pub mod Pipes
 pub mod Plugs
 pub mod UnmovedBulk
-pub mod Pipes

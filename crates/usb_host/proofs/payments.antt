@@ -2,5 +2,5 @@
 pub mod Backlogs
 pub mod HubPayments
 pub mod Payments
-pub mod RoundPayments
 pub mod PortPayments
+pub mod RoundPayments

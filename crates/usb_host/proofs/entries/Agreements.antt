@@ -132,17 +132,18 @@ lookup-without q path {b = b} es is =
     lookup-filter-keys (is_at (path_cmp q)) (λ k. not (is_at_or_below k path)) b
     (λ k tie. subst (λ (r : List ℕ). not (is_at_or_below r path) ≡ b) (path_tied q k tie) is) es
 
-known_away_by : (q path : List ℕ) (es : Entries) → is_at_or_below q path ≡ false
-    → (hub : Option (List ℕ)) → parent_of q ≡ hub → port_below hub (port_on_hub q) (without path es)
-    ≡ port_below hub (port_on_hub q) es
-known_away_by q _ _ _ None _ = refl
-known_away_by q path es away (Some hub) is =
-    ap (λ found. port_found found (is_below_hub hub) (port_on_hub q))
-    (lookup-without hub path es (ap not (hub_away q _ path is away)))
+-- a port is known as before where what is listed at its hub is
+known_by : (q : List ℕ) (es fs : Entries) (hub : Option (List ℕ)) → ((h : List ℕ) → hub ≡ Some h
+    → lookup (is_at (path_cmp h)) fs ≡ lookup (is_at (path_cmp h)) es)
+    → port_below hub (port_on_hub q) fs ≡ port_below hub (port_on_hub q) es
+known_by q es fs None same = refl
+known_by q es fs (Some hub) same =
+    ap (λ found. port_found found (is_below_hub hub) (port_on_hub q)) (same hub refl)
 
 pub known_away : (q path : List ℕ) (es : Entries) → is_at_or_below q path ≡ false
     → known_port q (without path es) ≡ known_port q es
-known_away q path es away = known_away_by q path es away _ refl
+known_away q path es away = known_by q es (without path es) (parent_of q)
+    (λ hub is. lookup-without hub path es (ap not (hub_away q hub path is away)))
 
 -- what is left stands elsewhere, and stood there before
 left_away : (q path : List ℕ) (es : Entries) {f : Finding}
@@ -214,20 +215,11 @@ is_at-outside hub path away =
     ∙ (neither (pointwise nat_eq hub path) (is_below hub path) away).0
 
 -- a port of a hub that stands elsewhere is known as before
-known_entered_by : (q path : List ℕ) (f : Finding) (es : Entries)
-    → ((hub : List ℕ) → parent_of q ≡ Some hub → is_at (path_cmp hub) path ≡ false)
-    → (hub : Option (List ℕ)) → parent_of q ≡ hub
-    → port_below hub (port_on_hub q) (insert_entry path_cmp es path f)
-    ≡ port_below hub (port_on_hub q) es
-known_entered_by q path f es apart None is = refl
-known_entered_by q path f es apart (Some hub) is =
-    ap (λ found. port_found found (is_below_hub hub) (port_on_hub q))
-    (lookup-insert_entry_elsewhere hub path f es (apart hub is))
-
 pub known_entered : (q path : List ℕ) (f : Finding) (es : Entries)
     → ((hub : List ℕ) → parent_of q ≡ Some hub → is_at (path_cmp hub) path ≡ false)
     → known_port q (insert_entry path_cmp es path f) ≡ known_port q es
-known_entered q path f es apart = known_entered_by q path f es apart _ refl
+known_entered q path f es apart = known_by q es (insert_entry path_cmp es path f) (parent_of q)
+    (λ hub is. lookup-insert_entry_elsewhere hub path f es (apart hub is))
 
 pub shorter_apart : (path hub : List ℕ) → parent_of path ≡ Some hub
     → is_at (path_cmp hub) path ≡ false

@@ -178,9 +178,6 @@ nak_clears t ep other (next w trail step) nak settled single j v on stands at by
     stands in
     did_clear t ep other w made j v was.so nak at by
 
--- A hub that is known, and answers a poll that it has nothing to tell, has no port that tells of a
--- change of connection.
-
 -- What is known of a hub
 
 -- the accepted hub at a path
