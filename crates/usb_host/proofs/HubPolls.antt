@@ -1,7 +1,7 @@
 -- What the poll of a hub leaves, and what follows it.
 use Rattle.std.proofs.Common.{◌≡◌, ◌∙◌, ◌+◌, ◌≤◌, ◌≢◌, ◌⊎◌, ap, arith, inl, inr, refl, subst, sym}
-use Rattle.std.proofs.Common.{ℕ, List, Option, None, Some, Result, Ok, Err, IsErr, IsOk, IsSome}
-use Rattle.std.proofs.Common.{is_some, true}
+use Rattle.std.proofs.Common.{ℕ, List, Option, None, Some, Result, Ok, Err, IsOk, IsSome, is_some}
+use Rattle.std.proofs.Common.{true}
 use Rattle.arrayvec.specs.ArrayVec.{ArrayVec}
 use Rattle.usb_tree.proofs.Interface.{decided}
 use Rattle.usb_tree.specs.{pending}
@@ -18,20 +18,19 @@ use Rattle.usb_enum.specs.{Accepted, Finding, HubFacts}
 use Rattle.usb_enum.specs.declared.finding.Finding.TheVariants.{Device}
 use Rattle.usb_table.specs.{Absent, BitsOf, Function, GoesThrough, Hub as HubPipe, HubTold}
 use Rattle.usb_table.specs.{KeepsPolled, Pipes, PipesPolled, accepted_device_of, finding_at}
-use Rattle.usb_table.specs.{hub_facts_at, hub_facts_in, pipes_at}
+use Rattle.usb_table.specs.{hub_facts_at, hub_facts_in, pipes_at, TablePolls}
 use Rattle.usb_host.specs.{NoneHears, ServesPorts, AddsNoWork, Agrees, Costs, DropsOne, HostFault}
-use Rattle.usb_host.specs.{HostInvariant, HostProgress, HostRuns, HostState, HostSteps, HubFails}
-use Rattle.usb_host.specs.{HubPaid, IsDroppable, KeepsBulk, KeepsInvariant, PartStays, Pays}
-use Rattle.usb_host.specs.{PaysPart, PolledOnce, Quiet, Round, ServesHub, ServesTold, ShowsTold}
-use Rattle.usb_host.specs.{StaysOwned, StaysWhere, StopsWithin, ToldPaid, Weights, Worked, WorksOn}
+use Rattle.usb_host.specs.{HostInvariant, HostProgress, HostRuns, HostState, HostSteps, HubPaid}
+use Rattle.usb_host.specs.{IsDroppable, KeepsBulk, KeepsInvariant, PartStays, Pays, PaysPart}
+use Rattle.usb_host.specs.{PolledOnce, Quiet, ServesHub, ServesTold, ShowsTold, StaysOwned}
+use Rattle.usb_host.specs.{StaysWhere, StopsWithin, ToldPaid, Weights, Worked, WorksOn}
 use Rattle.usb_host.specs.{asked_failed, asked_none, asked_some, by_rest, drop_bound, drop_failed}
-use Rattle.usb_host.specs.{hub_poll_bound, hubs, not_heard, poll_failed, poll_most, port_failed}
-use Rattle.usb_host.specs.{table_in, told_most, told_none, told_some, waiting}
-use Rattle.usb_host.proofs.OwnedPorts.{dropped_hub_owned}
-use Rattle.usb_host.proofs.RoundParts.{hub_fails, part-fails}
+use Rattle.usb_host.specs.{hubs, not_heard, poll_failed, poll_most, port_failed, table_in}
+use Rattle.usb_host.specs.{told_most, told_none, told_some, waiting}
+use Rattle.usb_host.proofs.devices.Owners.{dropped_hub_owned, single_then, stays_owned_then}
+use Rattle.usb_host.proofs.RoundLoops.{hub_fails}
 use Rattle.usb_host.proofs.StepSums.{goes_wider, host_goes_then, went_before}
-use Rattle.usb_host.proofs.devices.BulkPipes.{bulk_stays, where_polled, where_stays}
-use Rattle.usb_host.proofs.devices.Owners.{single_then, stays_owned_then}
+use Rattle.usb_host.proofs.devices.Pipes.{bulk_stays, where_polled, where_stays}
 use Rattle.usb_host.proofs.devices.Plugs.{plugs_kept}
 use Rattle.usb_host.proofs.entries.Roots.{accounted}
 use Rattle.usb_host.proofs.knowledge.ChangeWords.{none_own}
@@ -41,11 +40,10 @@ use Rattle.usb_host.proofs.knowledge.Soundness.{sound_dropped, sound_under, stay
 use Rattle.usb_host.proofs.knowledge.Soundness.{truthful_under}
 use Rattle.usb_host.proofs.knowledge.SettledListings.{reached_there}
 use Rattle.usb_host.proofs.knowledge.ToldBits.{poll_shows}
-use Rattle.usb_host.proofs.payments.Payments.{costs_pays, few_stop, is_err-if_ok, pays_costs}
-use Rattle.usb_host.proofs.payments.Payments.{pays_where, plain_costs, plain_pays, ports_after}
-use Rattle.usb_host.proofs.payments.Payments.{stops_after, works_on, works_on-ports}
+use Rattle.usb_host.proofs.payments.Payments.{costs_pays, few_stop, pays_costs, pays_where}
+use Rattle.usb_host.proofs.payments.Payments.{plain_costs, plain_pays, ports_after, stops_after}
+use Rattle.usb_host.proofs.payments.Payments.{works_on, works_on-ports}
 use Rattle.usb_host.proofs.rests.Polls.{HubThere, heard_at, hub_there, poll_silent, reached_at}
-use Rattle.usb_host.proofs.services.CutPorts.{on_errors}
 
 -- a hub that is listed was polled, as the table tells it
 pub record HubPoll (hub : List ℕ) (a : HostState)
@@ -67,19 +65,19 @@ pub polled_by : {hub : List ℕ} {a b : HostState}
       trace = b.trace;
       counts = b.counts;
       pipes = b.pipes;
-    } → HostSteps 768 a b → GoesThrough hub (table_in a) (table_in b)
-    → PipesPolled (pipes_at hub (table_in a)) a.world answer (pipes_at hub (table_in b)) b.world
-    → KeepsPolled hub (table_in a) a.world answer (table_in b) b.world → HubPoll hub a told b
-polled_by {b = b} is agrees listed rest went through polled keeps = record {
+    } → GoesThrough hub (table_in a) (table_in b)
+    → TablePolls hub (table_in a) a.world a.trace answer (table_in b) b.world b.trace
+    → HubPoll hub a told b
+polled_by {b = b} is agrees listed rest through polls = record {
   agrees = agrees;
   listed = listed;
   once = record {
-    through = rw is at polled;
+    through = rw is at polls.polled;
     remains = ap (λ es. record b { entries = es }) through.entries ∙ rest;
   };
-  went = went;
+  went = polls.went;
   through = through;
-  keeps = rw is at keeps;
+  keeps = rw is at polls.keeps;
 }
 
 -- where the bus is at work, a poll that failed was not answered
@@ -383,26 +381,23 @@ poll_served {hub = hub} {packet = packet} {byte = byte} {a = a} {b = b} {d = d} 
 
 -- the host stopped at one of them
 pub poll_unserved : {hub : List ℕ} {packet : ArrayVec ℕ} {byte : ℕ} {a b d : HostState}
-    {fault : HostFault} {other : Result Round HostFault} → IsErr other
-    → ServesTold hub byte b (Err fault) d → HubPoll hub a (Ok (Some packet)) b
-    → byte ≡ told_bits packet.items → b.world.fault ≡ None → ServesHub hub a other d
-poll_unserved {hub = hub} {packet = packet} {byte = byte} {a = a} {b = b} {d = d} {fault = fault}
-    {other = other} e y poll read still = record {
-      keeps = hub_fails e (part-fails {A = Unit {0}} {k = hub_poll_bound} {m = hub_poll_bound}
-          {a = a} {b = d} {fault = fault} other (record {
-            goes = host_goes_then (goes poll) y.goes (omega arith);
-            owned = single_then (owned poll) y.owned;
-            sound = tt;
-          }) e (omega arith));
-      polls = is_err-if_ok other _ e;
-      fails = on_errors other (HostInvariant a → a.world.fault ≡ None → HubFails hub a d)
-          (λ s none.
+    {fault : HostFault} → ServesTold hub byte b (Err fault) d → HubPoll hub a (Ok (Some packet)) b
+    → byte ≡ told_bits packet.items → b.world.fault ≡ None → ServesHub hub a (Err fault) d
+poll_unserved {hub = hub} {packet = packet} {byte = byte} {a = a} {b = b} {d = d} {fault = fault} y
+    poll read still = record {
+      keeps = hub_fails (record {
+        goes = host_goes_then (goes poll) y.goes (omega arith);
+        owned = single_then (owned poll) y.owned;
+        sound = tt;
+      });
+      polls = tt;
+      fails = λ s none.
           let t = told poll read still s in
           port_failed packet b poll.once t (bulk poll s still) (rw (read ∙ t.is) at
-          ((ports s).fails ((sound poll refl).sound s) still)));
+          ((ports s).fails ((sound poll refl).sound s) still));
       pays = pays_where (HubPaid hub) (λ s. record {
         stops = told_stop poll refl d y.goes.went (ports s).pays;
-        pays = λ c plan w on. is_err-if_ok other (λ y. HubPaid hub c y a d) e;
+        pays = λ c plan w on. tt;
       });
     }
   where
@@ -415,7 +410,7 @@ poll_unserved {hub = hub} {packet = packet} {byte = byte} {a = a} {b = b} {d = d
 pub poll_cut : {hub : List ℕ} {why : BusFault} {a b : HostState} → HubPoll hub a (Err (Bus why)) b
     → {fault : HostFault} → ServesHub hub a (Err fault) b
 poll_cut {hub = hub} {why = why} poll = record {
-  keeps = hub_fails refl (record {
+  keeps = hub_fails (record {
     goes = goes_wider (goes poll) (omega arith);
     owned = record { single = λ o. ((owned poll).stays o).single };
     sound = tt;
@@ -467,25 +462,19 @@ poll_lost {hub = hub} {why = why} {a = a} {b = b} {d = d} y poll more = record {
 
 -- the host stopped as it was to be dropped
 pub poll_undropped : {hub : List ℕ} {why : PipeFault} {a b d : HostState} {fault : HostFault}
-    {other : Result Round HostFault} → IsErr other → DropsOne hub b (Err fault) d
-    → HubPoll hub a (Err why) b → (a.world.fault ≡ None → b.world.fault ≡ None)
-    → ServesHub hub a other d
-poll_undropped {hub = hub} {why = why} {a = a} {b = b} {d = d} {fault = fault} {other = other} e y
-    poll works = record {
-      keeps = hub_fails e (part-fails {A = Unit {0}} {k = hub_poll_bound} {m = hub_poll_bound}
-          {a = a} {b = d} {fault = fault} other (record {
-            goes = host_goes_then (goes poll) y.goes (omega arith);
-            owned = dropped_hub_owned hub a d (still_listed poll) (owned poll) y.owned;
-            sound = tt;
-          }) e (omega arith));
-      polls = is_err-if_ok other _ e;
-      fails = on_errors other (HostInvariant a → a.world.fault ≡ None → HubFails hub a d)
-          (λ s none. drop_failed why b poll.once (bulk poll s (works none)) (record {
-            entries = y.cut;
-            bulk = y.bulk (droppable poll s);
-          }));
-      pays = record {
-        stops = λ c plan w. drop_stop c a d poll.went y.goes.went;
-        pays = λ c plan w still. is_err-if_ok other (λ y. HubPaid hub c y a d) e;
-      };
-    }
+    → DropsOne hub b (Err fault) d → HubPoll hub a (Err why) b
+    → (a.world.fault ≡ None → b.world.fault ≡ None) → ServesHub hub a (Err fault) d
+poll_undropped {hub = hub} {why = why} {a = a} {b = b} {d = d} y poll works = record {
+  keeps = hub_fails (record {
+    goes = host_goes_then (goes poll) y.goes (omega arith);
+    owned = dropped_hub_owned hub a d (still_listed poll) (owned poll) y.owned;
+    sound = tt;
+  });
+  polls = tt;
+  fails = λ s none. drop_failed why b poll.once (bulk poll s (works none))
+      (record { entries = y.cut; bulk = y.bulk (droppable poll s) });
+  pays = record {
+    stops = λ c plan w. drop_stop c a d poll.went y.goes.went;
+    pays = λ c plan w still. tt;
+  };
+}

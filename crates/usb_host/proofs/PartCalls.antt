@@ -1,18 +1,24 @@
--- How what the parts of a round owe joins.
+-- How what the parts of a round owe joins, and what is owed at a port.
 use Rattle.std.proofs.Common.{◌≡◌, ◌+◌, ◌≤◌, ap, arith, ℕ, Bool, List, Option, true, Result, Ok}
-use Rattle.std.proofs.Common.{Err, IfErr, IsErrAnd}
+use Rattle.std.proofs.Common.{Err, IfErr, IsErrAnd, sym, subst}
 use Rattle.usb_world.specs.{BusFault}
 use Rattle.usb_hub.specs.{StillWorks}
 use Rattle.usb_enum.specs.{EnumFault, EnumWorks}
 use Rattle.usb_host.specs.{BusCounts, EndsAs, Forgets, HostFault, HostSpends, HostState}
 use Rattle.usb_host.specs.{KeepsNumbers, LeavesNoMore, LeftStatuses, OnlyLeaves, PartCall}
 use Rattle.usb_host.specs.{PartFaultAllowed, Quiet, Round, RoundCall, Worked, counts_of, either}
-use Rattle.usb_host.proofs.BusCounts.{counts_spend}
-use Rattle.usb_host.proofs.LeftRoots.{leaves_spent, quiet_leaves, quiet_none, quiet_then}
-use Rattle.usb_host.proofs.StepSums.{either_quiet}
-use Rattle.usb_host.proofs.WorkingBuses.{finished_works, host_works_by, host_works_on}
+use Rattle.usb_host.specs.{Entered, HostReported, OnlyBusSteps, PortPart}
+use Rattle.usb_host.proofs.BusCounts.{counts_spend, leaves_spent, quiet_leaves, quiet_none}
+use Rattle.usb_host.proofs.BusCounts.{quiet_then, forgot_spent, leaves_rests}
+use Rattle.usb_host.proofs.StepSums.{either_quiet, handed_is}
+use Rattle.usb_host.proofs.Transfers.{finished_works, host_works_by, host_works_on}
 use Rattle.usb_host.proofs.arrivals.KeptNumbers.{keeps_forgets, keeps_leaves, keeps_none}
-use Rattle.usb_host.proofs.arrivals.KeptNumbers.{keeps_then}
+use Rattle.usb_host.proofs.arrivals.KeptNumbers.{keeps_then, keeps_rests}
+use Rattle.usb_host.proofs.PortServes.{entered_hubs}
+use Rattle.usb_host.proofs.entries.KindCounts.{hubs-forgot, hubs-rest}
+use Rattle.usb_host.proofs.Looks.{stay_found, stay_same, stay_then, stay_without}
+
+-- How what the parts of a round owe joins.
 
 pub call_none : {A : Type 0} {modelled : Bool} {n : ℕ} {h : HostState} {x : A}
     → PartCall modelled n h (Ok x) h
@@ -115,15 +121,13 @@ call_forgets forgot = call_stands (ap (λ (h : HostState). h.counts) forgot.othe
     (ap (λ (h : HostState). h.world) forgot.others) (keeps_forgets forgot) tt
 
 -- a call on the bus alone
-pub call_bus : {W : Type 0} (modelled : Bool) (spent : W → ℕ) (failed : W → Option BusFault)
-    (left : LeftStatuses) (bus after : W) {n : ℕ} {a b : HostState}
-    → a.counts ≡ counts_of modelled (spent bus) (failed bus) left
-    → b.counts ≡ counts_of modelled (spent after) (failed after) left
-    → spent after ≤ spent bus + n → KeepsNumbers a b
+pub call_bus : (modelled : Bool) (s t : ℕ) (f e : Option BusFault) (left : LeftStatuses) {n : ℕ}
+    {a b : HostState} → a.counts ≡ counts_of modelled s f left
+    → b.counts ≡ counts_of modelled t e left → t ≤ s + n → KeepsNumbers a b
     → (modelled ≡ true → StillWorks a.world b.world)
     → PartCall {A = Unit {0}} modelled n a (Ok tt) b
-call_bus modelled spent failed left bus after {n = n} old new most numbers works = record {
-  spends = rw (old, new) (counts_spend modelled spent failed left bus after n most (omega arith));
+call_bus modelled s t f e left {n = n} old new most numbers works = record {
+  spends = rw (old, new) (counts_spend modelled s t f e left n most (omega arith));
   numbers = numbers;
   told = tt;
   works = works;
@@ -180,3 +184,85 @@ round_leaves round rests fewer = record {
 pub round_wider : {modelled : Bool} {m k : ℕ} {a b : HostState} {r : Round}
     → RoundCall modelled m a (Ok r) b → m ≤ k → RoundCall modelled k a (Ok r) b
 round_wider round le = record { part = call_wider round.part le; quiet = round.quiet }
+
+-- How what is owed at a port joins.
+
+module _ {modelled : Bool} {path : List ℕ} where
+  -- only the bus went on
+  pub port_rests : {m k : ℕ} {a b : HostState} {result : Result (Unit {0}) EnumFault}
+      → HostSpends m a b → HostReported modelled result b → OnlyBusSteps a b → m ≤ k
+      → PortPart modelled path k a result b
+  port_rests {a = a} spends told rests le = record {
+    spends = omega (arith, spends, le);
+    numbers = keeps_rests a rests;
+    told = told;
+    stay = stay_same path (ap (λ (h : HostState). h.entries) rests);
+    hubs = omega (arith, hubs-rest a rests);
+  }
+
+  pub port_after : (m : ℕ) {n k : ℕ} {a b c : HostState} {result : Result (Unit {0}) EnumFault}
+      → PortPart modelled path n b result c → HostSpends m a b → OnlyBusSteps a b → m + n ≤ k
+      → PortPart modelled path k a result c
+  port_after m {a = a} {b = b} {c = c} call spends rests le = record {
+    spends = omega (arith, spends, call.spends, le);
+    numbers = keeps_then (keeps_rests a rests) call.numbers;
+    told = call.told;
+    stay = stay_then path a.entries b.entries c.entries
+        (stay_same path (ap (λ (h : HostState). h.entries) rests)) call.stay;
+    hubs = omega (arith, hubs-rest a rests, call.hubs);
+  }
+
+  -- another root port is left alone, or none is any longer
+  pub port_leaves : {n : ℕ} {a b c : HostState} → PortPart modelled path n a (Ok tt) b
+      → OnlyLeaves modelled b c → PortPart modelled path n a (Ok tt) c
+  port_leaves {a = a} {b = b} {c = c} call leaves =
+      let rests = leaves_rests leaves in
+      record {
+        spends = omega (arith, call.spends, leaves_spent leaves);
+        numbers = keeps_then call.numbers (keeps_rests b rests);
+        told = λ off. tt;
+        stay = stay_then path a.entries b.entries c.entries call.stay
+            (stay_same path (ap (λ (h : HostState). h.entries) rests));
+        hubs = omega (arith, call.hubs, hubs-rest b rests);
+      }
+
+  -- what was at the port is forgotten
+  pub port_forgets : {n : ℕ} {a b : HostState} → Forgets path a b
+      → PortPart modelled path n a (Ok tt) b
+  port_forgets {a = a} {b = b} forgot = record {
+    spends = omega (arith, forgot_spent forgot);
+    numbers = keeps_forgets forgot;
+    told = λ off. tt;
+    stay = stay_without path a.entries forgot.rest;
+    hubs = omega (arith, hubs-forgot path a b forgot.rest);
+  }
+
+  -- and what is there is entered, where nothing is listed before
+  pub port_renews : {n : ℕ} {a b c : HostState} {result : Result (Unit {0}) EnumFault}
+      → Forgets path a b → PortPart modelled path n b result c → PortPart modelled path n a result c
+  port_renews {a = a} {b = b} {c = c} forgot call = record {
+    spends = omega (arith, forgot_spent forgot, call.spends);
+    numbers = keeps_then (keeps_forgets forgot) call.numbers;
+    told = call.told;
+    stay = stay_then path a.entries b.entries c.entries
+        (stay_without path a.entries forgot.rest) call.stay;
+    hubs = omega (arith, hubs-forgot path a b forgot.rest, call.hubs);
+  }
+
+  pub port_enters : {n : ℕ} {a b : HostState} {result : Result (Unit {0}) EnumFault}
+      → HostSpends n a b → KeepsNumbers a b → HostReported modelled result b
+      → Entered path a result b → PortPart modelled path n a result b
+  port_enters {a = a} {b = b} {result = result} spends numbers told entered = record {
+    spends = spends;
+    numbers = numbers;
+    told = told;
+    stay = stay_found path a b result entered;
+    hubs = entered_hubs path a b result entered;
+  }
+
+  -- a fault is handed on
+  pub port_handed : {n : ℕ} {a b : HostState} {fault : EnumFault}
+      {other : Result (Unit {0}) EnumFault} → IsErrAnd other (λ why. why ≡ fault)
+      → PortPart modelled path n a (Err fault) b → PortPart modelled path n a other b
+  port_handed {n = n} {a = a} {b = b} is call =
+      subst (λ r. PortPart modelled path n a r b) (sym (handed_is is)) call

@@ -1,7 +1,7 @@
 -- What is left where a hub is dropped.
 use Rattle.std.proofs.Common.{◌≡◌, ◌∙◌, ◌-◌, ◌*◌, ◌≤◌, arith, inl, inr, refl, ap, subst, true}
 use Rattle.std.proofs.Common.{false, Bool, ℕ, List, length, Option, None, Some, Result, Ok, Err}
-use Rattle.std.proofs.Common.{IsErr, IsSome, IsSomeAnd}
+use Rattle.std.proofs.Common.{IsSome, IsSomeAnd}
 use Rattle.arrayvec.specs.ArrayVec.{ArrayVec}
 use Rattle.usb_port.specs.{parent_of, IsPath}
 use Rattle.usb_tree.specs.{is_way, pending}
@@ -21,23 +21,21 @@ use Rattle.usb_host.specs.{drop_bound, DropsHub, HostState, IsOwnedBut, Climbs, 
 use Rattle.usb_host.specs.{Forgets, AddsNoWork, HostRuns, OnlyBusSteps, waiting, DropsOne}
 use Rattle.usb_host.specs.{FinishesAt, CausesBut, DropsSound, IsDroppable, IsFairTo, table_in}
 use Rattle.usb_host.specs.{HostFault}
-use Rattle.usb_host.proofs.devices.BulkPipes.{bulk_none, stay_forgotten, stay_joined, stay_rests}
-use Rattle.usb_host.proofs.devices.BulkPipes.{stays_where}
+use Rattle.usb_host.proofs.devices.Pipes.{bulk_none, stay_forgotten, stay_joined, stay_rests}
+use Rattle.usb_host.proofs.devices.Pipes.{stays_where}
 use Rattle.usb_host.proofs.devices.Causes.{lost_drops}
-use Rattle.usb_host.proofs.ParentPaths.{parent_length}
-use Rattle.usb_host.proofs.knowledge.DroppedHubs.{climb_caused, climb_sound, done_caused, if_err}
-use Rattle.usb_host.proofs.knowledge.DroppedHubs.{top_absurd}
-use Rattle.usb_host.proofs.payments.HandlingPayments.{hubs_dropped}
-use Rattle.usb_host.proofs.OwnedPorts.{LostListed, bares_above, drop_ends, drop_not_done}
-use Rattle.usb_host.proofs.OwnedPorts.{lost_entries, match_err}
+use Rattle.usb_host.proofs.PortLocations.{parent_length}
+use Rattle.usb_host.proofs.knowledge.HandledPorts.{climb_caused, climb_sound, done_caused}
+use Rattle.usb_host.proofs.knowledge.HandledPorts.{top_absurd}
+use Rattle.usb_host.proofs.payments.PortPayments.{hubs_dropped}
+use Rattle.usb_host.proofs.devices.Owners.{LostListed, bares_above, drop_ends, drop_not_done}
+use Rattle.usb_host.proofs.devices.Owners.{lost_entries, but_above}
 use Rattle.usb_host.proofs.entries.KindCounts.{hubs-dropped, of_kind-without, waiting-entered_other}
 use Rattle.usb_host.proofs.StepSums.{goes_forgotten, host_goes_none, host_goes_then, went_before}
 use Rattle.usb_host.proofs.devices.Plugs.{plugs_none}
-use Rattle.usb_host.proofs.services.ServedWork.{rests_holds}
-use Rattle.usb_host.proofs.services.CutPorts.{forgets_there}
-use Rattle.usb_host.proofs.services.Services.{loses_parent}
+use Rattle.usb_host.proofs.HostProgress.{rests_holds}
+use Rattle.usb_host.proofs.Services.{forgets_there, loses_parent}
 use Rattle.usb_world.proofs.Interface.{course_joined, way_parent}
-use Rattle.usb_host.proofs.devices.Owners.{but_above}
 use Rattle.usb_host.proofs.entries.Roots.{root_parent}
 
 -- The way up
@@ -103,15 +101,15 @@ module _ {first path : List ℕ} {a b c : HostState} (x : ClimbedTo first path a
       }
 
   module _ (least : 1 ≤ length path) where
-    pub climb_fails : {other : Result (List ℕ) HostFault} → IsErr other → Climbs first a other c
-    climb_fails {other = other} e = record {
+    pub climb_fails : {fault : HostFault} → Climbs first a (Err fault) c
+    climb_fails = record {
       goes = climb_goes least;
-      bares = match_err other _ _ e climb_keeps;
+      bares = climb_keeps;
       devices = climb_devices;
       control = climb_control;
-      sound = λ d. if_err other _ e;
+      sound = λ d. tt;
       backlog = climb_backlog;
-      caused = λ d fair pends caused. if_err other _ e;
+      caused = λ d fair pends caused. tt;
     }
 
     module _ (on : is_way path first ≡ true) (r : OnlyBusSteps a b) where
@@ -166,7 +164,7 @@ drop_untold hub {fault = fault} {a = a} {b = b} r x = record {
 }
   where
     owned : DropsHub hub a (Err fault) b
-    owned = drop_not_done hub a (Err fault) b refl x.bares
+    owned = drop_not_done hub a b x.bares
 
 module _ {hub lost : List ℕ} {a b c : HostState} (r : OnlyBusSteps a b)
     (x : Climbs hub a (Ok lost) b) (f : Forgets lost b c) where

@@ -1,7 +1,7 @@
 -- Where the ports stand that the table knows, and which the root has not.
 use Rattle.std.proofs.Common.{◌≡◌, ◌∙◌, refl, sym, ap, subst, arith, suc, zero, Bool, true, false}
 use Rattle.std.proofs.Common.{ℕ, ◌<◌, ◌≤◌, List, [], ◌∷◌, ◌++◌, length, Option, Some, None, Result}
-use Rattle.std.proofs.Common.{Ok, Err, nat_lt, IsSome, IfErr}
+use Rattle.std.proofs.Common.{Ok, Err, nat_lt, IsSome, IfErr, length-append, ◌+◌}
 use Rattle.std.proofs.lemmas.Bool.{lt-ltb}
 use Rattle.std.specs.Map.{lookup}
 use Rattle.std.specs.BTreeMap.{is_at}
@@ -133,3 +133,19 @@ nowhere_reached path h s none x way =
     let whole : x ≡ port_on_hub path ∷ rest.0 = rest.1 ∙ ap (λ (l : List ℕ). l ++ rest.0)
     (root_alone path s.is.0 none) in
     rw whole (beyond_path h.world.roots (port_on_hub path) rest.0 (s.beyond none))
+
+-- The way up from a port.
+
+long : (path : List ℕ) {hub : List ℕ} → parent_of path ≡ Some hub → 2 ≤ length path
+unfolding parent_of
+long (n ∷ m ∷ rest) is = omega arith
+long _ is = absurd (cc is)
+
+-- a parent is one number shorter
+pub parent_length : (path : List ℕ) {hub : List ℕ} → parent_of path ≡ Some hub
+    → (length path ≡ length hub + 1)
+    × (1 ≤ length hub)
+parent_length path {hub = hub} is =
+    let e : length path ≡ length hub + 1 = ap length (rejoined path hub is) ∙ length-append hub
+    (port_on_hub path ∷ []) in
+    (e, omega (arith, long path is))

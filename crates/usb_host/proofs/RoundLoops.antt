@@ -1,41 +1,272 @@
--- What the loops of a round leave, one turn after the other.
-use Rattle.std.proofs.Common.{◌≡◌, ◌∙◌, ◌⊎◌, ◌+◌, ◌-◌, ◌*◌, ◌≤◌, ◌<◌, arith, below_more, refl, sym}
-use Rattle.std.proofs.Common.{ap, subst, true, false, ℕ, List, Option, [], ◌∷◌, None, Some, Result}
-use Rattle.std.proofs.Common.{Ok, Err, IfSome, IsErr}
+-- What the parts of a round leave, and its loops, one turn after the other.
+use Rattle.std.proofs.Common.{◌≡◌, ◌+◌, ◌≤◌, arith, ap, ℕ, List, Result, Ok, Err, ◌∙◌, refl, sym}
+use Rattle.std.proofs.Common.{subst, Bool, false, Option, None, Some, is_err, [], IfOk, OnErr, ◌⊎◌}
+use Rattle.std.proofs.Common.{◌-◌, ◌*◌, ◌<◌, below_more, true, ◌∷◌, IfSome}
+use Rattle.usb_host.specs.{Agrees, hub_poll_bound, hubs_bound, looks_bound, round_bound}
+use Rattle.usb_host.specs.{roots_bound, HostState, either, Part, PartsKeep, RootsRest, HubKeeps}
+use Rattle.usb_host.specs.{HubsKeep, LooksKeep, NoneWait, HostFault, Round, Quiet, HostWorks}
+use Rattle.usb_host.specs.{Affords, Weights, Waits, HostProgress, Did, Remains, DidParts}
+use Rattle.usb_host.specs.{LookedAgain, LookedOnce, LooksAgain, ServesEach, ServesHubs, WentByParts}
+use Rattle.usb_host.specs.{next_device, HostInvariant, PartsFail, StopsIn, Worked, hubs_failed}
+use Rattle.usb_host.specs.{looks_failed, roots_failed, PaysPart, handling_bound, RootsPaid}
+use Rattle.usb_host.specs.{IsRooted, AddsNoWork, HandlesNumber, HandlesPort, HubsPolled}
+use Rattle.usb_host.specs.{LooksOnceMore, RootsServed, ServedTold, ServesHub, ServesPorts}
+use Rattle.usb_host.specs.{bit_clear, bit_set, next_hub, no_device, no_hub, no_root, none_yet}
+use Rattle.usb_host.specs.{root_changed, root_steady, hubs_most, handling_most, BitsHandledSo}
+use Rattle.usb_host.specs.{HubsAsked, RootsHandledSo, WaitingAsked, bit_handled, bit_unset}
+use Rattle.usb_host.specs.{bits_begun, hub_asked, hubs_begun, root_handled, root_unchanged}
+use Rattle.usb_host.specs.{roots_begun, waiting_begun, waiting_next, Stops}
+use Rattle.usb_host.proofs.devices.Owners.{single_then, stays_owned_none, stays_owned_then}
+use Rattle.usb_host.proofs.rests.RestingRounds.{done, ok_is, quiet_first, quiet_second, at_rest}
+use Rattle.usb_host.proofs.rests.RestingRounds.{all_idle, hubs_idle, looks_idle, roots_idle}
+use Rattle.usb_host.proofs.rests.RestingRounds.{none_next, none_shows, none_changed, Polled}
+use Rattle.usb_host.proofs.rests.RestingRounds.{calm_then, none_waits, polled_all, polled_then}
+use Rattle.usb_host.proofs.StepSums.{host_goes_none, host_goes_then, goes_wider, did_then}
+use Rattle.usb_host.proofs.StepSums.{went_before, did_holds, no_work_then, worked_after}
+use Rattle.usb_host.proofs.knowledge.Soundness.{part_none, part_then}
+use Rattle.usb_table.specs.{ComesAfter, is_hub, is_waiting, IsLast, IsNext}
+use Rattle.usb_world.specs.{PlanData, changes, root_row, here, root_port_at, roots_of}
+use Rattle.usb_host.proofs.payments.RoundPayments.{hubs_end_pay, looks_end_pay, parts_pay}
+use Rattle.usb_host.proofs.payments.RoundPayments.{roots_end_pay, one_waits}
 use Rattle.usb_port.specs.{IsPath, has_bit}
-use Rattle.usb_world.specs.{here, changes, root_port_at, root_row, roots_of}
 use Rattle.usb_hub.specs.{TouchesNoPort}
 use Rattle.usb_resources.specs.{IsFull}
-use Rattle.usb_table.specs.{is_hub, is_waiting, ComesAfter, IsLast, IsNext}
-use Rattle.usb_host.specs.{PaysPart, Agrees, handling_bound, hub_poll_bound, hubs_bound}
-use Rattle.usb_host.specs.{looks_bound, RootsPaid, HostState, IsRooted, Waits, AddsNoWork, Did}
-use Rattle.usb_host.specs.{either, HandlesNumber, HandlesPort, HubsPolled, LookedAgain, LooksAgain}
-use Rattle.usb_host.specs.{LooksOnceMore, RootsServed, ServedTold, ServesEach, ServesHub}
-use Rattle.usb_host.specs.{ServesHubs, ServesPorts, ServesRoots, bit_clear, bit_set, next_hub}
-use Rattle.usb_host.specs.{no_device, no_hub, no_root, none_yet, root_changed, root_steady}
-use Rattle.usb_host.specs.{HostInvariant, NoneWait, Part, HostFault, Round, Quiet, Worked}
-use Rattle.usb_host.specs.{hubs_most, handling_most, HubsFail, LooksFail, PortsFail, RootsFail}
-use Rattle.usb_host.specs.{BitsHandledSo, HubsAsked, RootsHandledSo, WaitingAsked, bit_handled}
-use Rattle.usb_host.specs.{bit_unset, bits_begun, hub_asked, hubs_begun, root_handled}
-use Rattle.usb_host.specs.{root_unchanged, roots_begun, waiting_begun, waiting_next}
-use Rattle.usb_host.proofs.payments.HubPayments.{HubsSoFar, hubs_all, hubs_failed, hubs_next}
-use Rattle.usb_host.proofs.rests.IdleRounds.{none_next, none_shows}
-use Rattle.usb_host.proofs.StepSums.{did_holds, did_then, no_work_then, went_before, worked_after}
-use Rattle.usb_host.proofs.RoundParts.{hubs_fail, looks_fail, part-fails, part-none, part-then}
-use Rattle.usb_host.proofs.RoundParts.{part-wider}
-use Rattle.usb_host.proofs.payments.Payments.{is_err-if_ok, costs_none, few_stop}
-use Rattle.usb_host.proofs.rests.QuietPorts.{none_changed}
+use Rattle.usb_host.proofs.payments.HubPayments.{HubsSoFar, hubs_all, hubs_failed_pay, hubs_next}
+use Rattle.usb_host.proofs.payments.HubPayments.{ToldSoFar, root_shows, roots_failed_pay}
+use Rattle.usb_host.proofs.payments.HubPayments.{roots_next, told_all, told_clear, told_failed}
+use Rattle.usb_host.proofs.payments.HubPayments.{told_next, told_so_far_none}
+use Rattle.usb_host.proofs.payments.Payments.{costs_none, few_stop}
 use Rattle.usb_host.proofs.entries.Ranks.{rank_after, rank_after_most, rank_more, rank_most}
 use Rattle.usb_host.proofs.entries.Ranks.{rank_within, rank_rises}
-use Rattle.usb_host.proofs.rests.RestingRounds.{Polled, calm_then, none_waits, ok_is, polled_all}
-use Rattle.usb_host.proofs.rests.RestingRounds.{polled_then, quiet_second}
-use Rattle.usb_host.proofs.entries.Roots.{on_failed}
-use Rattle.usb_host.proofs.payments.RoundPayments.{one_waits}
-use Rattle.usb_host.proofs.services.CutPorts.{on_errors}
-use Rattle.usb_host.proofs.services.RoundServices.{looked_then}
-use Rattle.usb_host.proofs.payments.ToldPayments.{ToldSoFar, root_shows, roots_failed, roots_next}
-use Rattle.usb_host.proofs.payments.ToldPayments.{told_all, told_clear, told_failed, told_next}
-use Rattle.usb_host.proofs.payments.ToldPayments.{told_so_far_none}
+
+-- What the parts of a round keep.
+
+-- One part after another
+
+pub part-none : {A : Type 0} {n : ℕ} {x : A} {h : HostState} → Part n h (Ok x) h
+part-none {h = h} = record { goes = host_goes_none; owned = stays_owned_none; sound = part_none h }
+
+pub part-then : {A B : Type 0} {k m n : ℕ} {a b c : HostState} {x : A} (result : Result B HostFault)
+    → Part m a (Ok x) b → Part n b result c → m + n ≤ k → Part k a result c
+part-then {m = m} {a = a} {b = b} {c = c} (Ok y) p q le = record {
+  goes = host_goes_then p.goes q.goes le;
+  owned = stays_owned_then p.owned q.owned;
+  sound = part_then m a b c p.goes.went q.goes.went p.sound q.sound;
+}
+part-then (Err fault) p q le = record {
+  goes = host_goes_then p.goes q.goes le;
+  owned = single_then p.owned q.owned;
+  sound = tt;
+}
+
+pub part-wider : {A : Type 0} (B : Type 0) {k m : ℕ} {a b : HostState} {x : A} {y : B}
+    → Part m a (Ok x) b → m ≤ k → Part k a (Ok y) b
+part-wider B p le = record { goes = goes_wider p.goes le; owned = p.owned; sound = p.sound }
+
+pub part-fails : {A B : Type 0} {k m : ℕ} {a b : HostState} {fault : HostFault}
+    → Part {A = A} m a (Err fault) b → m ≤ k → Part {A = B} k a (Err fault) b
+part-fails p le = record { goes = goes_wider p.goes le; owned = p.owned; sound = tt }
+
+-- Parts that failed
+
+module _ {fault : HostFault} {a c : HostState} where
+  pub hub_fails : {hub : List ℕ} → Part {A = Round} hub_poll_bound a (Err fault) c
+      → HubKeeps hub a (Err fault) c
+  hub_fails x =
+      record { part = x; calm = λ is. absurd (cc is); silent = λ s is. absurd (cc is) }
+
+  hubs_fail : Part {A = Round} hubs_bound a (Err fault) c → HubsKeep a (Err fault) c
+  hubs_fail x = record {
+    part = x;
+    calm = λ is. absurd (cc is);
+    silent = λ s is. absurd (cc is);
+    agrees = tt;
+  }
+
+  looks_fail : Part {A = Round} looks_bound a (Err fault) c → (NoneWait a.entries → ⊥)
+      → LooksKeep a (Err fault) c
+  looks_fail x waits = record {
+    part = x;
+    rest = λ r is. absurd (cc is);
+    idle = λ none. absurd (waits none);
+  }
+
+-- All parts
+
+pub parts_keep : (roots hubs looks : Round) (a b c d : HostState)
+    → (done roots ≡ done Quiet → RootsRest a b) → Part roots_bound a (Ok roots) b
+    → HubsKeep b (Ok hubs) c → LooksKeep c (Ok looks) d
+    → PartsKeep a (Ok (either (either roots hubs) looks)) d
+parts_keep roots hubs looks a b c d none x y z = record {
+  part = part-then (Ok (either (either roots hubs) looks))
+      (part-then {k = roots_bound + hubs_bound} (Ok hubs) x y.part (omega arith))
+      (part-wider Round {k = looks_bound} {y = either (either roots hubs) looks} z.part
+      (omega arith)) (omega arith);
+  rest = λ s is taken still.
+      let all : either (either roots hubs) looks ≡ Quiet =
+      ok_is (either (either roots hubs) looks) Quiet is in
+      let both : either roots hubs ≡ Quiet = quiet_first (either roots hubs) looks all in
+      at_rest a b c d (none (ap done (quiet_first roots hubs both))) y.part.sound.sound
+      (rw (quiet_second roots hubs both) at y)
+      (rw (quiet_second (either roots hubs) looks all) at z)
+      s taken still;
+}
+
+-- How the parts of a round join as what was done in it.
+
+-- A second look
+
+either_worked : (r : Round) → either r Worked ≡ Worked
+either_worked Worked = refl
+either_worked Quiet = refl
+
+pub looked_then : (last : Option (List ℕ)) (path : List ℕ) (before round : Round)
+    (a b c : HostState) → LookedAgain last before a b → Waits path b → ComesAfter last path
+    → round ≡ Worked → LookedOnce path b c → LookedAgain (Some path) (either before round) a c
+looked_then last path before round a b c looked waits after is once =
+    rw (ap (either before) is ∙ either_worked before) (next_device last path before looked waits
+    after once)
+
+-- The parts
+
+parts_failed : {fault : HostFault} {a b : HostState} → Part {A = Round} round_bound a (Err fault) b
+    → ((c : Weights) (plan : PlanData) → Affords c plan a → Stops c a b)
+    → (a.entries ≡ [] → changes (root_row a.world) ≡ 0 → ⊥) → (HostInvariant a
+    → a.world.fault ≡ None → PartsFail a b)
+    → WentByParts a (Err fault) b
+parts_failed part stops idle fails = record {
+  keeps = record { part = part; rest = λ s is. absurd (cc is) };
+  did = tt;
+  none = λ is. absurd (cc is);
+  parts = tt;
+  order = tt;
+  fails = fails;
+  pays = λ c plan w. record { most = stops c plan w; pays = λ still. tt; plugs = tt };
+  idle = λ entries none. absurd (idle entries none);
+}
+
+module _ {a b : HostState} where
+  -- the root ports failed
+  pub parts_rootless : {fault : HostFault} → ServesEach a (Err fault) b
+      → WentByParts a (Err fault) b
+  parts_rootless {fault = fault} x =
+      parts_failed (part-fails {k = round_bound} x.part (omega arith)) (roots_end_pay x)
+      (λ entries none. roots_idle a entries none b fault x.idle)
+      (λ i none. roots_failed (x.fails i none))
+
+  module _ {roots : Round} (x : ServesEach a (Ok roots) b)
+      (working : a.world.fault ≡ None → b.world.fault ≡ None) {d : HostState} where
+    -- the hubs failed
+    pub parts_hubless : {fault : HostFault} → ServesHubs b (Err fault) d
+        → WentByParts a (Err fault) d
+    parts_hubless {fault = fault} y =
+        parts_failed (part-fails {k = round_bound}
+        (part-then {k = roots_bound + hubs_bound} _ x.part y.keeps.part (omega arith))
+        (omega arith)) (hubs_end_pay x y)
+        (λ entries none. hubs_idle a entries none b roots x.idle d fault y.idle)
+        (λ i none. hubs_failed roots b (x.serves.served i) (x.part.sound.bulk i (working none))
+        (y.fails (x.part.sound.sound.sound i) (working none)))
+
+    module _ {hubs : Round} (y : ServesHubs b (Ok hubs) d)
+        (on : b.world.fault ≡ None → d.world.fault ≡ None) (f : HostState) where
+      both_served : Part (roots_bound + hubs_bound) a (Ok hubs) d
+      both_served = part-then (Ok hubs) x.part y.keeps.part (omega arith)
+
+      -- the second looks failed
+      pub parts_lookless : {fault : HostFault} → LooksAgain d (Err fault) f
+          → WentByParts a (Err fault) f
+      parts_lookless {fault = fault} z =
+          parts_failed (part-then {k = round_bound} _ both_served z.keeps.part (omega arith))
+          (looks_end_pay x y z.keeps)
+          (λ entries none. looks_idle a entries none b roots x.idle d hubs y.idle f fault
+          z.keeps.idle)
+          (λ i none.
+          let still = on (working none) in
+          looks_failed roots hubs b d (x.serves.served i)
+          (y.polls (x.part.sound.sound.sound i) still) (both_served.sound.bulk i still)
+          (z.fails (both_served.sound.sound.sound i) still))
+
+      -- all was done
+      pub parts_made : {looks : Round} → LooksAgain d (Ok looks) f
+          → WentByParts a (Ok (either (either roots hubs) looks)) f
+      parts_made {looks = looks} z = record {
+        keeps = parts_keep roots hubs looks a b d f (λ is. x.serves.none (ok_is roots Quiet is))
+            x.part y.keeps z.keeps;
+        did = did_then (either roots hubs) looks a d f both_served.goes z.keeps.part.goes
+            (did_then roots hubs a b d x.part.goes y.keeps.part.goes x.serves.did y.did) z.did;
+        none = λ is.
+            let both = quiet_first (either roots hubs) looks
+            (ok_is (either (either roots hubs) looks) Quiet is) in
+            (x.serves.none (quiet_first roots hubs both)).none;
+        parts = λ s still.
+            let before = x.part.sound.sound.sound s in
+            record {
+              roots = roots;
+              first = b;
+              served = x.serves.served s;
+              hubs = hubs;
+              second = d;
+              polled = y.polls before
+                  (went_before z.keeps.part.goes.went still);
+              looks = looks;
+              looked = z.looked (y.keeps.part.sound.sound.sound before);
+              is = refl;
+            };
+        fails = tt;
+        order = record {
+          roots = roots;
+          first = b;
+          handled = x.serves.order;
+          hubs = hubs;
+          second = d;
+          asked = y.order;
+          looks = looks;
+          looked = z.order;
+          is = refl;
+        };
+        pays = parts_pay x y z.keeps;
+        idle = λ entries none.
+            all_idle a entries none b roots x.idle d hubs y.idle f looks z.keeps.idle;
+      }
+
+did_worked : (r : Round) (a b : HostState) → Did r a b → r ≡ Worked → HostProgress a b
+did_worked Worked a b did is = did
+did_worked Quiet a b did is = absurd (cc is)
+
+did_quiet : (r : Round) (a b : HostState) → Did r a b → r ≡ Quiet → Remains a b
+did_quiet Worked a b did is = absurd (cc is)
+did_quiet Quiet a b did is = did
+
+-- one that failed stops
+pub parts_stopped : (result : Result Round HostFault) (a b : HostState) (stopped : Bool)
+    → stopped ≡ is_err result → WentByParts a result b → OnErr result (a.stopped ≡ false
+    → HostInvariant a → a.world.fault ≡ None → StopsIn a (record b { stopped = stopped }))
+parts_stopped (Ok round) a b stopped is went = tt
+parts_stopped (Err fault) a b stopped is went = λ going i none. record {
+  left = b;
+  fails = went.fails i none;
+  stops = ap (λ (x : Bool). record b { stopped = x }) is;
+}
+
+-- a host that has not stopped goes on
+pub parts_done : (result : Result Round HostFault) (a b : HostState) (stopped : Bool)
+    → a.stopped ≡ false → stopped ≡ is_err result → WentByParts a result b → HostWorks a result b
+    → IfOk result (λ round. DidParts round a (record b { stopped = stopped }))
+parts_done (Ok round) a b stopped going is went works =
+    subst (λ (x : Bool). DidParts round a (record b { stopped = x }))
+    (sym (is ∙ sym (went.keeps.part.goes.going ∙ going))) (record {
+      did = record {
+        worked = did_worked round a b went.did;
+        quiet = λ quiet.
+            (did_quiet round a b went.did quiet, went.none (ap (λ (r : Round). Ok r) quiet));
+        rooted = went.keeps.part.owned.rooted;
+      };
+      parts = λ s still. went.parts s (works still);
+      order = went.order;
+    })
+parts_done (Err fault) a b stopped going is went works = tt
+
+-- What the loops of a round leave, one turn after the other.
 
 -- Root ports
 
@@ -105,24 +336,22 @@ module _ {n : ℕ} {round : Round} {a b : HostState} (x : RootsHandled n round a
     }
 
     pub roots_cut : n ≤ 7 → (a.world.fault ≡ None → b.world.fault ≡ None) → {fault : HostFault}
-        {other : Result Round HostFault} → IsErr other
         → HandlesPort (n ∷ []) ((root_port_at b.world n).connection_changed ≡ true) b (Err fault) d
-        → ServesEach a other d
-    roots_cut most works {other = other} e y = record {
-      part = part-fails other (part-then {k = n * handling_bound} _ x.part y.part (omega arith)) e
+        → ServesEach a (Err fault) d
+    roots_cut most works y = record {
+      part = part-fails (part-then {k = n * handling_bound} _ x.part y.part (omega arith))
           (omega arith);
-      serves = is_err-if_ok other (λ r. ServesRoots r a d) e;
-      fails = on_errors other (HostInvariant a → a.world.fault ≡ None → RootsFail a d)
-          (λ i none. record {
-            number = n;
-            round = round;
-            mid = b;
-            served = x.served i;
-            changed = on;
-            bulk = x.part.sound.bulk i (works none);
-            cut = y.cut (x.part.sound.sound.sound i);
-          });
-      pays = roots_failed x.part y.part x.pays y.pays e;
+      serves = tt;
+      fails = λ i none. record {
+        number = n;
+        round = round;
+        mid = b;
+        served = x.served i;
+        changed = on;
+        bulk = x.part.sound.bulk i (works none);
+        cut = y.cut (x.part.sound.sound.sound i);
+      };
+      pays = roots_failed_pay x.part y.part x.pays y.pays;
       idle = λ none. absurd (none_shows a b n (x.same (x.idle none)) none on);
     }
 
@@ -190,25 +419,23 @@ module _ {hub : List ℕ} {bits n : ℕ} {a b : HostState} (x : PortsHandled hub
     }
 
     pub ports_cut : (a.world.fault ≡ None → b.world.fault ≡ None) → {fault : HostFault}
-        {other : Result (Unit {0}) HostFault} → IsErr other
         → has_bit bits n ≡ true → HandlesNumber hub n b (Err fault) d
-        → ServesPorts hub bits a other d
-    ports_cut works {fault = fault} {other = other} e on y = record {
-      part = part-fails other (part-then {k = n * handling_bound} _ x.part y.part (omega arith)) e
+        → ServesPorts hub bits a (Err fault) d
+    ports_cut works on y = record {
+      part = part-fails (part-then {k = n * handling_bound} _ x.part y.part (omega arith))
           (omega arith);
-      holds = on_failed other (AddsNoWork a d) e;
-      served = on_failed other (HostInvariant a → ServedTold hub bits 16 a d) e;
-      order = on_failed other (BitsHandledSo hub bits 16 a d) e;
-      fails = on_errors other (HostInvariant a → a.world.fault ≡ None
-          → PortsFail hub bits a d) (λ i none. record {
-            number = n;
-            mid = b;
-            served = x.served i;
-            told = on;
-            bulk = x.part.sound.bulk i (works none);
-            cut = y.cut (x.part.sound.sound.sound i);
-          });
-      pays = told_failed least most x.part y.part x.pays y.pays e;
+      holds = tt;
+      served = tt;
+      order = tt;
+      fails = λ i none. record {
+        number = n;
+        mid = b;
+        served = x.served i;
+        told = on;
+        bulk = x.part.sound.bulk i (works none);
+        cut = y.cut (x.part.sound.sound.sound i);
+      };
+      pays = told_failed least most x.part y.part x.pays y.pays;
     }
 
 pub ports_end : {hub : List ℕ} (bits : ℕ) {n : ℕ} {a b : HostState} → PortsHandled hub bits n a b
@@ -280,28 +507,26 @@ module _ {last : Option (List ℕ)} {hub : List ℕ} {round : Round} {a b d : Ho
       }
 
   pub hubs_cut : (a.world.fault ≡ None → b.world.fault ≡ None) → {fault : HostFault}
-      {other : Result Round HostFault} → IsErr other
-      → ServesHub hub b (Err fault) d → (a.entries ≡ [] → b ≡ a) → ServesHubs a other d
-  hubs_cut works {other = other} e y idle = record {
-    keeps = hubs_fail e (part-fails {k = hubs_bound} other
+      → ServesHub hub b (Err fault) d → (a.entries ≡ [] → b ≡ a) → ServesHubs a (Err fault) d
+  hubs_cut works y idle = record {
+    keeps = hubs_fail (part-fails {k = hubs_bound}
         (part-then {k = rank_after (Some hub) * hub_poll_bound} _ x.part y.keeps.part
-        (rank_more hub_poll_bound last hub before path next.stands.after)) e
+        (rank_more hub_poll_bound last hub before path next.stands.after))
         (rank_within hub_poll_bound (rank_after (Some hub)) (rank_most hub path)));
-    did = is_err-if_ok other (λ r. Did r a d) e;
-    polls = is_err-if_ok other _ e;
-    order = is_err-if_ok other _ e;
-    fails = on_errors other (HostInvariant a → a.world.fault ≡ None → HubsFail a d)
-        (λ i none. record {
-          last = last;
-          round = round;
-          mid = b;
-          polled = x.polls i (works none);
-          hub = hub;
-          next = next;
-          bulk = x.part.sound.bulk i (works none);
-          fails = y.fails (x.part.sound.sound.sound i) (works none);
-        });
-    pays = hubs_failed hub x.part y.keeps.part x.pays y.pays e;
+    did = tt;
+    polls = tt;
+    order = tt;
+    fails = λ i none. record {
+      last = last;
+      round = round;
+      mid = b;
+      polled = x.polls i (works none);
+      hub = hub;
+      next = next;
+      bulk = x.part.sound.bulk i (works none);
+      fails = y.fails (x.part.sound.sound.sound i) (works none);
+    };
+    pays = hubs_failed_pay hub x.part y.keeps.part x.pays y.pays;
     idle = λ none. absurd (none_next (idle none) none next);
   }
 
@@ -363,29 +588,28 @@ module _ {last : Option (List ℕ)} {path : List ℕ} {round : Round} {a b d : H
   }
 
   pub waiting_cut : (a.world.fault ≡ None → b.world.fault ≡ None) → {fault : HostFault}
-      {other : Result Round HostFault} → IsErr other
-      → LooksOnceMore path b (Err fault) d → (NoneWait a.entries → b ≡ a) → LooksAgain a other d
-  waiting_cut works {other = other} e y idle = record {
-    keeps = looks_fail e (part-fails {k = looks_bound} other
+      → LooksOnceMore path b (Err fault) d → (NoneWait a.entries → b ≡ a)
+      → LooksAgain a (Err fault) d
+  waiting_cut works y idle = record {
+    keeps = looks_fail (part-fails {k = looks_bound}
         (part-then {k = rank_after (Some path) * handling_bound} _ x.part y.part
-        (rank_more handling_bound last path before is after)) e
+        (rank_more handling_bound last path before is after))
         (rank_within handling_bound (rank_after (Some path)) (rank_most path is)))
         (λ none. one_waits (idle none) waits none);
-    did = is_err-if_ok other (λ r. Did r a d) e;
-    looked = is_err-if_ok other _ e;
-    order = is_err-if_ok other _ e;
-    fails = on_errors other (HostInvariant a → a.world.fault ≡ None → LooksFail a d)
-        (λ i none. record {
-          last = last;
-          round = round;
-          mid = b;
-          looked = x.looked i;
-          path = path;
-          waits = waits;
-          after = after;
-          bulk = x.part.sound.bulk i (works none);
-          cut = y.cut (x.part.sound.sound.sound i);
-        });
+    did = tt;
+    looked = tt;
+    order = tt;
+    fails = λ i none. record {
+      last = last;
+      round = round;
+      mid = b;
+      looked = x.looked i;
+      path = path;
+      waits = waits;
+      after = after;
+      bulk = x.part.sound.bulk i (works none);
+      cut = y.cut (x.part.sound.sound.sound i);
+    };
   }
 
 pub waiting_end : {last : Option (List ℕ)} {round : Round} {a b : HostState}

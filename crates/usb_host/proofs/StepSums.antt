@@ -1,12 +1,19 @@
--- How the parts of a round join.
+-- How many attempts are made at most, and how the parts of a round join.
 use Rattle.std.proofs.Common.{◌≡◌, ◌∙◌, refl, ap, arith, ℕ, ◌+◌, ◌≤◌, List, None, Option, Err}
-use Rattle.std.proofs.Common.{IsErrAnd, Ok, Result}
+use Rattle.std.proofs.Common.{IsErrAnd, Ok, Result, false}
 use Rattle.usb_world.specs.{World}
 use Rattle.usb_bus.specs.{StepRun}
-use Rattle.usb_enum.proofs.Interface.{went_sound}
+use Rattle.usb_enum.proofs.Interface.{went_sound, enumeration_most, status_most}
 use Rattle.usb_bus.proofs.Interface.{went_none, went_then, went_wider}
 use Rattle.usb_host.specs.{HostState, HostSteps, HostRuns, HostProgress, AddsNoWork, OnlyBusSteps}
-use Rattle.usb_host.specs.{Remains, Did, either, waiting, Round, Worked, Quiet}
+use Rattle.usb_host.specs.{Remains, Did, either, waiting, Round, Worked, Quiet, StandsAt}
+use Rattle.usb_hub.specs.{status_bound, HubPort, Root, External}
+use Rattle.usb_enum.specs.{EnumFault, Enumerates, Finding, IsWide, enumeration_bound, read_bound}
+use Rattle.usb_enum.specs.{widest_enumeration}
+use Rattle.usb_table.specs.{IsAskable, KnownPort, has_at, tier_of}
+use Rattle.usb_host.specs.Accounts.{Accounts}
+
+-- How the parts of a round join.
 
 pub host_goes_none : {n : ℕ} {h : HostState} → HostRuns n h h
 host_goes_none {n = n} =
@@ -96,3 +103,32 @@ pub handed_is : {A E : Type 0} {result : Result A E} {why : E} → IsErrAnd resu
     → result ≡ Err why
 handed_is {result = Ok x} is = absurd is
 handed_is {result = Err e} is = ap Err is
+
+-- What requests to a port and an enumeration take at most.
+
+pub askable_wide : (port : HubPort) → IsAskable port → IsWide port
+askable_wide (Root _) h = tt
+askable_wide (External _ _) h = h.wide
+
+pub enumeration_goes : (port : HubPort) (a b : HostState) → IsAskable port
+    → HostSteps (enumeration_bound port) a b → b.stopped ≡ a.stopped → b.options ≡ a.options
+    → HostRuns widest_enumeration a b
+enumeration_goes port a b askable w e f = goes_by a b w
+    (enumeration_most port (askable_wide port askable)) e f
+
+pub status_read_goes : (port : HubPort) (a b : HostState) → IsAskable port
+    → HostSteps (status_bound port) a b → b.stopped ≡ a.stopped → b.options ≡ a.options
+    → HostRuns (read_bound 4) a b
+status_read_goes port a b askable w e f =
+    goes_by a b w (status_most port (askable_wide port askable)) e f
+
+-- an enumeration at a port of which nothing is listed
+pub record EnumerationAt (n : ℕ) (path : List ℕ) (port : KnownPort)
+    (result : Result Finding EnumFault) (a b : HostState) : Type 0 where
+  pub stands : StandsAt path port a
+  pub away : has_at path a.entries ≡ false
+  pub accounts : Accounts a.entries a.addresses
+  pub went : HostSteps n a b
+  pub options : b.options ≡ a.options
+  pub gives : Enumerates port.port a.addresses b.options (tier_of path) port.supply a.world result
+      b.world

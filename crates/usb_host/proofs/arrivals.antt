@@ -1,3 +1,2 @@
-pub mod FewerNews
 pub mod KeptNumbers
-pub mod ReportedPlaces
+pub mod News

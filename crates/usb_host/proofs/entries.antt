@@ -1,8 +1,6 @@
 -- The entries of the table.
 pub mod Agreements
-pub mod Balances
 pub mod KeptBytes
 pub mod KindCounts
 pub mod Ranks
 pub mod Roots
-pub mod FoundEntries

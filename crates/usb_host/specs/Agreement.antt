@@ -1,5 +1,5 @@
 -- What is so of a host's table and pool between its calls.
-use Rattle.std.specs.Prelude.{◌≡◌, ℕ, Bool, List, Some, IsSome}
+use Rattle.std.specs.Prelude.{◌≡◌, ℕ, List, Some, IsSome}
 use Rattle.std.specs.Map.{lookup}
 use Rattle.std.specs.BTreeMap.{is_at}
 use Rattle.usb_port.specs.{path_cmp, IsPath}

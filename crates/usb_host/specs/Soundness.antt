@@ -1,6 +1,6 @@
 -- When what a host knows of its ports is so.
 use Rattle.std.specs.Prelude.{◌≡◌, ◌≢◌, ◌⊎◌, ◌≤◌, ℕ, List, [], ◌∷◌, ◌++◌, None, Some, IsSome}
-use Rattle.std.specs.Prelude.{IfSome, unwrap_or, option_map, Bool, true, false, ⊤, Result, Ok, OnOk}
+use Rattle.std.specs.Prelude.{IfSome, unwrap_or, option_map, true, false, ⊤, Result, Ok, OnOk}
 use Rattle.usb_port.specs.{parent_of, port_on_hub}
 use Rattle.usb_resources.specs.{Addresses}
 use Rattle.usb_device.specs.{State, reach, state_there, port_there}

@@ -583,7 +583,7 @@ impl<B: Bus> Host<B> {
     }
 
     /// Takes out the entries at a path and below it, and releases their addresses.
-    #[tactic(auto, using(usb_table::proofs::Interface::takes_one, crate::proofs::entries::Balances::accounts_freed, crate::proofs::entries::Balances::range_freed, usb_table::proofs::Interface::taken_apart, crate::proofs::entries::Balances::full_before, crate::proofs::devices::LevelPipes::pipes_apart))]
+    #[tactic(auto, using(usb_table::proofs::Interface::takes_one, crate::proofs::entries::Agreements::accounts_freed, crate::proofs::entries::Agreements::range_freed, usb_table::proofs::Interface::taken_apart, crate::proofs::entries::Agreements::full_before, crate::proofs::devices::Pipes::pipes_apart))]
     fn forget(&mut self, path: &PortPath)
         ensures { Forgets path.now self.old self.new }
     {

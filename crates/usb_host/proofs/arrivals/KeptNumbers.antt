@@ -1,4 +1,5 @@
 -- Numbers are given once: devices keep theirs, and no two that are listed have the same.
+use Rattle.usb_tree.proofs.Interface.{decided}
 use Rattle.std.proofs.Common.{◌≡◌, ◌∙◌, ap, arith, refl, ℕ, ◌+◌, ◌<◌, List, [], ◌∷◌, length, map}
 use Rattle.std.proofs.Common.{get_or, set, ◌≢◌, ◌⊎◌, inl, inr, subst, sym, ◌≤◌, Ok, Bool, true}
 use Rattle.std.proofs.Common.{false, not, Option, Some, None, get_or-set_other, get_or-set_same}
@@ -20,8 +21,8 @@ use Rattle.usb_table.specs.{is_at_or_below, without}
 use Rattle.usb_table.proofs.Interface.{path_tied}
 use Rattle.usb_host.specs.Accounts.{Accounts}
 use Rattle.usb_host.proofs.entries.Agreements.{lookup-insert_entry_elsewhere, lookup-without}
-use Rattle.usb_host.proofs.entries.Balances.{claims_taken, lookup-insert_entry_here}
-use Rattle.usb_host.proofs.entries.Balances.{claims_distinct}
+use Rattle.usb_host.proofs.entries.Agreements.{claims_taken, lookup-insert_entry_here}
+use Rattle.usb_host.proofs.entries.Agreements.{claims_distinct}
 use Rattle.usb_world.proofs.Interface.{same_is}
 
 map_same : (xs : List ℕ) → map (λ k. k) xs ≡ xs
@@ -66,16 +67,13 @@ keeps_same {a} e = subst (KeepsKnown a) (sym e) (keeps_none a)
 pub keeps_then : {a b c : Known} → KeepsKnown a b → KeepsKnown b c → KeepsKnown a c
 keeps_then {a} {b} {c} x y = record {
   rising = omega (arith, x.rising, y.rising);
-  each = λ p d at. by p d (y.each p d at);
+  each = λ p d at. elim (y.each p d at) [
+    | inl was ↦ x.each p d was
+    | inr new ↦ inr (omega (arith, x.rising, new))
+  ];
   reported = y.reported ∙ x.reported;
   options = y.options ∙ x.options;
 }
-  where
-    by : (p : List ℕ) (d : KnownDevice)
-        → (device_in p b ≡ Some d) ⊎ (b.numbers.next ≤ d.number)
-        → (device_in p a ≡ Some d) ⊎ (a.numbers.next ≤ d.number)
-    by p d (inl at) = x.each p d at
-    by p d (inr new) = inr (omega (arith, x.rising, new))
 
 -- what a driver may know does not change at first
 pub keeps_from : {a b c : Known} → KeepsKnown b c → b.entries ≡ a.entries
@@ -103,21 +101,19 @@ keeps_leaves x = keeps_same (ap known_in x.only)
 -- Entries are forgotten
 
 left_device : (p path : List ℕ) (es : Entries) (numbers : DeviceNumbers) (d : KnownDevice)
-    → (b : Bool) → not (is_at_or_below p path) ≡ b
     → known_device (accepted_device_at p (without path es)) numbers ≡ Some d
     → known_device (accepted_device_at p es) numbers ≡ Some d
-left_device p path es numbers d true is at =
-    rw (lookup-without p path es is) at at
-left_device p path es numbers d false is at =
-    absurd (cc (rw (lookup-without p path es is) at at))
+left_device p path es numbers d left = elim (decided (not (is_at_or_below p path))) [
+  | inl is ↦ rw (lookup-without p path es is) at left
+  | inr is ↦ absurd (cc (rw (lookup-without p path es is) at left))
+]
 
 pub keeps_forgets : {path : List ℕ} {a b : HostState} → Forgets path a b → KeepsNumbers a b
 keeps_forgets {path} {a} {b} f =
     let numbers : b.numbers ≡ a.numbers = ap (λ (h : HostState). h.numbers) f.others in
     record {
       rising = let next = ap (λ (m : DeviceNumbers). m.next) numbers in omega arith;
-      each = λ p d at. inl (left_device p path a.entries a.numbers d
-          (not (is_at_or_below p path)) refl (rw (f.rest, numbers) at at));
+      each = λ p d at. inl (left_device p path a.entries a.numbers d (rw (f.rest, numbers) at at));
       reported = ap (λ (h : HostState). h.reported) f.others;
       options = ap (λ (h : HostState). h.options) f.others;
     }
@@ -126,22 +122,22 @@ keeps_forgets {path} {a} {b} f =
 
 module _ (path : List ℕ) (es : Entries) where
   refused_device : (cause : Cause) (numbers : DeviceNumbers) (p : List ℕ) (d : KnownDevice)
-      → (b : Bool) → is_at (path_cmp p) path ≡ b
       → known_device (accepted_device_at p (insert_entry path_cmp es path (Refused cause))) numbers
       ≡ Some d → known_device (accepted_device_at p es) numbers ≡ Some d
-  refused_device cause numbers p d true tie at =
-      let same : p ≡ path = path_tied p path tie in
-      absurd (cc (rw (same, lookup-insert_entry_here path (Refused cause) es) at at))
-  refused_device cause _ p d false apart at =
-      rw (lookup-insert_entry_elsewhere p path (Refused cause) es apart) at at
+  refused_device cause numbers p d listed = elim (decided (is_at (path_cmp p) path)) [
+    | inl tie ↦
+        let same : p ≡ path = path_tied p path tie in
+        absurd (cc (rw (same, lookup-insert_entry_here path (Refused cause) es) at listed))
+    | inr apart ↦ rw (lookup-insert_entry_elsewhere p path (Refused cause) es apart) at listed
+  ]
 
   pub keeps_refused : (cause : Cause) {a b : Known} → a.entries ≡ es
       → b.entries ≡ insert_entry path_cmp es path (Refused cause) → b.numbers ≡ a.numbers
       → b.reported ≡ a.reported → b.options ≡ a.options → KeepsKnown a b
   keeps_refused cause {a} {b} before entered numbers reported options = record {
     rising = let next = ap (λ (m : DeviceNumbers). m.next) numbers in omega arith;
-    each = λ p d at. inl (rw before (refused_device cause a.numbers p d _
-        refl (rw (entered, numbers) at at)));
+    each = λ p d at. inl (rw before (refused_device cause a.numbers p d
+        (rw (entered, numbers) at at)));
     reported = reported;
     options = options;
   }

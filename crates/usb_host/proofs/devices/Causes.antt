@@ -30,32 +30,30 @@ use Rattle.usb_table.specs.{tier_of}
 use Rattle.usb_host.specs.{Forgets, Agrees, RestElsewhere, IsLost, HoldsAt, Watches, Tidies}
 use Rattle.usb_host.specs.{ClearsChange, MovesNoBulk, by_control, IsOpen, PortCaused, FindsSound}
 use Rattle.usb_host.specs.{Disabled, Climbs, HostState, claims, KeepsPort, DropsHub, StandsAt}
-use Rattle.usb_host.specs.{HostSteps, OnlyBusSteps, table_in, known_supply, RefusalsJustified}
-use Rattle.usb_host.specs.{CausesBut, IsJustifiedAt, IsFairTo, HostInvariant, IsSoundBut}
-use Rattle.usb_host.specs.{IsDroppable, DropsSound}
+use Rattle.usb_host.specs.{HostSteps, OnlyBusSteps, table_in, RefusalsJustified, CausesBut}
+use Rattle.usb_host.specs.{IsJustifiedAt, IsFairTo, HostInvariant, IsSoundBut, IsDroppable}
+use Rattle.usb_host.specs.{DropsSound}
 use Rattle.usb_backlog.specs.{KeepsAll}
-use Rattle.usb_host.proofs.StepSums.{went_before}
-use Rattle.usb_host.proofs.devices.BulkPipes.{AllStay, bulk_stays, stay_forgotten, stay_joined}
-use Rattle.usb_host.proofs.devices.BulkPipes.{stay_refused, stay_rests}
-use Rattle.usb_host.proofs.entries.Balances.{lookup-insert_entry_here}
-use Rattle.usb_host.proofs.knowledge.DroppedHubs.{fault_after-no_bus, claimed, is_call}
-use Rattle.usb_host.proofs.knowledge.DroppedHubs.{lost_sound_there}
-use Rattle.usb_host.proofs.devices.Enumerations.{EnumerationAt}
+use Rattle.usb_host.proofs.StepSums.{went_before, EnumerationAt}
+use Rattle.usb_host.proofs.devices.Pipes.{AllStay, bulk_stays, stay_forgotten, stay_joined}
+use Rattle.usb_host.proofs.devices.Pipes.{stay_refused, stay_rests}
+use Rattle.usb_host.proofs.entries.Agreements.{lookup-insert_entry_here}
+use Rattle.usb_host.proofs.knowledge.HandledPorts.{fault_after-no_bus, claimed, is_call}
+use Rattle.usb_host.proofs.knowledge.HandledPorts.{lost_sound_there, begins, found_few, found_only}
+use Rattle.usb_host.proofs.knowledge.HandledPorts.{supply_found, entered_bulk, entered_sound}
+use Rattle.usb_host.proofs.knowledge.HandledPorts.{unfound_bulk, unfound_sound, unfound_where}
+use Rattle.usb_host.proofs.knowledge.HandledPorts.{but_of_sound, sound_rests, sound_rests_but}
+use Rattle.usb_host.proofs.knowledge.HandledPorts.{rests_stands, stands_way}
 use Rattle.usb_host.proofs.devices.Plugs.{plugs_lost}
-use Rattle.usb_host.proofs.knowledge.FoundDevices.{begins, found_few, found_only, supply_found}
-use Rattle.usb_host.proofs.knowledge.FoundDevices.{entered_bulk, entered_sound, unfound_bulk}
-use Rattle.usb_host.proofs.knowledge.FoundDevices.{unfound_sound, unfound_where}
-use Rattle.usb_host.proofs.OwnedPorts.{LostListed, lost_entries, lost_options, lost_world}
-use Rattle.usb_host.proofs.OwnedPorts.{root_done}
+use Rattle.usb_host.proofs.devices.Owners.{LostListed, lost_entries, lost_options, lost_world}
+use Rattle.usb_host.proofs.devices.Owners.{root_done}
 use Rattle.usb_host.proofs.knowledge.Places.{finding-none, causes_dropped, causes_found}
-use Rattle.usb_host.proofs.knowledge.ServedPorts.{but_of_sound, sound_rests, sound_rests_but}
-use Rattle.usb_host.proofs.knowledge.ServedPorts.{rests_stands, stands_way}
+use Rattle.usb_host.proofs.knowledge.Places.{causes_stay, causes_but_stay, cause_stays}
+use Rattle.usb_host.proofs.knowledge.Places.{cause_stands}
 use Rattle.usb_host.proofs.entries.Roots.{accounted}
 use Rattle.usb_host.proofs.knowledge.Servers.{hub_server}
 use Rattle.usb_host.proofs.knowledge.SettledListings.{listed_port}
 use Rattle.usb_host.proofs.PortLocations.{stands_at-claim, lost_above}
-use Rattle.usb_host.proofs.knowledge.KnowledgeKept.{causes_stay, causes_but_stay, cause_stays}
-use Rattle.usb_host.proofs.knowledge.KnowledgeKept.{cause_stands}
 
 -- Causes elsewhere
 
@@ -65,11 +63,10 @@ causes_above options path below w es on caused x away = caused x (way_apart path
 
 causes_gone : (options : HostOptions) (path : List ℕ) (w : World) (es : Entries)
     → has_at path es ≡ false → CausesBut options path w es → RefusalsJustified options w es
-causes_gone options path w es gone caused x = pick (decided (is_way path x))
-  where
-    pick : (is_way path x ≡ true) ⊎ (is_way path x ≡ false) → IsJustifiedAt options w es x
-    pick (inl way) = λ cause s at there. absurd (cc (finding-none path x es gone way, at))
-    pick (inr away) = caused x away
+causes_gone options path w es gone caused x = elim (decided (is_way path x)) [
+  | inl way ↦ λ cause s at there. absurd (cc (finding-none path x es gone way, at))
+  | inr away ↦ caused x away
+]
 
 -- A hub that fails
 
@@ -279,21 +276,16 @@ entered_caused {path = path} {port = port} {f = f} {a = a} {b = b} e o fair is c
     (causes_gone b.options path b.world a.entries e.away (found_causes e o fair caused)) here)
   where
     here : IsJustifiedAt b.options b.world (insert_entry path_cmp a.entries path f) path
-    here cause t at there = pick (e.gives.warrants.cause (claims a.entries) path
-        (found_fair e o fair) cause t (ap Ok found) there)
-      where
-        found : f ≡ Refused cause
-        found = cc (sym (lookup-insert_entry_here path f a.entries) ∙ at)
-
-        pick : (pending b.world.roots path ≡ true)
-            ⊎ IsRight (IsFull a.addresses) t.spec b.options (tier_of path) port.supply
-            (Refused cause) → (pending b.world.roots path ≡ true)
-            ⊎ IsRight ⊤ t.spec b.options (tier_of path)
-            (known_supply path (insert_entry path_cmp a.entries path f)) (Refused cause)
-        pick (inl x) = inl x
-        pick (inr x) = inr (rw (supply_found path f a.entries e.stands.known)
-            (right_free (IsFull a.addresses) t.spec b.options (tier_of path) port.supply
-            (Refused cause) x))
+    here cause t at there =
+        let found : f ≡ Refused cause =
+        cc (sym (lookup-insert_entry_here path f a.entries) ∙ at) in
+        elim (e.gives.warrants.cause (claims a.entries) path (found_fair e o fair) cause t
+        (ap Ok found) there) [
+          | inl x ↦ inl x
+          | inr x ↦ inr (rw (supply_found path f a.entries e.stands.known)
+              (right_free (IsFull a.addresses) t.spec b.options (tier_of path) port.supply
+              (Refused cause) x))
+        ]
 
 unfound_caused : {n : ℕ} {path : List ℕ} {port : KnownPort} {fault : EnumFault} {a b : HostState}
     → EnumerationAt n path port (Err fault) a b → IsOpen path a → IsFairTo a.world b.world

@@ -33,9 +33,9 @@ use Rattle.usb_host.specs.{Forgets, Agrees, HostState, HasLost, HasPlugs, KeepsP
 use Rattle.usb_host.specs.{WasPlugged, is_plug, plug_events, EntersOne, HostSteps, OnlyBusSteps}
 use Rattle.usb_host.specs.{ClearsAndReads, DoneWhere}
 use Rattle.usb_host.proofs.StepSums.{went_before}
-use Rattle.usb_host.proofs.entries.Agreements.{lookup-insert_entry_elsewhere}
-use Rattle.usb_host.proofs.entries.Balances.{accounts_listed, one_when, lookup-insert_entry_here}
-use Rattle.usb_host.proofs.devices.BulkPipes.{accepted_device_of-some}
+use Rattle.usb_host.proofs.entries.Agreements.{lookup-insert_entry_elsewhere, accounts_listed}
+use Rattle.usb_host.proofs.entries.Agreements.{one_when, lookup-insert_entry_here}
+use Rattle.usb_host.proofs.devices.Pipes.{accepted_device_of-some}
 use Rattle.usb_host.proofs.knowledge.Places.{finding-dropped, finding-kept, finding-none}
 
 -- Of some element
@@ -60,21 +60,17 @@ module _ {X : Type 0} (P : X → Type 0) where
 
   any_taken : (m n : ℕ) (xs : List X) → m ≤ n → Any P (take m xs) → Any P (take n xs)
   any_taken (suc m) zero (x ∷ xs) le a = absurd (omega arith)
-  any_taken (suc m) (suc n) (x ∷ xs) le a =
-      pick (any_taken m n xs (omega arith)) (any_cases x (take m xs) a)
-    where
-      pick : (Any P (take m xs) → Any P (take n xs)) → P x ⊎ Any P (take m xs)
-          → Any P (x ∷ take n xs)
-      pick on (inl so) = any_first x (take n xs) so
-      pick on (inr more) = any_later x (take n xs) (on more)
+  any_taken (suc m) (suc n) (x ∷ xs) le a = elim (any_cases x (take m xs) a) [
+    | inl so ↦ any_first x (take n xs) so
+    | inr more ↦ any_later x (take n xs) (any_taken m n xs (omega arith) more)
+  ]
   any_taken _ n _ le a = absurd (any_none a)
 
   any_all : (n : ℕ) (xs : List X) → Any P (take n xs) → Any P xs
-  any_all (suc n) (x ∷ xs) a = pick (any_all n xs) (any_cases x (take n xs) a)
-    where
-      pick : (Any P (take n xs) → Any P xs) → P x ⊎ Any P (take n xs) → Any P (x ∷ xs)
-      pick on (inl so) = any_first x xs so
-      pick on (inr more) = any_later x xs (on more)
+  any_all (suc n) (x ∷ xs) a = elim (any_cases x (take n xs) a) [
+    | inl so ↦ any_first x xs so
+    | inr more ↦ any_later x xs (any_all n xs more)
+  ]
   any_all _ _ a = absurd (any_none a)
 
 abbrev AtPath : List ℕ → Event → Type 0
@@ -215,15 +211,11 @@ plug_later q a more false has = has
 plug_among : (es : Entries) (path : List ℕ) (events : List Event) → Any (AtPath path) events
     → list_any (eqb (address_or es path)) (plug_addresses es events) ≡ true
 plug_among es path [] a = absurd (any_none (AtPath path) a)
-plug_among es path (e ∷ events) a = pick (plug_among es path events)
-    (any_cases (AtPath path) e events a)
-  where
-    pick : (Any (AtPath path) events → list_any (eqb (address_or es path))
-        (plug_addresses es events) ≡ true) → PlugsAt path e.action ⊎ Any (AtPath path) events
-        → list_any (eqb (address_or es path)) (plug_addresses es (e ∷ events)) ≡ true
-    pick among (inl is) = plug_here es path e.action (plug_addresses es events) is
-    pick among (inr more) = plug_later (address_or es path) (plug_address es e.action)
-        (plug_addresses es events) (is_plug e.action) (among more)
+plug_among es path (e ∷ events) a = elim (any_cases (AtPath path) e events a) [
+  | inl is ↦ plug_here es path e.action (plug_addresses es events) is
+  | inr more ↦ plug_later (address_or es path) (plug_address es e.action)
+      (plug_addresses es events) (is_plug e.action) (plug_among es path events more)
+]
 
 device_there : (o : Option Finding) {a : ℕ} → address_in o ≡ Some a → (device : Accepted)
     × (accepted_device_of o ≡ Some device)
@@ -272,27 +264,20 @@ plugs_fewer : {events : List Event} (a b : HostState) → a.world.taken ≤ b.wo
 plugs_fewer {events = events} a b onward was plugs = record {
   each = λ path device at. was_later events a.world.taken b.world.taken path onward
       (pick path device (finding_at path b.entries) refl at);
-  none_waits = λ few path at. waits few path (was path (Refused NoAddress) at);
+  none_waits = λ few path at. elim (was path (Refused NoAddress) at) [
+    | inl waits ↦ plugs.none_waits few path waits
+    | inr lost ↦ cc lost
+  ];
 }
   where
-    listed : (path : List ℕ) (device : Accepted)
-        → (finding_at path a.entries ≡ Some (Device device)) ⊎ (Device device ≡ Refused Lost)
-        → WasPlugged events a.world.taken path
-    listed path device (inl at) = plugs.each path device (ap accepted_device_of at)
-    listed path device (inr e) = absurd (cc e)
-
     pick : (path : List ℕ) (device : Accepted) (o : Option Finding) → finding_at path b.entries ≡ o
         → accepted_device_of o ≡ Some device → WasPlugged events a.world.taken path
     pick path device None at e = absurd (cc e)
     pick path device (Some f) at e =
-        listed path device (was path (Device device) (at ∙ ap (λ g. Some g)
-        (accepted_device_of-some f e)))
-
-    waits : plug_events events ≤ 127 → (path : List ℕ)
-        → (finding_at path a.entries ≡ Some (Refused NoAddress))
-        ⊎ (Refused NoAddress ≡ Refused Lost) → ⊥
-    waits few path (inl at) = plugs.none_waits few path at
-    waits few path (inr e) = cc e
+        elim (was path (Device device) (at ∙ ap (λ g. Some g) (accepted_device_of-some f e))) [
+          | inl listed ↦ plugs.each path device (ap accepted_device_of listed)
+          | inr lost ↦ absurd (cc lost)
+        ]
 
 -- the same is listed
 pub plugs_same : (events : List Event) (a b : HostState) → a.world.taken ≤ b.world.taken
@@ -309,11 +294,10 @@ plugs_rests a b went r = plugs_kept a b went.spends.onward (ap (λ (h : HostStat
 
 was_listed : (first path : List ℕ) (es : Entries) (f : Finding) → finding_at path (without first es)
     ≡ Some f → finding_at path es ≡ Some f
-was_listed first path es f at = pick (decided (is_way first path))
-  where
-    pick : (is_way first path ≡ true) ⊎ (is_way first path ≡ false) → finding_at path es ≡ Some f
-    pick (inl way) = absurd (cc (finding-dropped first path es way, at))
-    pick (inr away) = sym (finding-kept first path es away) ∙ at
+was_listed first path es f at = elim (decided (is_way first path)) [
+  | inl way ↦ absurd (cc (finding-dropped first path es way, at))
+  | inr away ↦ sym (finding-kept first path es away) ∙ at
+]
 
 -- what was found at a port and below it is forgotten
 pub plugs_forgot : {n : ℕ} {path : List ℕ} {a b c : HostState} → HostSteps n a c
@@ -331,24 +315,20 @@ with_lost path es = insert_entry path_cmp (without path es) path (Refused Lost)
 pub plugs_lost : {hub : List ℕ} (a b : HostState) → a.world.taken ≤ b.world.taken
     → HasLost hub a.entries b.entries → KeepsPlugs a b
 plugs_lost a b onward lost plan is paths course =
-    plugs_fewer a b onward (λ p f at. pick p f (is_at (path_cmp p) lost.path) refl
-    (ap (finding_at p) (sym lost.entries) ∙ at))
-  where
-    pick : (p : List ℕ) (f : Finding) (tied : Bool) → is_at (path_cmp p) lost.path ≡ tied
-        → finding_at p (with_lost lost.path a.entries) ≡ Some f
-        → (finding_at p a.entries ≡ Some f) ⊎ (f ≡ Refused Lost)
-    pick p f true tie at =
-        let here : finding_at lost.path (with_lost lost.path a.entries) ≡ Some f =
-        subst (λ (q : List ℕ). finding_at q (with_lost lost.path a.entries) ≡ Some f)
-        (path_tied p lost.path tie) at in
-        inr (cc (
-          here,
-          lookup-insert_entry_here lost.path (Refused Lost) (without lost.path a.entries),
-        ))
-    pick p f false apart at =
-        inl (was_listed lost.path p a.entries f
-        (sym (lookup-insert_entry_elsewhere p lost.path (Refused Lost) (without lost.path a.entries)
-        apart) ∙ at))
+    plugs_fewer a b onward (λ p f at.
+    let listed = ap (finding_at p) (sym lost.entries) ∙ at in
+    elim (decided (is_at (path_cmp p) lost.path)) [
+      | inl tie ↦
+          let here : finding_at lost.path (with_lost lost.path a.entries) ≡ Some f =
+          subst (λ (q : List ℕ). finding_at q (with_lost lost.path a.entries) ≡ Some f)
+          (path_tied p lost.path tie) listed in
+          inr (cc (
+            here,
+            lookup-insert_entry_here lost.path (Refused Lost) (without lost.path a.entries),
+          ))
+      | inr apart ↦ inl (was_listed lost.path p a.entries f (sym (lookup-insert_entry_elsewhere p
+          lost.path (Refused Lost) (without lost.path a.entries) apart) ∙ listed))
+    ])
 
 -- one finding is entered at a path at which a device was plugged
 plugs_entered : (events : List Event) (path : List ℕ) (a b : HostState)

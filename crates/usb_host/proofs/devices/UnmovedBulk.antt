@@ -9,9 +9,9 @@ use Rattle.usb_enum.specs.{EnumFault}
 use Rattle.usb_host.specs.{ClearsAndAsks, ClearsFeature, ClearsInTurn, ClearsPort, ClearsWhere}
 use Rattle.usb_host.specs.{DisablesAfter, HostState, InOrder, LetsGoOn, MovesNoBulk, ShowsPort}
 use Rattle.usb_host.specs.{TidiesPort, by_both, by_control, first_failed, is_stuck, next_done}
-use Rattle.usb_host.proofs.PortRequests.{goes_as, shows_watches}
-use Rattle.usb_host.proofs.devices.BulkPipes.{unmoved_none, unmoved_rests}
-use Rattle.usb_host.proofs.devices.Requests.{clears_enable_change, clears_reset_change, sound_by}
+use Rattle.usb_host.proofs.PortRequests.{goes_as, shows_watches, clears_enable_change}
+use Rattle.usb_host.proofs.PortRequests.{clears_reset_change, sound_by}
+use Rattle.usb_host.proofs.devices.Pipes.{unmoved_none, unmoved_rests}
 
 module _ {port : HubPort} {feature : ℕ} {call : PortCall} (is : clear_call feature ≡ Some call)
     {a b : HostState} {result : Result (Unit {0}) EnumFault} where

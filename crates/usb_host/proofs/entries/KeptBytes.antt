@@ -1,7 +1,20 @@
--- A host keeps few bytes of each device, and few of all.
-use Rattle.std.proofs.Common.{◌≡◌, ◌≤◌, ◌<◌, ◌*◌, ◌||◌, ℕ, Bool, true, false, List, [], ◌∷◌, Option}
-use Rattle.std.proofs.Common.{None, Some, eqb, if◌then◌else◌, length, refl, ap, sym, subst}
-use Rattle.std.proofs.Common.{arith, slice_index_or, IsSome}
+-- Each entry is what an enumeration at its port gives, and a host keeps few bytes of each device.
+use Rattle.std.proofs.Common.{◌≡◌, ◌∙◌, refl, sym, ap, subst, true, false, Bool, List, ℕ, [], not}
+use Rattle.std.proofs.Common.{Some, ◌≤◌, ◌<◌, ◌*◌, ◌||◌, ◌∷◌, Option, None, eqb, if◌then◌else◌}
+use Rattle.std.proofs.Common.{length, arith, slice_index_or, IsSome}
+use Rattle.std.proofs.lemmas.Option.{same_Some}
+use Rattle.std.specs.Map.{lookup, keys_of}
+use Rattle.std.specs.BTreeMap.{is_at, insert_entry}
+use Rattle.usb_port.specs.{path_cmp}
+use Rattle.usb_enum.specs.{Finding, HostOptions, is_over, texts_length}
+use Rattle.usb_table.specs.{Entries, KnownPort, has_at, is_at_or_below, known_port, without}
+use Rattle.usb_table.specs.{finding_at, has_address}
+use Rattle.usb_table.proofs.Interface.{path_tied}
+use Rattle.usb_host.specs.{AreFound, IsFoundAt, Agrees, KeepsFew, kept_bytes, kept_in}
+use Rattle.usb_host.proofs.entries.Agreements.{found_away, hub_away, is_at-outside, known_away}
+use Rattle.usb_host.proofs.entries.Agreements.{known_entered, lookup-insert_entry_elsewhere}
+use Rattle.usb_host.proofs.entries.Agreements.{lookup-without, shorter_apart}
+use Rattle.usb_host.proofs.entries.Agreements.{lookup-insert_entry_here, one_when}
 use Rattle.std.proofs.Math.Nat.{mul-le-mul_right, suc-mul}
 use Rattle.std.proofs.lemmas.Bool.{eq-eqb, eqb-true, ltb-false, ne_eqb, or_right}
 use Rattle.std.proofs.lemmas.List.Elements.{Contains-get_or, recursion_from_All}
@@ -12,17 +25,61 @@ use Rattle.std.proofs.lemmas.Map.Views.{lookup-from_Contains}
 use Rattle.std.specs.Cmp.{eq_by_cmp_equiv}
 use Rattle.std.specs.Cmp.Lexicographic.{nat_list_cmp_total}
 use Rattle.std.specs.List.{All, AllByRecursion, IsDistinct, list_any}
-use Rattle.std.specs.Map.{keys_of}
-use Rattle.usb_port.specs.{path_cmp}
 use Rattle.std.specs.FinSet.{contains}
 use Rattle.usb_resources.specs.{Addresses, HasAddresses, IsAddress}
-use Rattle.usb_enum.specs.{Finding, HostOptions, is_over, texts_length}
 use Rattle.usb_enum.specs.declared.finding.Finding.TheVariants.{Device, Refused}
-use Rattle.usb_table.specs.{Entries, finding_at, has_address, known_port}
-use Rattle.usb_host.specs.{Agrees, KeepsFew, kept_bytes, kept_in}
 use Rattle.usb_host.specs.Accounts.{Accounts}
-use Rattle.usb_host.proofs.entries.Balances.{one_when}
 use Rattle.usb_host.proofs.entries.KindCounts.{of_kind, of_kind-cons}
+
+-- Each entry is what an enumeration at its port gives.
+
+pub found_none : {options : HostOptions} → AreFound options []
+found_none = record { each = λ path finding port is at. absurd cc }
+
+kept : {options : HostOptions} (path : List ℕ) (es : Entries) (q : List ℕ) (g : Finding)
+    (port : KnownPort) → AreFound options es
+    → (b : Bool) → is_at_or_below q path ≡ b
+    → lookup (is_at (path_cmp q)) (without path es) ≡ Some g
+    → known_port q (without path es) ≡ Some port → IsFoundAt options q port g
+kept path es q g port w true is found at =
+    absurd (cc (lookup-without q path es (ap not is), found))
+kept path es q g port w false is found at =
+    w.each q g port (sym (lookup-without q path es (ap not is)) ∙ found)
+    (sym (known_away q path es is) ∙ at)
+
+pub found_without : {options : HostOptions} (path : List ℕ) (es : Entries) → AreFound options es
+    → AreFound options (without path es)
+found_without path es w = record {
+  each = λ q g port found at. kept path es q g port w (is_at_or_below q path) refl found at;
+}
+
+module _ {options : HostOptions} (path : List ℕ) (f : Finding) {es : Entries}
+    (away : has_at path es ≡ false)
+    (own : (port : KnownPort) → known_port path es ≡ Some port → IsFoundAt options path port f)
+    (w : AreFound options es) where
+  entered : (q : List ℕ) (g : Finding) (port : KnownPort) (b : Bool) → is_at (path_cmp q) path ≡ b
+      → lookup (is_at (path_cmp q)) (insert_entry path_cmp es path f) ≡ Some g
+      → known_port q (insert_entry path_cmp es path f) ≡ Some port → IsFoundAt options q port g
+  entered q g port true tie found at =
+      let same : q ≡ path = path_tied q path tie in
+      let is : f ≡ g = same_Some f g (sym (lookup-insert_entry_here path f es) ∙ subst (λ r.
+      lookup (is_at (path_cmp r)) (insert_entry path_cmp es path f) ≡ Some g) same found) in
+      let there : known_port path es ≡ Some port = sym (known_entered path path f es
+      (shorter_apart path)) ∙ subst (λ r. known_port r
+      (insert_entry path_cmp es path f) ≡ Some port) same at in
+      subst (λ r. IsFoundAt options r port g) (sym same)
+      (subst (λ h. IsFoundAt options path port h) is (own port there))
+  entered q g port false tie found at =
+      let there = sym (lookup-insert_entry_elsewhere q path f es tie) ∙ found in
+      w.each q g port there (sym (known_entered q path f es (λ hub above. is_at-outside hub
+      path (hub_away q hub path above (found_away q path g es away there)))) ∙ at)
+
+  pub found_entered : AreFound options (insert_entry path_cmp es path f)
+  found_entered = record {
+    each = λ q g port found at. entered q g port (is_at (path_cmp q) path) refl found at;
+  }
+
+-- A host keeps few bytes of each device, and few of all.
 
 -- Of each device
 
@@ -97,7 +154,11 @@ counted ((path, Device device) ∷ es) a is = by (counted es a) (eqb a device.ad
         → 1 ≤ of_kind (has_address a) ((path, Device device) ∷ es)
     by rest true same found =
         let equal = eqb-true a device.address same in
-        omega (arith, of_kind-cons (has_address a) (path, Device device) es, one_of device.address a equal)
+        omega (
+          arith,
+          of_kind-cons (has_address a) (path, Device device) es,
+          one_of device.address a equal,
+        )
     by rest false other found =
         omega (arith, of_kind-cons (has_address a) (path, Device device) es, rest found)
 

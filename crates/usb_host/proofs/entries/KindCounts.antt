@@ -1,6 +1,7 @@
 -- How many entries are of a kind, hubs and devices that wait, as entries go and come.
+use Rattle.usb_tree.proofs.Interface.{decided}
 use Rattle.std.proofs.Common.{◌≡◌, ◌∙◌, refl, ap, arith, true, false, Bool, ℕ, ◌+◌, ◌≤◌, cond, List}
-use Rattle.std.proofs.Common.{[], ◌∷◌, not, Some, subst, sym, Option, None, IsSome}
+use Rattle.std.proofs.Common.{[], ◌∷◌, not, Some, Option, None, IsSome, inl, inr}
 use Rattle.std.specs.Map.{lookup}
 use Rattle.std.specs.List.{count_by}
 use Rattle.std.specs.BTreeMap.{is_at, insert_entry}
@@ -13,7 +14,7 @@ use Rattle.usb_tree.specs.{is_way}
 use Rattle.usb_enum.specs.{Finding, Lost, HubFacts}
 use Rattle.usb_table.specs.{Entries, is_at_or_below, without, is_hub, finding_at, hub_facts_at}
 use Rattle.usb_table.specs.{hub_facts_in, is_waiting}
-use Rattle.usb_host.proofs.entries.Balances.{one_when-most, one_when}
+use Rattle.usb_host.proofs.entries.Agreements.{one_when-most, one_when}
 use Rattle.usb_world.proofs.Interface.{at_or_below_way}
 use Rattle.usb_table.proofs.Interface.{path_tied}
 use Rattle.usb_enum.specs.declared.finding.Finding.TheVariants.{Device, Refused}
@@ -41,36 +42,31 @@ module _ (kind : Finding → Bool) where
   of_kind-without path (e ∷ es) = of_kind-without_less e es (without path es)
       (not (is_at_or_below e.0 path)) (of_kind-without path es)
 
-  of_kind-without_by : (path hub : List ℕ) {f : Finding} (e : List ℕ × Finding) (es : Entries)
-      → is_way path hub ≡ true → kind f ≡ true
-      → (lookup (is_at (path_cmp hub)) es ≡ Some f → of_kind kind (without path es) + 1 ≤ of_kind
-      kind es) → (b : Bool) → is_at (path_cmp hub) e.0 ≡ b
-      → cond b (Some e.1) (lookup (is_at (path_cmp hub)) es) ≡ Some f
-      → of_kind kind (without path (e ∷ es)) + 1 ≤ of_kind kind (e ∷ es)
-  unfolding one_when
-  of_kind-without_by path hub e es way is_kind more true tie found =
-      let is : kind e.1 ≡ true = subst (λ (g : Finding). kind g ≡ true) (sym (cc found)) is_kind in
-      let here : one_when (kind e.1) ≡ 1 = ap one_when is in
-      let gone : is_at_or_below e.0 path ≡ true = rw (path_tied hub e.0 tie) at (at_or_below_way hub
-      path ∙ way) in
-      rw gone (omega (arith, of_kind-cons e es, of_kind-without path es))
-  of_kind-without_by path hub e es way is_kind more false tie found =
-      stays (not (is_at_or_below e.0 path)) (more found)
-    where
-      stays : (b : Bool) → of_kind kind (without path es) + 1 ≤ of_kind kind es
-          → of_kind kind (cond b (e ∷ without path es) (without path es)) + 1 ≤ of_kind kind
-          (e ∷ es)
-      stays true le = omega (arith, of_kind-cons e es, of_kind-cons e (without path es))
-      stays false le = omega (arith, of_kind-cons e es)
+  of_kind-without_fewer : (path : List ℕ) (e : List ℕ × Finding) (es : Entries) (b : Bool)
+      → of_kind kind (without path es) + 1 ≤ of_kind kind es
+      → of_kind kind (cond b (e ∷ without path es) (without path es)) + 1 ≤ of_kind kind (e ∷ es)
+  of_kind-without_fewer path e es true le =
+      omega (arith, of_kind-cons e es, of_kind-cons e (without path es))
+  of_kind-without_fewer path e es false le = omega (arith, of_kind-cons e es)
 
   -- one that stands at the path or below it goes
   pub of_kind-without_one : (path hub : List ℕ) (f : Finding) (es : Entries)
       → is_way path hub ≡ true → kind f ≡ true → lookup (is_at (path_cmp hub)) es ≡ Some f
       → of_kind kind (without path es) + 1 ≤ of_kind kind es
+  unfolding one_when
   of_kind-without_one path hub f [] way is_kind found = absurd cc
   of_kind-without_one path hub f (e ∷ es) way is_kind found =
-      of_kind-without_by path hub e es way is_kind (of_kind-without_one path hub f es way is_kind)
-      _ refl found
+      elim (decided (is_at (path_cmp hub) e.0)) [
+        | inl tie ↦
+            let same : e.1 ≡ f = cc (rw tie at found) in
+            let here : one_when (kind e.1) ≡ 1 =
+            ap (λ g. one_when (kind g)) same ∙ ap one_when is_kind in
+            let gone : is_at_or_below e.0 path ≡ true = rw (path_tied hub e.0 tie) at
+            (at_or_below_way hub path ∙ way) in
+            rw gone (omega (arith, of_kind-cons e es, of_kind-without path es))
+        | inr off ↦ of_kind-without_fewer path e es (not (is_at_or_below e.0 path))
+            (of_kind-without_one path hub f es way is_kind (rw off at found))
+      ]
 
   of_kind-insert_by : (path : List ℕ) (f : Finding) (e : List ℕ × Finding) (es : Entries)
       → of_kind kind (insert_entry path_cmp es path f) ≤ of_kind kind es + one_when (kind f)

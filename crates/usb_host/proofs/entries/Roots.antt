@@ -1,14 +1,14 @@
 -- Entries stand below the ports of the root.
-use Rattle.std.proofs.Common.{◌≡◌, refl, sym, ap, subst, ℕ, ◌≤◌, Bool, true, false, not, List, []}
-use Rattle.std.proofs.Common.{◌∷◌, ◌++◌, length, Option, None, Some, Result, Ok, Err, arith, IsSome}
-use Rattle.std.proofs.Common.{OnOk, IsErr}
+use Rattle.std.proofs.Common.{◌≡◌, refl, sym, ap, subst, ℕ, ◌≤◌, true, not, List, [], ◌∷◌, ◌++◌}
+use Rattle.std.proofs.Common.{length, Option, None, Some, Result, Ok, Err, arith, IsSome, OnOk, inl}
+use Rattle.std.proofs.Common.{inr}
 use Rattle.std.specs.BTreeMap.{is_at, insert_entry}
 use Rattle.usb_port.specs.{path_cmp, parent_of, port_on_hub}
 use Rattle.usb_port.proofs.Interface.{rejoined}
 use Rattle.usb_tree.specs.{is_way}
 use Rattle.usb_world.specs.{World, roots_of}
 use Rattle.usb_world.proofs.Interface.{way_rest}
-use Rattle.usb_tree.proofs.Interface.{false_true}
+use Rattle.usb_tree.proofs.Interface.{false_true, decided}
 use Rattle.usb_hub.specs.{Root, IsPort}
 use Rattle.usb_enum.specs.{NoAddress, Finding, HostOptions}
 use Rattle.usb_enum.specs.declared.finding.Finding.TheVariants.{Refused}
@@ -42,34 +42,28 @@ pub rooted_kept : (a b : HostState) → b.entries ≡ a.entries → roots_of b.w
     → IsRooted a → IsRooted b
 rooted_kept a b same roots r path some = rw roots (r path (rw same at some))
 
-finding_at-without : (first path : List ℕ) (es : Entries) → (b : Bool)
-    → is_at_or_below path first ≡ b → IsSome (finding_at path (without first es))
-    → IsSome (finding_at path es)
-finding_at-without first path es true is some =
-    false_true (rw (lookup-without path first es (ap not is)) at some)
-finding_at-without first path es false is some =
-    rw (lookup-without path first es (ap not is)) at some
+finding_at-without : (first path : List ℕ) (es : Entries)
+    → IsSome (finding_at path (without first es)) → IsSome (finding_at path es)
+finding_at-without first path es some = elim (decided (is_at_or_below path first)) [
+  | inl is ↦ false_true (rw (lookup-without path first es (ap not is)) at some)
+  | inr is ↦ rw (lookup-without path first es (ap not is)) at some
+]
 
 pub rooted_dropped : (first : List ℕ) (a b : HostState) → b.entries ≡ without first a.entries
     → roots_of b.world ≡ roots_of a.world → IsRooted a → IsRooted b
 rooted_dropped first a b rest roots r path some =
-    let was = finding_at-without first path a.entries _ refl
-    (rw rest at some) in
+    let was = finding_at-without first path a.entries (rw rest at some) in
     rw roots (r path was)
-
-entered_root : (first path : List ℕ) (f : Finding) (es : Entries) (n : ℕ) → root_of first ≤ n
-    → (IsSome (finding_at path es) → root_of path ≤ n) → (b : Bool) → is_at (path_cmp path) first
-    ≡ b → IsSome (finding_at path (insert_entry path_cmp es first f)) → root_of path ≤ n
-entered_root first path f _ n here _ true tie _ = rw (path_tied path first tie) here
-entered_root first path f es n _ more false apart some =
-    more (rw (lookup-insert_entry_elsewhere path first f es apart) at some)
 
 pub rooted_came : (first : List ℕ) (f : Finding) (a b : HostState)
     → b.entries ≡ insert_entry path_cmp a.entries first f → roots_of b.world ≡ roots_of a.world
     → root_of first ≤ roots_of a.world → IsRooted a → IsRooted b
 rooted_came first f a b is roots here r path some =
-    rw roots (entered_root first path f a.entries (roots_of a.world) here (r path)
-    _ refl (rw is at some))
+    rw roots (elim (decided (is_at (path_cmp path) first)) [
+      | inl tie ↦ rw (path_tied path first tie) here
+      | inr apart ↦
+          r path (rw (is, lookup-insert_entry_elsewhere path first f a.entries apart) at some)
+    ])
 
 -- Where a port stands
 
@@ -133,10 +127,6 @@ accounted h agrees rooted = record {
 }
 
 -- Of calls that failed
-
-pub on_failed : {A E : Type 0} (result : Result A E) (P : Type 0) → IsErr result → OnOk result P
-on_failed (Ok x) P e = absurd (cc e)
-on_failed (Err x) P e = tt
 
 pub on_any : {A E : Type 0} (result : Result A E) (P : Type 0) → P → OnOk result P
 on_any (Ok x) P p = p

@@ -157,15 +157,14 @@ word_some t some = elim (first_bit t 16) [
 
 -- none is set, where it is 0
 pub word_none : (t : ℕ → ℕ) → word_of t ≡ 0 → (n : ℕ) → n < 16 → t n ≡ 0
-word_none t is n less = pick (cases_lt n 8)
-  where
-    pick : (n < 8) ⊎ (8 ≤ n) → t n ≡ 0
-    pick (inl small) = omega (arith, byte_part t n small)
-    pick (inr most) =
-        let same : n ≡ 8 + (n - 8) = omega arith in
-        let none : t (8 + (n - 8)) ≡ 0 =
-        omega (arith, byte_part (λ k. t (8 + k)) (n - 8) (omega arith)) in
-        ap t same ∙ none
+word_none t is n less = elim (cases_lt n 8) [
+  | inl small ↦ omega (arith, byte_part t n small)
+  | inr most ↦
+      let same : n ≡ 8 + (n - 8) = omega arith in
+      let none : t (8 + (n - 8)) ≡ 0 =
+      omega (arith, byte_part (λ k. t (8 + k)) (n - 8) (omega arith)) in
+      ap t same ∙ none
+]
 
 -- A port
 

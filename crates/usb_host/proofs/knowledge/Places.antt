@@ -1,27 +1,194 @@
--- What is known of ports and devices, as entries go and one comes.
-use Rattle.std.proofs.Common.{◌≡◌, ◌≤◌, ◌+◌, ◌-◌, ◌⊎◌, inl, inr, List, [], ◌∷◌, ◌++◌, ℕ, length}
-use Rattle.std.proofs.Common.{take, Bool, true, false, not, Option, None, Some, if◌then◌else◌, refl}
-use Rattle.std.proofs.Common.{ap, sym, subst, ◌∙◌, arith, append-nil, length-append, IsSomeAnd}
-use Rattle.std.proofs.Common.{option_map}
+-- What is known of ports and devices, as nothing is asked of them, and as entries go and one comes.
+use Rattle.std.proofs.Common.{◌≡◌, ◌⊎◌, inl, inr, List, [], ◌∷◌, ℕ, zero, suc, true, false, Option}
+use Rattle.std.proofs.Common.{None, Some, option_map, refl, ap, sym, subst, ◌∙◌, IfSome, ◌≤◌, ◌+◌}
+use Rattle.std.proofs.Common.{◌-◌, ◌++◌, length, take, Bool, not, if◌then◌else◌, arith, append-nil}
+use Rattle.std.proofs.Common.{length-append, IsSomeAnd}
 use Rattle.std.specs.Prelude.{⊤, unwrap_or}
+use Rattle.usb_resources.specs.{Addresses}
+use Rattle.usb_device.specs.{State, Location, path_to, reach_on, state_on, state_there}
+use Rattle.usb_world.specs.{KeepsPendingAt, Was, spec_of, SameAt, LeavesPortAlone}
+use Rattle.usb_world.specs.{SameDeviceOrPending, Course, World, roots_of}
+use Rattle.usb_tree.specs.{has_power, pending, is_way, same_number}
+use Rattle.usb_world.proofs.Interface.{course_wider, pending_persists, rests_or_pends}
+use Rattle.usb_world.proofs.Interface.{stands_or_pends, at_or_below_way, way_itself, way_parent}
+use Rattle.usb_world.proofs.Interface.{way_rest, way_trans}
+use Rattle.usb_tree.proofs.Interface.{false_true, and_of, both, decided}
+use Rattle.usb_enum.specs.{Cause, Accepted, Finding, IsRight, IsThere, IsKnownAs, HostOptions}
+use Rattle.usb_enum.specs.declared.finding.Finding.TheVariants.{Device, Refused}
+use Rattle.usb_table.specs.{Entries, finding_at, IsListedPort, tier_of, SameDevice, KnownPort}
+use Rattle.usb_table.specs.{has_at, without, accepted_device_of, hub_facts_in, IsPortBelow}
+use Rattle.usb_enum.proofs.Interface.{some_of}
+use Rattle.usb_host.specs.{PortsListed, known_supply, IsTruthOf, IsAccurateAt, DevicesAccurate}
+use Rattle.usb_host.specs.{IsJustifiedAt, RefusalsJustified, Elsewhere, KnownBut, TruthfulBut}
+use Rattle.usb_host.specs.{CausesBut, EachStill, EachStillBut, Accounted}
+use Rattle.usb_host.proofs.knowledge.SettledListings.{listed_port}
 use Rattle.std.proofs.lemmas.Bool.{lt-ltb}
 use Rattle.std.specs.BTreeMap.{is_at, insert_entry}
 use Rattle.usb_port.specs.{path_cmp, parent_of, port_on_hub}
 use Rattle.usb_port.proofs.Interface.{rejoined}
-use Rattle.usb_tree.specs.{is_way, pending, same_number}
-use Rattle.usb_world.specs.{World, roots_of}
-use Rattle.usb_world.proofs.Interface.{at_or_below_way, way_itself, way_parent, way_rest, way_trans}
-use Rattle.usb_tree.proofs.Interface.{and_of, both, decided, false_true}
-use Rattle.usb_enum.specs.{Finding, IsRight, IsKnownAs, HostOptions}
-use Rattle.usb_enum.specs.declared.finding.Finding.TheVariants.{Refused}
-use Rattle.usb_table.specs.{KnownPort, Entries, has_at, without, accepted_device_of, finding_at}
-use Rattle.usb_table.specs.{hub_facts_in, IsPortBelow, IsListedPort, tier_of}
 use Rattle.usb_table.proofs.Interface.{path_tied}
-use Rattle.usb_host.specs.{PortsListed, known_supply, IsAccurateAt, DevicesAccurate, IsJustifiedAt}
-use Rattle.usb_host.specs.{RefusalsJustified, KnownBut, TruthfulBut, CausesBut}
 use Rattle.usb_host.proofs.entries.Agreements.{lookup-without, lookup-insert_entry_elsewhere}
-use Rattle.usb_host.proofs.entries.Agreements.{known_away, known_entered}
-use Rattle.usb_host.proofs.entries.Balances.{lookup-none_there, lookup-insert_entry_here}
+use Rattle.usb_host.proofs.entries.Agreements.{known_away, known_entered, lookup-none_there}
+use Rattle.usb_host.proofs.entries.Agreements.{lookup-insert_entry_here}
+
+-- What is known of ports and devices stays so where nothing is asked of them.
+
+pub none_same : {o : Option State} (u : Option State) → option_map spec_of u ≡ option_map spec_of o
+    → o ≡ None → u ≡ None
+none_same None e h = refl
+none_same (Some s) e h = absurd (cc (e, ap (option_map spec_of) h))
+
+there_same : (w v : World) (path : List ℕ) (o : Option Finding) → SameAt w.roots v.roots path
+    → IsThere w path o → IsThere v path o
+there_same w v path None same h = none_same (state_there v.roots path) same.what h
+there_same w v _ (Some (Device _)) same h = same.on ∙ h
+there_same w v path (Some (Refused _)) same h = (
+  some_of (state_there w.roots path) (state_there v.roots path) same.what h.0,
+  subst (λ o. IfSome o (λ b. b.enable ≡ false)) (sym same.port) h.1,
+)
+
+-- a port that is known as something is so after a course that asks nothing of it
+pub known_stays : (path : List ℕ) (o : Option Finding) (w v : World)
+    → Course (LeavesPortAlone path) w v → IsKnownAs w path o → IsKnownAs v path o
+known_stays path o w v c (inl pends) =
+    inl (pending_persists path (course_wider (λ s u x. x.spares) c) pends)
+known_stays path o w v c (inr here) = elim (rests_or_pends path c here.0) [
+  | inl rests ↦ inr (rests.0, there_same w v _ o rests.1 here.1)
+  | inr pends ↦ inl pends
+]
+
+-- Each port
+
+pub known_each : (w v : World) (entries : Entries) → roots_of v ≡ roots_of w
+    → ((path : List ℕ) → IsListedPort (roots_of w) entries path → Course (LeavesPortAlone path) w v)
+    → PortsListed w entries → PortsListed v entries
+known_each w v entries roots calm known path port =
+    let was = rw roots at port in
+    known_stays path (finding_at path entries) w v (calm path was) (known path was)
+
+pub known_but_each : (first : List ℕ) (w v : World) (entries : Entries) → roots_of v ≡ roots_of w
+    → Elsewhere first (λ path. Course (LeavesPortAlone path) w v) → KnownBut first w entries
+    → KnownBut first v entries
+known_but_each _ w v entries roots calm known path away port =
+    let was = rw roots at port in
+    known_stays path (finding_at path entries) w v (calm path away) (known path away was)
+
+-- Accepted devices
+
+tells_still : {options : HostOptions} {entries : Entries} {path : List ℕ} {device : Accepted}
+    (j : Location)
+    {s : State}
+    (v : State)
+    → SameDevice j s v → IsTruthOf options entries path device s
+    → IsTruthOf options entries path device v
+tells_still j v still t = record {
+  found = rw still.spec t.found;
+  set = record {
+    address = still.address ∙ t.set.address;
+    configuration = still.configuration ∙ t.set.configuration;
+  };
+}
+
+is_told_at-stays : {options : HostOptions} (j : Location) (w v : World) (entries : Entries)
+    → ((s : State) → reach_on v.roots j ≡ true → state_on v.roots j ≡ Some s
+    → Was SameDevice w j s) → IsAccurateAt options w entries (path_to j)
+    → IsAccurateAt options v entries (path_to j)
+is_told_at-stays j w v _ was told device s at on stands =
+    let x : Was SameDevice w j s = was s on stands in
+    tells_still j s x.so (told device x.before at x.on x.stands)
+
+pub truthful_stays : {options : HostOptions} (w v : World) (entries : Entries) → EachStill w v
+    → DevicesAccurate options w entries
+    → DevicesAccurate options v entries
+truthful_stays w v entries each told (suc j ∷ p) = is_told_at-stays (record { row = j; rest = p }) w
+    v entries (each (record { row = j; rest = p })) (told (suc j ∷ p))
+truthful_stays w v _ _ _ _ = λ _ s _ on _. false_true on
+
+pub truthful_but_stays : {options : HostOptions} (first : List ℕ) (w v : World) (entries : Entries)
+    → EachStillBut first w v
+    → TruthfulBut options first w entries → TruthfulBut options first v entries
+truthful_but_stays _ w v _ _ _ [] _ = λ device s at on stands. false_true on
+truthful_but_stays _ w v _ _ _ (zero ∷ p) _ =
+    λ _ s _ on _. false_true on
+truthful_but_stays _ w v entries each told (suc j ∷ p) away =
+    is_told_at-stays (record { row = j; rest = p }) w v entries
+    (λ s. each (record { row = j; rest = p }) s away) (told (suc j ∷ p) away)
+
+-- Refused devices
+
+is_caused_at-kept : (options : HostOptions) (path : List ℕ) (entries : Entries) (w v : World)
+    (cause : Cause) (s : State)
+    → (pending w.roots path ≡ true → pending v.roots path ≡ true)
+    → IsJustifiedAt options w entries path
+    → finding_at path entries ≡ Some (Refused cause) → (o : Option State)
+    → state_there w.roots path ≡ o → option_map spec_of (Some s)
+    ≡ option_map spec_of o
+    → (pending v.roots path ≡ true) ⊎ IsRight ⊤ s.spec options (tier_of path) (known_supply path
+    entries)
+    (Refused cause)
+is_caused_at-kept options path entries w v cause s pends caused at None is same = absurd (cc same)
+is_caused_at-kept options path entries w v cause s pends caused at (Some t) is same =
+    elim (caused cause t at is) [
+      | inl x ↦ inl (pends x)
+      | inr right ↦ let alike : t.spec ≡ s.spec = cc same in
+          inr (rw alike at right)
+    ]
+
+-- a cause stays so where what pends pends, and the port stands as it stood, or a change is pending
+pub cause_stands : (options : HostOptions) (path : List ℕ) (entries : Entries) (w v : World)
+    → (pending w.roots path ≡ true → pending v.roots path ≡ true)
+    → (has_power w.roots path ≡ true → SameDeviceOrPending w v path)
+    → IsKnownAs w path (finding_at path entries) → IsJustifiedAt options w entries path
+    → IsJustifiedAt options v entries path
+cause_stands options path entries w v pends stands known caused cause s at there = pick known
+  where
+    stood : SameDeviceOrPending w v path → (pending v.roots path ≡ true)
+        ⊎ IsRight ⊤ s.spec options (tier_of path) (known_supply path entries) (Refused cause)
+    stood (inl x) = is_caused_at-kept options path entries w v cause s pends caused at
+        (state_there w.roots path) refl (sym (ap (option_map spec_of) there) ∙ x.1)
+    stood (inr x) = inl x
+
+    pick : IsKnownAs w path (finding_at path entries) → (pending v.roots path ≡ true)
+        ⊎ IsRight ⊤ s.spec options (tier_of path) (known_supply path entries) (Refused cause)
+    pick (inl x) = inl (pends x)
+    pick (inr here) = stood (stands here.0)
+
+-- a cause stays so over a course that clears nothing that is pending there
+pub cause_stays : (options : HostOptions) (path : List ℕ) (entries : Entries) {w v : World}
+    → Course (KeepsPendingAt path) w v → IsKnownAs w path (finding_at path entries)
+    → IsJustifiedAt options w entries path → IsJustifiedAt options v entries path
+cause_stays options path entries {w = w} {v = v} c = cause_stands options path entries w v
+    (pending_persists path c)
+    (stands_or_pends path c)
+
+-- each refused device stands at a port that is known
+pub causes_stay : {options : HostOptions} (w v : World) {entries : Entries} {addresses : Addresses}
+    → Accounted options (roots_of w) entries addresses → PortsListed w entries
+    → ((path : List ℕ) → IsListedPort (roots_of w) entries path → Course (KeepsPendingAt path) w v)
+    → RefusalsJustified options w entries → RefusalsJustified options v entries
+causes_stay {options = options} w v {entries = entries} accounted known spares caused path
+    cause s at
+    stands =
+    let port = listed_port w accounted path (Refused cause) at in
+    cause_stays options path entries (spares path port) (known path port) (caused path) cause s at
+    stands
+
+pub causes_but_stay : {options : HostOptions} (first : List ℕ) (w v : World) {entries : Entries}
+    {addresses :
+    Addresses}
+    → Accounted options (roots_of w) entries addresses → KnownBut first w entries
+    → Elsewhere first (λ path. Course (KeepsPendingAt path) w v) → CausesBut options first w entries
+    → CausesBut options first v entries
+causes_but_stay {options = options} _ w v {entries = entries} accounted known spares
+    caused path away
+    cause s at
+    stands =
+    let port = listed_port w accounted path (Refused cause) at in
+    cause_stays options path entries (spares path away) (known path away port)
+    (caused path away) cause
+    s at stands
+
+-- What is known of ports and devices, as entries go and one comes.
 
 -- what is below a port, and longer, has its hub at the port or below it
 way_hub : (p hub : List ℕ) (n : ℕ) → length p ≤ length hub → is_way p (hub ++ n ∷ []) ≡ true
@@ -50,25 +217,19 @@ pub finding-none : (first path : List ℕ) (es : Entries) → has_at first es �
 finding-none first path es gone way = lookup-none_there first path es gone
     (at_or_below_way path first ∙ way)
 
-untied_by : (first path : List ℕ) → is_way first path ≡ false → (b : Bool)
-    → is_at (path_cmp path) first ≡ b → b ≡ false
-untied_by first path away true tie =
-    false_true (sym (rw (path_tied path first tie) at away) ∙ way_itself first)
-untied_by _ _ _ false _ = refl
-
 pub untied : (first path : List ℕ) → is_way first path ≡ false → is_at (path_cmp path) first ≡ false
-untied first path away = untied_by first path away _ refl
-
-is_way-parent : (first path hub : List ℕ) → parent_of path ≡ Some hub → is_way first path ≡ false
-    → (b : Bool) → is_way first hub ≡ b → b ≡ false
-is_way-parent first path hub is away true way =
-    false_true (sym away ∙ way_trans first hub path way (way_parent path _ is))
-is_way-parent _ _ _ _ _ false _ = refl
+untied first path away = elim (decided (is_at (path_cmp path) first)) [
+  | inl tie ↦ false_true (sym (rw (path_tied path first tie) at away) ∙ way_itself first)
+  | inr apart ↦ apart
+]
 
 -- the hub of a path that stands elsewhere stands elsewhere
 hub_elsewhere : (first path hub : List ℕ) → parent_of path ≡ Some hub → is_way first path ≡ false
     → is_way first hub ≡ false
-hub_elsewhere first path hub is away = is_way-parent first path _ is away _ refl
+hub_elsewhere first path hub is away = elim (decided (is_way first hub)) [
+  | inl way ↦ false_true (sym away ∙ way_trans first hub path way (way_parent path _ is))
+  | inr apart ↦ apart
+]
 
 port_as : (roots : ℕ) (es fs : Entries) (n : ℕ) (o : Option (List ℕ))
     → ((hub : List ℕ) → o ≡ Some hub → finding_at hub es ≡ finding_at hub fs)
@@ -124,17 +285,13 @@ pub known_whole : (first : List ℕ) (w : World) (es : Entries) → 1 ≤ length
     → KnownBut first w es → IsKnownAs w first (finding_at first es)
     → ((path hub : List ℕ) → parent_of path ≡ Some hub → is_way first hub ≡ true
     → IsListedPort (roots_of w) es path → IsKnownAs w path (finding_at path es)) → PortsListed w es
-known_whole first w es some others here below path port = pick (decided (is_way first path))
-  where
-    at : (path ≡ first) ⊎ ((hub : List ℕ) × (parent_of path ≡ Some hub) × (is_way first hub ≡ true))
-        → IsKnownAs w path (finding_at path es)
-    at (inl same) = rw same here
-    at (inr x) = below path x.0 x.1 x.2 port
-
-    pick : (is_way first path ≡ true) ⊎ (is_way first path ≡ false)
-        → IsKnownAs w path (finding_at path es)
-    pick (inl way) = at (split first path some way)
-    pick (inr away) = others path away port
+known_whole first w es some others here below path port = elim (decided (is_way first path)) [
+  | inl way ↦ elim (split first path some way) [
+    | inl same ↦ rw same here
+    | inr x ↦ below path x.0 x.1 x.2 port
+  ]
+  | inr away ↦ others path away port
+]
 
 -- Entries go
 
@@ -173,15 +330,10 @@ caused_as : (options : HostOptions) (w : World) (es fs : Entries) (path : List �
     → known_supply path fs ≡ known_supply path es → IsJustifiedAt options w es path
     → IsJustifiedAt options w fs path
 caused_as options w es fs path same supply caused cause s at stands =
-    pick (caused cause s (sym same ∙ at) stands)
-  where
-    pick : (pending w.roots path ≡ true)
-        ⊎ IsRight ⊤ s.spec options (tier_of path) (known_supply path
-        es)
-        (Refused cause) → (pending w.roots path ≡ true)
-        ⊎ IsRight ⊤ s.spec options (tier_of path) (known_supply path fs) (Refused cause)
-    pick (inl pends) = inl pends
-    pick (inr right) = inr (rw supply right)
+    elim (caused cause s (sym same ∙ at) stands) [
+      | inl pends ↦ inl pends
+      | inr right ↦ inr (rw supply right)
+    ]
 
 supply_known : (path : List ℕ) {o u : Option KnownPort} → o ≡ u
     → unwrap_or (option_map (λ (known : KnownPort). known.supply) o) 0
@@ -197,26 +349,22 @@ supply-kept first path es away = supply_known path
 pub truthful_dropped : {options : HostOptions} (first : List ℕ) (w : World) (es : Entries)
     → TruthfulBut options first w es
     → DevicesAccurate options w (without first es)
-truthful_dropped {options = options} first w es told path = pick (decided (is_way first path))
-  where
-    pick : (is_way first path ≡ true) ⊎ (is_way first path ≡ false)
-        → IsAccurateAt options w (without first es) path
-    pick (inl way) = λ device s at on stands. absurd
-        (cc (ap accepted_device_of (finding-dropped first path es way), at))
-    pick (inr away) = is_told_at-same w es (without first es) path (finding-kept first path es away)
-        (supply-kept first path es away) (told path away)
+truthful_dropped {options = options} first w es told path = elim (decided (is_way first path)) [
+  | inl way ↦ λ device s at on stands. absurd
+      (cc (ap accepted_device_of (finding-dropped first path es way), at))
+  | inr away ↦ is_told_at-same w es (without first es) path (finding-kept first path es away)
+      (supply-kept first path es away) (told path away)
+]
 
 pub causes_dropped : (options : HostOptions) (first : List ℕ) (w : World) (es : Entries)
     → CausesBut options first w es
     → RefusalsJustified options w (without first es)
-causes_dropped options first w es caused path = pick (decided (is_way first path))
-  where
-    pick : (is_way first path ≡ true) ⊎ (is_way first path ≡ false)
-        → IsJustifiedAt options w (without first es) path
-    pick (inl way) = λ cause s at stands. absurd (cc (finding-dropped first path es way, at))
-    pick (inr away) =
-        caused_as options w es (without first es) path (finding-kept first path es away)
-        (supply-kept first path es away) (caused path away)
+causes_dropped options first w es caused path = elim (decided (is_way first path)) [
+  | inl way ↦ λ cause s at stands. absurd (cc (finding-dropped first path es way, at))
+  | inr away ↦
+      caused_as options w es (without first es) path (finding-kept first path es away)
+      (supply-kept first path es away) (caused path away)
+]
 
 -- An entry comes, where none is at its path or below it
 
@@ -290,29 +438,27 @@ module _ (first : List ℕ) (f : Finding) (es : Entries) (some : 1 ≤ length fi
   pub truthful_found : {options : HostOptions} (w : World) → DevicesAccurate options w es
       → IsAccurateAt options w entered first
       → DevicesAccurate options w entered
-  truthful_found {options = options} w told here path = pick (is_at (path_cmp path) first) refl
-      (decided (is_way first path))
-    where
-      pick : (b : Bool) → is_at (path_cmp path) first ≡ b → (is_way first path ≡ true)
-          ⊎ (is_way first path ≡ false) → IsAccurateAt options w entered path
-      pick true tie _ = rw (path_tied path first tie) here
-      pick false apart (inl way) = λ device s at on stands. absurd (cc (
+  truthful_found w told here path = elim (decided (is_at (path_cmp path) first)) [
+    | inl tie ↦ rw (path_tied path first tie) here
+    | inr apart ↦ elim (decided (is_way first path)) [
+      | inl way ↦ λ device s at on stands. absurd (cc (
         ap accepted_device_of (finding-entered path apart ∙ finding-none first path es gone way),
         at,
       ))
-      pick false apart (inr away) = is_told_at-same w es entered path (finding-entered path apart)
+      | inr away ↦ is_told_at-same w es entered path (finding-entered path apart)
           (supply-entered path away) (told path)
+    ]
+  ]
 
   pub causes_found : (options : HostOptions) (w : World) → RefusalsJustified options w es
       → IsJustifiedAt options w entered first
       → RefusalsJustified options w entered
-  causes_found options w caused here path = pick (is_at (path_cmp path) first) refl
-      (decided (is_way first path))
-    where
-      pick : (b : Bool) → is_at (path_cmp path) first ≡ b → (is_way first path ≡ true)
-          ⊎ (is_way first path ≡ false) → IsJustifiedAt options w entered path
-      pick true tie _ = rw (path_tied path first tie) here
-      pick false apart (inl way) = λ cause s at stands. absurd
+  causes_found options w caused here path = elim (decided (is_at (path_cmp path) first)) [
+    | inl tie ↦ rw (path_tied path first tie) here
+    | inr apart ↦ elim (decided (is_way first path)) [
+      | inl way ↦ λ cause s at stands. absurd
           (cc (finding-entered path apart ∙ finding-none first path es gone way, at))
-      pick false apart (inr away) = caused_as options w es entered path (finding-entered path apart)
+      | inr away ↦ caused_as options w es entered path (finding-entered path apart)
           (supply-entered path away) (caused path)
+    ]
+  ]

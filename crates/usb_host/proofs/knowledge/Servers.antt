@@ -1,29 +1,58 @@
 -- The hub of a port that is known serves the port, or a change of connection is pending at the hub.
-use Rattle.std.proofs.Common.{◌≡◌, ◌⊎◌, inl, inr, ◌≤◌, ◌&&◌, ◌||◌, not, arith, if◌then◌else◌, ℕ}
-use Rattle.std.proofs.Common.{suc, Bool, true, false, List, [], ◌∷◌, length, Option, None, Some}
-use Rattle.std.proofs.Common.{refl, ap, sym, subst, ◌∙◌, length-append}
+use Rattle.std.proofs.Common.{◌≡◌, refl, arith, Bool, true, false, ℕ, ◌≤◌, List, [], ◌∷◌, ◌++◌}
+use Rattle.std.proofs.Common.{length, Some, ◌⊎◌, inl, inr, ◌&&◌, ◌||◌, not, if◌then◌else◌, suc}
+use Rattle.std.proofs.Common.{Option, None, ap, sym, subst, ◌∙◌, length-append}
+use Rattle.std.proofs.lemmas.List.Elements.{All-cons, All-nil}
+use Rattle.usb_world.specs.{World, IsRootPort, WorldInvariant}
+use Rattle.std.specs.Map.{lookup}
+use Rattle.std.specs.BTreeMap.{is_at}
+use Rattle.usb_port.specs.{path_cmp, parent_of, port_on_hub, IsPortNumber}
+use Rattle.usb_port.proofs.Interface.{parent, rejoined}
+use Rattle.usb_hub.specs.{Root, External}
+use Rattle.usb_table.specs.{KnownPort, Entries, known_port, is_below_hub, accepted_device_of}
+use Rattle.usb_table.specs.{address_in, root_port, port_below, finding_at, tier_of}
+use Rattle.usb_table.proofs.Interface.{port_found-some, FoundPort}
+use Rattle.usb_resources.specs.{supply_of, IsAddress}
+use Rattle.usb_host.specs.{Agrees, HostState, IsDue, IsPortAt, StandsAt, IsAccurateAt, known_supply}
+use Rattle.usb_host.specs.{IsSoundBut}
 use Rattle.std.proofs.lemmas.Bool.{eq-eqb, lt-ltb}
-use Rattle.usb_port.specs.{parent_of, port_on_hub}
-use Rattle.usb_port.proofs.Interface.{rejoined}
-use Rattle.usb_resources.specs.{IsAddress, supply_of}
 use Rattle.usb_descriptor.specs.{configuration_value}
 use Rattle.usb_device.specs.{Spec, Hub, hub_ports, reach}
 use Rattle.usb_tree.specs.{address_of, is_way, pending, deep_at}
-use Rattle.usb_world.specs.{WorldInvariant, World}
 use Rattle.usb_world.proofs.Interface.{sane_spec, way_shorter}
 use Rattle.usb_tree.proofs.Interface.{and_of, false_true}
-use Rattle.usb_hub.specs.{External}
-use Rattle.usb_enum.specs.{Accepted, HubFacts, facts_of, is_hub_device, target_of, configuration_of}
-use Rattle.usb_enum.specs.{HasServer, ServesAt, IsKnownAs, HostOptions}
+use Rattle.usb_enum.specs.{Accepted, HubFacts, facts_of, target_of, configuration_of, HasServer}
+use Rattle.usb_enum.specs.{ServesAt, IsKnownAs, HostOptions}
 use Rattle.usb_enum.specs.declared.finding.Finding.TheVariants.{Device}
-use Rattle.usb_table.specs.{KnownPort, Entries, accepted_device_of, address_in, root_port}
-use Rattle.usb_table.specs.{port_below, is_below_hub, finding_at, tier_of}
-use Rattle.usb_table.proofs.Interface.{FoundPort, port_found-some}
-use Rattle.usb_host.specs.{HostState, StandsAt, IsAccurateAt, known_supply, IsSoundBut}
 use Rattle.usb_enum.proofs.Interface.{AcceptsChosen, accepts, chosen_some, has_chosen}
 use Rattle.usb_host.proofs.entries.Roots.{accounted}
 use Rattle.usb_host.proofs.knowledge.SettledListings.{listed_port, listed_address, port_number}
-use Rattle.usb_host.proofs.knowledge.SettledListings.{reached_there}
+use Rattle.usb_host.proofs.knowledge.SettledListings.{reached_there, facts_given}
+
+-- A port below a hub is the hub's.
+
+pub below_due : (hub : List ℕ) (n : ℕ) (es : Entries) (port : KnownPort) (w : World)
+    → 1 ≤ length hub → known_port (hub ++ n ∷ []) es ≡ Some port → IsDue w port.port
+below_due hub n es port w least e =
+    let found =
+    port_found-some (lookup (is_at (path_cmp hub)) es) (is_below_hub hub)
+    (port_on_hub (hub ++ n ∷ [])) port (rw (parent hub n least) at e) in
+    rw found.is tt
+
+-- a port of the root
+pub root_stands : {modelled : Bool} (number : ℕ) (h : HostState)
+    → (modelled ≡ true → IsRootPort h.world number) → IsPortNumber number
+    → Agrees h.options h.entries h.addresses
+    → IsPortAt modelled (number ∷ []) (record { port = Root number; supply = supply_of true false })
+    h
+unfolding parent_of port_on_hub
+root_stands number h asked is agrees = record {
+  is = (omega arith, omega arith, All-cons IsPortNumber number [] is (All-nil IsPortNumber));
+  known = refl;
+  asked = asked;
+  askable = is;
+  agrees = agrees;
+}
 
 -- A hub that is accepted hears its target
 
@@ -45,23 +74,13 @@ is_below_hub-deep j (n ∷ p) h = lt-ltb 1 (length (suc j ∷ n ∷ p)) (omega a
 
 facts_port : (spec : Spec) (facts : HubFacts) (n : ℕ) → facts_of spec ≡ Some facts → 1 ≤ n
     → n ≤ facts.ports → (hub : Hub) × (spec.hub ≡ Some hub) × (n ≤ hub.ports)
-facts_port spec facts n e least most = pick (is_hub_device spec.descriptor) e
+facts_port spec facts n e least most =
+    by_hub spec.hub refl (ap (λ (f : HubFacts). f.ports) (facts_given spec facts e))
   where
     by_hub : (o : Option Hub) → spec.hub ≡ o → facts.ports ≡ hub_ports o → (hub : Hub)
         × (spec.hub ≡ Some hub) × (n ≤ hub.ports)
     by_hub None is ports = absurd (omega arith)
     by_hub (Some hub) is ports = (hub, is, omega arith)
-
-    pick : (b : Bool) → (if b then Some (record {
-      ports = hub_ports spec.hub;
-      supply = supply_of false spec.self_powered;
-    }) else None) ≡ Some facts → (hub : Hub) × (spec.hub ≡ Some hub) × (n ≤ hub.ports)
-    pick true h = let same : record {
-      ports = hub_ports spec.hub;
-      supply = supply_of false spec.self_powered;
-    } ≡ facts = cc h in
-        by_hub spec.hub refl (ap (λ (f : HubFacts). f.ports) (sym same))
-    pick false h = absurd (cc h)
 
 module _ {w : World} (entries : Entries) (device : Accepted) {facts : HubFacts} (n : ℕ)
     (told : device.hub ≡ Some facts) (least : 1 ≤ n) (most : n ≤ facts.ports)

@@ -23,7 +23,7 @@ use Rattle.usb_table.specs.{supply_at, ListsEach, Matches}
 use Rattle.usb_table.proofs.Interface.{FoundPort, port_found-some}
 use Rattle.usb_host.specs.{PortsListed, known_supply, IsTruthOf, DevicesAccurate, RefusalsJustified}
 use Rattle.usb_host.specs.{Accounted, IsAtRest}
-use Rattle.usb_host.proofs.entries.Balances.{claims_distinct, claims_taken}
+use Rattle.usb_host.proofs.entries.Agreements.{claims_distinct, claims_taken}
 
 -- A reachable device stands
 
@@ -131,14 +131,17 @@ facts_are_hub (Some (Device d)) below n h = let x : _ = supply_of_hub d below n 
     record { device = d; facts = x.0; found = refl; told = x.1; gives = x.2 }
 facts_are_hub _ below n h = absurd h
 
-facts_supply : (spec : Spec) (facts : HubFacts) → facts_of spec ≡ Some facts
-    → facts.supply ≡ supply_of false spec.self_powered
-facts_supply spec facts h = pick (is_hub_device spec.descriptor) h
+-- what is known of a hub is as its description says
+abbrev pub facts_in : Spec → HubFacts
+facts_in spec =
+    record { ports = hub_ports spec.hub; supply = supply_of false spec.self_powered }
+
+pub facts_given : (spec : Spec) (facts : HubFacts) → facts_of spec ≡ Some facts
+    → facts ≡ facts_in spec
+facts_given spec facts h = pick (is_hub_device spec.descriptor) h
   where
-    pick : (b : Bool) → (if b then Some (record {
-      ports = hub_ports spec.hub;
-      supply = supply_of false spec.self_powered;
-    }) else None) ≡ Some facts → facts.supply ≡ supply_of false spec.self_powered
+    pick : (b : Bool) → (if b then Some (facts_in spec) else None) ≡ Some facts
+        → facts ≡ facts_in spec
     pick true h = cc h
     pick false h = absurd (cc h)
 
@@ -178,8 +181,8 @@ module _ (options : HostOptions) (w : World) (entries : Entries) (addresses : Ad
   supply_known (Some hub) n h =
       let x = facts_are_hub (finding_at hub entries) (is_below_hub hub) n h in
       let t : _ = told hub x.device x.found in
-      let given = facts_supply t.0.spec x.facts (sym t.2.found.1.hub ∙ x.told) in
-      x.gives ∙ given ∙ sym (ap (λ o. supply_of false
+      let given = facts_given t.0.spec x.facts (sym t.2.found.1.hub ∙ x.told) in
+      x.gives ∙ ap (λ (f : HubFacts). f.supply) given ∙ sym (ap (λ o. supply_of false
       (unwrap_or (option_map (λ (spec : Spec). spec.self_powered) o) false))
       (tree_in-spec w hub t.1))
 

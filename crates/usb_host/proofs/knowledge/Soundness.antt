@@ -1,6 +1,6 @@
 -- What a host knows stays so over the parts of a round, transfers and events.
 use Rattle.std.proofs.Common.{◌≡◌, ◌∙◌, refl, sym, ap, subst, ℕ, List, Bool, true, false, Option}
-use Rattle.std.proofs.Common.{None, Some, Result, Ok, Err, IsSome}
+use Rattle.std.proofs.Common.{None, Some, Result, Ok, Err, IsSome, is_some, inl, inr}
 use Rattle.std.specs.BTreeMap.{is_at}
 use Rattle.usb_port.specs.{path_cmp}
 use Rattle.usb_world.specs.{BusFault, event_taken, event, after, step, here as no_more, AnyStep}
@@ -8,10 +8,10 @@ use Rattle.usb_world.specs.{World, roots_of}
 use Rattle.usb_tree.specs.{pending, is_way}
 use Rattle.usb_device.specs.{Location, Registers, State}
 use Rattle.usb_world.proofs.Interface.{course_wider, each_wider, first_fault, way_itself}
-use Rattle.usb_tree.proofs.Interface.{false_true}
+use Rattle.usb_tree.proofs.Interface.{false_true, decided}
 use Rattle.usb_transaction.specs.{NoThreeDamaged}
 use Rattle.usb_backlog.proofs.Interface.{all_none}
-use Rattle.usb_address.specs.{KeepsAddresses}
+use Rattle.usb_address.specs.{KeepsAddresses, MapHolds, WhileBusWorks}
 use Rattle.usb_enum.specs.{Finding, IsKnownAs, IsOccupied, IsInOrder}
 use Rattle.usb_enum.proofs.Interface.{orderly_on, step_later, went_in_order}
 use Rattle.usb_table.specs.{Entries, finding_at, AllInSync, IsHeld, KeepsInSync, KeepsLevels}
@@ -21,17 +21,20 @@ use Rattle.usb_host.specs.{HostFault, Round, Agrees, KeepsBulk, HostState, Keeps
 use Rattle.usb_host.specs.{table_in, HostSteps, HostRuns, PortsListed, DevicesAccurate, Accounted}
 use Rattle.usb_host.specs.{RefusalsJustified, HostInvariant, IsSoundBut, IsFairTo, KeepsInvariant}
 use Rattle.usb_host.specs.{PartStays, PartKeepsInvariant, IsDroppable, DropsSound, RoundsSound}
-use Rattle.usb_host.specs.{TransferKeeps}
+use Rattle.usb_host.specs.{TransferKeeps, HostMapHolds, claims, OnlyBusSteps}
 use Rattle.usb_host.proofs.StepSums.{went_before}
-use Rattle.usb_host.proofs.devices.BulkPipes.{bulk_none, bulk_stopped, bulk_then}
+use Rattle.usb_host.proofs.devices.Pipes.{bulk_none, bulk_stopped, bulk_then}
 use Rattle.usb_host.proofs.parts.Events.{known_event, truthful_event, causes_event, level_event}
 use Rattle.usb_host.proofs.devices.Fairness.{fair_before, fair_after}
 use Rattle.usb_host.proofs.devices.Owners.{but_all, owning_kept, stays_kept}
 use Rattle.usb_host.proofs.devices.Plugs.{plugs_none, plugs_stopped, plugs_then}
 use Rattle.usb_host.proofs.entries.Roots.{accounted}
 use Rattle.usb_host.proofs.knowledge.SettledListings.{listed_port}
-use Rattle.usb_host.proofs.knowledge.KnowledgeKept.{known_each, truthful_stays, causes_stay}
-use Rattle.usb_host.proofs.knowledge.ServedPorts.{occupied_by}
+use Rattle.usb_host.proofs.knowledge.Places.{known_each, truthful_stays, causes_stay}
+use Rattle.usb_host.proofs.knowledge.HandledPorts.{occupied_by}
+use Rattle.usb_world.specs.declared.event.Ask.{Ask}
+use Rattle.usb_bus.specs.{TakesEvent}
+use Rattle.usb_address.proofs.Interface.{event_keeps}
 
 -- One part after another
 
@@ -79,12 +82,11 @@ occupied_at path h fits known (Some f) at some =
 
 is_way-apart : (path other : List ℕ) → is_way path other ≡ false
     → is_at (path_cmp path) other ≡ false
-is_way-apart path other away = pick (is_at (path_cmp path) other) refl
-  where
-    pick : (b : Bool) → is_at (path_cmp path) other ≡ b → b ≡ false
-    pick true tie = false_true (sym away ∙ ap (is_way path) (sym (path_tied path other tie))
-        ∙ way_itself path)
-    pick false tie = refl
+is_way-apart path other away = elim (decided (is_at (path_cmp path) other)) [
+  | inl tie ↦ false_true (sym away ∙ ap (is_way path) (sym (path_tied path other tie))
+      ∙ way_itself path)
+  | inr apart ↦ apart
+]
 
 -- A call through the pipes at a path: it changes no entry and asks nothing of any port, and keeps
 -- each device but for the settings of its interfaces
@@ -325,3 +327,34 @@ rounds_stopped (Ok round) a b stopped x =
       rest = x.rest;
     }
 rounds_stopped (Err fault) a b stopped x = record { keeps = tt; rest = λ s is. absurd (cc is) }
+
+-- What an event leaves of a host that keeps what it has.
+
+-- what it knew is so as before, where the event came or none was left
+pub sound_came : (old new : HostState) (due : Option (Option Ask))
+    → Agrees old.options old.entries old.addresses
+    → TakesEvent old.world old.trace (Ok due) new.world
+    new.trace
+    → OnlyBusSteps old new → KeepsInvariant old new
+sound_came old new due agrees takes rests =
+    sound_event old new agrees (ap (λ (h : HostState). h.entries) rests)
+    (ap (λ (h : HostState). h.options) rests) (ap (λ (h : HostState). h.pipes) rests) takes.exact
+    (event_keeps old.world (Ok due) new.world takes.took takes.exact takes.kept takes.cut
+    (λ reached none. cc (ap is_some none, takes.limit reached)))
+
+-- and devices hold the addresses that it has for them, also where the bus told a fault
+pub owning_came : (old new : HostState) (result : Result (Option (Option Ask)) BusFault)
+    → old.stopped ≡ false → TakesEvent old.world old.trace result new.world new.trace
+    → OnlyBusSteps old new → HostMapHolds old → HostMapHolds new
+owning_came old new result running takes rests o =
+    let kept : WhileBusWorks (MapHolds (claims old.entries)) new.world =
+    (event_keeps old.world result new.world takes.took takes.exact takes.kept takes.cut
+    (λ reached none. cc (ap is_some none, takes.limit reached))).kept (claims old.entries)
+    (o.owned running) in
+    record {
+      single = kept.single;
+      owned =
+          λ on. subst (λ (es : Entries). WhileBusWorks (MapHolds (claims es)) new.world)
+          (sym (ap (λ (h : HostState). h.entries) rests))
+          kept;
+    }

@@ -23,7 +23,7 @@ use Rattle.usb_address.proofs.Interface.{place_ports, live_below, not_way, pend-
 use Rattle.usb_address.proofs.Interface.{port_there-below, reach_below, state_below}
 use Rattle.usb_host.specs.{HoldsAt}
 use Rattle.usb_host.proofs.parts.Events.{event_calm}
-use Rattle.usb_host.proofs.knowledge.KnowledgeKept.{known_stays}
+use Rattle.usb_host.proofs.knowledge.Places.{known_stays}
 
 -- the calls that clear a change bit of enable or reset
 pub data Tidy : Type 0 where

@@ -1,4 +1,5 @@
 -- The ports of which a hub told are known, and show their changes.
+use Rattle.usb_tree.proofs.Interface.{decided}
 use Rattle.std.proofs.Common.{◌≡◌, ◌≢◌, ◌≤◌, ◌<◌, ◌⊎◌, ◌∙◌, ◌==◌, ◌||◌, ◌&&◌, not, inl, inr, refl}
 use Rattle.std.proofs.Common.{sym, ap, subst, arith, if◌then◌else◌, ℕ, zero, suc, ◌+◌, Bool, true}
 use Rattle.std.proofs.Common.{false, List, [], ◌∷◌, ◌++◌, length, length-append, take, Option, None}
@@ -28,15 +29,13 @@ use Rattle.usb_table.proofs.Interface.{FoundPort, port_found-some}
 use Rattle.usb_host.specs.{Agrees, ShowsChange, ShowsTold, HostState, HostInvariant, IsTruthOf}
 use Rattle.usb_host.specs.{known_supply}
 use Rattle.usb_host.proofs.payments.Backlogs.{full_of, port_of-place, steady_place}
-use Rattle.usb_host.proofs.rests.CalmPorts.{ready_none}
-use Rattle.usb_host.proofs.ParentPaths.{parent_length}
-use Rattle.usb_host.proofs.rests.Polls.{HubThere, facts_ports}
+use Rattle.usb_host.proofs.rests.ClearedPorts.{ready_none}
+use Rattle.usb_host.proofs.PortLocations.{parent_length, root_alone}
+use Rattle.usb_host.proofs.rests.Polls.{HubThere, facts_ports, port_of_row}
 use Rattle.usb_host.proofs.knowledge.ChangeWords.{HasChange, bit_changed, bit_some}
 use Rattle.usb_host.proofs.knowledge.SettledListings.{reached_there}
-use Rattle.usb_host.proofs.services.Services.{same_last}
-use Rattle.usb_host.proofs.UnchangedHubs.{port_of_row}
-use Rattle.usb_host.proofs.PortLocations.{root_alone}
-use Rattle.usb_host.proofs.payments.ToldPayments.{shows_on}
+use Rattle.usb_host.proofs.Services.{same_last}
+use Rattle.usb_host.proofs.payments.HubPayments.{shows_on}
 
 -- A port of a hub that told
 
@@ -50,11 +49,10 @@ deep_row _ _ _ _ _ _ _ r e = absurd (cc e)
 
 facts_of-hub : (spec : Spec) (facts : HubFacts) → facts_of spec ≡ Some facts
     → is_hub_device spec.descriptor ≡ true
-facts_of-hub spec facts is = pick (is_hub_device spec.descriptor) refl is
-  where
-    pick : (x : Bool) → is_hub_device spec.descriptor ≡ x → facts_of spec ≡ Some facts → x ≡ true
-    pick true hub e = refl
-    pick false hub e = let none : facts_of spec ≡ None = rw hub refl in absurd (cc (none, e))
+facts_of-hub spec facts is = elim (decided (is_hub_device spec.descriptor)) [
+  | inl hub ↦ hub
+  | inr hub ↦ let none : facts_of spec ≡ None = rw hub refl in absurd (cc (none, is))
+]
 
 verdict-not_deep : (spec : Spec) (options : HostOptions) (tier supply : ℕ) {chosen : ℕ}
     (facts : HubFacts)

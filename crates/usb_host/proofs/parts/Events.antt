@@ -8,7 +8,7 @@ use Rattle.usb_world.proofs.Interface.{course_wider, each_wider, taken_state, un
 use Rattle.usb_enum.proofs.Interface.{course_later}
 use Rattle.usb_table.specs.{Entries, AllInSync, Table, SameDevice}
 use Rattle.usb_host.specs.{PortsListed, DevicesAccurate, RefusalsJustified, Accounted}
-use Rattle.usb_host.proofs.knowledge.KnowledgeKept.{known_each, truthful_stays, causes_stay}
+use Rattle.usb_host.proofs.knowledge.Places.{known_each, truthful_stays, causes_stay}
 use Rattle.usb_enum.specs.{HostOptions}
 
 -- an event asks nothing of any port

@@ -1,6 +1,6 @@
 -- What was left to do pays for a round.
 use Rattle.std.proofs.Common.{◌≡◌, refl, sym, subst, arith, ℕ, Bool, List, None, Result, Ok, Err}
-use Rattle.std.proofs.Common.{IfOk, IsErr, OnOk}
+use Rattle.std.proofs.Common.{IfOk, OnOk}
 use Rattle.usb_world.specs.{PlanData}
 use Rattle.usb_host.specs.{ServesEach, ServesHubs, Affords, Costs, PaysRound, RootsPaid, RoundPaid}
 use Rattle.usb_host.specs.{Stops, StopsWithin, Weights, event_weight, handling_most, hubs_most}
@@ -8,10 +8,9 @@ use Rattle.usb_host.specs.{HostState, HasPlugs, Waits, HostSteps, either, LooksK
 use Rattle.usb_host.specs.{PartStays, HostFault, Round, Worked, Quiet}
 use Rattle.usb_host.proofs.StepSums.{went_before}
 use Rattle.usb_host.proofs.rests.RestingRounds.{done}
-use Rattle.usb_host.proofs.entries.Roots.{on_failed}
-use Rattle.usb_host.proofs.payments.Payments.{costs_none, few_stop, is_err-if_ok, pays_costs}
-use Rattle.usb_host.proofs.payments.Payments.{pays_none, pays_then, stops_after, stops_more}
-use Rattle.usb_host.proofs.payments.Payments.{part_works, works_on}
+use Rattle.usb_host.proofs.payments.Payments.{costs_none, few_stop, pays_costs, pays_none}
+use Rattle.usb_host.proofs.payments.Payments.{pays_then, stops_after, stops_more, part_works}
+use Rattle.usb_host.proofs.payments.Payments.{works_on}
 
 pub affords_on : {n : ℕ} {c : Weights} (plan : PlanData) {a b : HostState} → HostSteps n a b
     → PartStays a b → Affords c plan a → b.world.fault ≡ None → Affords c plan b
@@ -28,24 +27,10 @@ none_wait c h x = x.plugs.none_waits x.few
 pub one_waits : {a b : HostState} {path : List ℕ} → b ≡ a → Waits path b → NoneWait a.entries → ⊥
 one_waits {path = path} same waits none = none path (rw same at waits.entry)
 
--- a part failed
-failed_pays : {c : Weights} {plan : PlanData} {a b : HostState} (other : Result Round HostFault)
-    → IsErr other → Stops c a b → PaysRound c plan a other b
-failed_pays {c = c} {plan = plan} {a = a} {b = b} other e stops = record {
-  most = stops;
-  pays = λ still. is_err-if_ok other (λ round. RoundPaid c round a b) e;
-  plugs = on_failed other (b.world.fault ≡ None → HasPlugs plan.events b) e;
-}
-
 module _ {result : Result Round HostFault} {a b : HostState} (x : ServesEach a result b) where
-  roots_stop : (c : Weights) (plan : PlanData) → Affords c plan a → Stops c a b
-  roots_stop c plan w = stops_more c a b (handling_most c) (event_weight c)
+  pub roots_end_pay : (c : Weights) (plan : PlanData) → Affords c plan a → Stops c a b
+  roots_end_pay c plan w = stops_more c a b (handling_most c) (event_weight c)
       (x.pays.stops c plan w.works) (omega arith)
-
-  -- the root ports failed
-  pub roots_fail : {other : Result Round HostFault} → IsErr other → (c : Weights) (plan : PlanData)
-      → Affords c plan a → PaysRound c plan a other b
-  roots_fail {other = other} e c plan w = failed_pays other e (roots_stop c plan w)
 
 module _ {roots : Round} {a b : HostState} (x : ServesEach a (Ok roots) b) where
   roots_cost : (c : Weights) (plan : PlanData) → Affords c plan a → b.world.fault ≡ None
@@ -57,16 +42,11 @@ module _ {roots : Round} {a b : HostState} (x : ServesEach a (Ok roots) b) where
       pick Quiet y = rw y (costs_none c 0 a)
 
   module _ {result : Result Round HostFault} {d : HostState} (y : ServesHubs b result d) where
-    hubs_stop : (c : Weights) (plan : PlanData) → Affords c plan a → Stops c a d
-    hubs_stop c plan w =
+    pub hubs_end_pay : (c : Weights) (plan : PlanData) → Affords c plan a → Stops c a d
+    hubs_end_pay c plan w =
         stops_after c a b d 0 (hubs_most c) (event_weight c) y.keeps.part.goes.went
-        (roots_stop x c plan w) (roots_cost c plan w)
+        (roots_end_pay x c plan w) (roots_cost c plan w)
         (λ still. y.pays.stops c plan (part_works x.part w.works still)) (omega arith)
-
-    -- the hubs failed
-    pub hubs_fail : {other : Result Round HostFault} → IsErr other → (c : Weights)
-        (plan : PlanData) → Affords c plan a → PaysRound c plan a other d
-    hubs_fail {other = other} e c plan w = failed_pays other e (hubs_stop c plan w)
 
   module _ {hubs : Round} {d : HostState} (y : ServesHubs b (Ok hubs) d) where
     before : d.world.fault ≡ None → b.world.fault ≡ None
@@ -103,25 +83,20 @@ module _ {roots : Round} {a b : HostState} (x : ServesEach a (Ok roots) b) where
     waits_none c plan w still = none_wait c d (affords_then c plan w still)
 
     module _ {result : Result Round HostFault} {e : HostState} (z : LooksKeep d result e) where
-      looks_stop : (c : Weights) (plan : PlanData) → Affords c plan a → Stops c a e
-      looks_stop c plan w =
-          stops_after c a d e c.polls 0 (event_weight c) z.part.goes.went (hubs_stop y c plan w)
+      pub looks_end_pay : (c : Weights) (plan : PlanData) → Affords c plan a → Stops c a e
+      looks_end_pay c plan w =
+          stops_after c a d e c.polls 0 (event_weight c) z.part.goes.went (hubs_end_pay y c plan w)
           (hubs_cost c plan w)
           (λ still. subst (λ (h : HostState). StopsWithin c 0 d h)
           (sym (z.idle (waits_none c plan w still)).1)
           (few_stop c 0 d d (omega arith) (omega arith))) (omega arith)
-
-      -- the second looks failed
-      pub looks_fail : {other : Result Round HostFault} → IsErr other → (c : Weights)
-          (plan : PlanData) → Affords c plan a → PaysRound c plan a other e
-      looks_fail {other = other} f c plan w = failed_pays other f (looks_stop c plan w)
 
     -- all was done
     pub parts_pay : {looks : Round} {e : HostState} → LooksKeep d (Ok looks) e → (c : Weights)
         (plan : PlanData) → Affords c plan a
         → PaysRound c plan a (Ok (either (either roots hubs) looks)) e
     parts_pay {looks = looks} {e = e} z c plan w = record {
-      most = looks_stop z c plan w;
+      most = looks_end_pay z c plan w;
       pays = λ still.
           let idle = z.idle (waits_none c plan w (here still)) in
           let paid : RoundPaid c (either roots hubs) a e =

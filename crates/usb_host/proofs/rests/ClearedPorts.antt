@@ -1,19 +1,46 @@
--- A port whose change of connection was cleared, and of which nothing was asked since: where it is
--- enabled it tells of no such change, since whatever is plugged or unplugged there disables it.
+-- What a port is after its changes were cleared, and where nothing is asked of it since.
 use Rattle.std.proofs.Common.{◌≡◌, ◌∙◌, ℕ, zero, suc, true, false, List, [], ◌∷◌, Option, None}
-use Rattle.std.proofs.Common.{Some, ap, option_map, refl, subst, sym}
+use Rattle.std.proofs.Common.{Some, ap, option_map, refl, subst, sym, ◌⊎◌, inl, inr, ◌&&◌, Bool}
+use Rattle.std.proofs.Common.{◌++◌, is_some, IsSome, not, Result, Ok, ◌≤◌, ◌||◌, arith, IfSome}
 use Rattle.std.proofs.lemmas.Option.{same_Some}
 use Rattle.usb_port.specs.{PortState, PortStatus, ClearConnectionChange, plugged, unplugged, off}
+use Rattle.usb_port.specs.{is_attached, PortCall, ClearEnable, called_port}
 use Rattle.usb_device.specs.{fresh, Spec, Hub, Ports, vacant, taken, new_ports, first_ports}
-use Rattle.usb_device.specs.{replaced, changed, changed_at, port_at, port_of, port_there}
+use Rattle.usb_device.specs.{replaced, changed, changed_at, port_at, port_of, port_there, State}
+use Rattle.usb_device.specs.{empty, full, called, place, state_there, Place, ended}
 use Rattle.usb_world.specs.{Action, leaves_step, LeavesPort, after, after_change, after_event}
-use Rattle.usb_world.specs.{at_attempt, Course, World}
+use Rattle.usb_world.specs.{at_attempt, Course, World, Attempt, step_keeps_pending, AsksNothing}
+use Rattle.usb_world.specs.{UnchangedOrPending, Consistent, Step, attempt, with_attempt, here, step}
+use Rattle.usb_world.specs.{LeavesPortAlone}
 use Rattle.usb_world.proofs.Interface.{Keeps, OverSteps, course_joined, course_wider, happened_by}
-use Rattle.usb_world.proofs.Interface.{keeps_events, made_port, over_course, root_port}
-use Rattle.usb_tree.proofs.Interface.{false_true}
-use Rattle.usb_hub.specs.{PortCallDone, PortStatusAt}
-use Rattle.usb_hub.proofs.Interface.{port_of_place}
-use Rattle.usb_host.proofs.payments.Backlogs.{shows_connection}
+use Rattle.usb_world.proofs.Interface.{keeps_events, made_port, over_course, root_port, MadeOrNot}
+use Rattle.usb_world.proofs.Interface.{attempt_cases, kept_course, made_pend, made_sound}
+use Rattle.usb_world.proofs.Interface.{pending_persists, rests_or_pends, step_pend, OverEvents}
+use Rattle.usb_world.proofs.Interface.{over_ready}
+use Rattle.usb_tree.proofs.Interface.{false_true, and_false, and_none}
+use Rattle.usb_hub.specs.{PortCallDone, PortStatusAt, ActsAt, ports_at_step, TouchesNoPort, HubPort}
+use Rattle.usb_hub.specs.{Root, External, Isolates}
+use Rattle.usb_hub.proofs.Interface.{port_of_place, StandsTold, done_stands, due_course}
+use Rattle.usb_hub.proofs.Interface.{told_stands}
+use Rattle.usb_host.proofs.payments.Backlogs.{shows_connection, told_steady}
+use Rattle.usb_tree.specs.{has_power, pending, is_way, pending_at}
+use Rattle.usb_enum.specs.{Finding, IsKnownAs, EnumFault, Accepted, CanFail}
+use Rattle.usb_enum.proofs.Interface.{pends_there, some_of, devices_then}
+use Rattle.usb_address.proofs.Interface.{IsUp, attached_there, live_of_up, live_port, not_way}
+use Rattle.usb_address.proofs.Interface.{pend_down, pend_or_live, up_of_live, keeps_then}
+use Rattle.usb_address.proofs.Interface.{place_ports, pend-below as pend_under, port_there-below}
+use Rattle.usb_host.specs.{HasWay, Decides, HasOnlyWorldChanges, KeepsEach, was_disabled, HostState}
+use Rattle.usb_host.specs.{claims, IsOwned, Watches, ProgressOrLost, StandsAt, HostRuns}
+use Rattle.usb_host.specs.{OnlyBusSteps, HostInvariant}
+use Rattle.usb_host.proofs.knowledge.Places.{none_same}
+use Rattle.usb_bus.specs.{StepRun}
+use Rattle.usb_address.specs.{map_without, KeepsAddresses}
+use Rattle.usb_table.specs.{KnownPort}
+use Rattle.usb_host.proofs.HostProgress.{rests_holds, served_after}
+use Rattle.usb_host.proofs.PortLocations.{stands_at-claim}
+
+-- A port whose change of connection was cleared, and of which nothing was asked since: where it is
+-- enabled it tells of no such change, since whatever is plugged or unplugged there disables it.
 
 -- the port that stands there, if any, tells of no change where it is enabled
 abbrev Steady : Option PortState → Type 0
@@ -92,3 +119,356 @@ cleared_steady p status d t on =
     course_wider (λ s w k. k.leaves) (course_joined (d.since p) (t.before p)) in
     ap (λ (x : PortStatus). x.connection_changed) t.is ∙ over_course (steady_steps p) alone first
     t.port t.stood (ap (λ (x : PortStatus). x.enabled) (sym t.is) ∙ on)
+
+-- What a port is after its change of connection was cleared and its status read, and after it was
+-- told to pass nothing on.
+
+-- The port's power stays, and what is pending above it
+
+powered_called : (o : Option Place) (b : PortState) → option_map port_of o ≡ Some b
+    → (d : PortState) × (option_map port_of (option_map (called ClearConnectionChange) o) ≡ Some d)
+    × (d.power ≡ b.power)
+powered_called None b e = absurd (cc e)
+powered_called (Some (empty c)) b e =
+    (called_port ClearConnectionChange c, refl, ap (λ x. x.power) (same_Some c b e))
+powered_called (Some (full c s a)) b e =
+    (called_port ClearConnectionChange c, refl, ap (λ x. x.power) (same_Some c b e))
+
+module _ (q : List ℕ) (n : ℕ) where
+  abbrev p : List ℕ
+  p = q ++ n ∷ []
+
+  -- it has power on its whole way, or a change is pending above it
+  abbrev Up : World → Type 0
+  Up w = (has_power w.roots p ≡ true) ⊎ (pending w.roots q ≡ true)
+
+  up_rests : (w v : World) → TouchesNoPort w v → Up w → Up v
+  up_rests w v rests (inr x) = inr (pending_persists q (course_wider (λ s u k. k.spares) (rests q))
+      x)
+  up_rests w v rests (inl on) = elim (rests_or_pends p (rests p) on) [
+    | inl y ↦ inl y.0
+    | inr y ↦ pend_or_live v.roots q n y
+  ]
+
+  -- the port that a step's own change comes to has power; or a change is pending above it after the
+  -- step; or the step came to nothing
+  data Meets (s : Step) (w : World) : Type 0 where
+    powered : (b : PortState) → port_there (ports_at_step s w) p ≡ Some b → b.power ≡ true
+        → Meets s w
+    pends : pending (after s w).roots q ≡ true → Meets s w
+    nothing : (after s w).roots ≡ w.roots → Meets s w
+
+  meets_live : {s : Step} {w : World} → (k : Ports) → ports_at_step s w ≡ k → has_power k p ≡ true
+      → Meets s w
+  meets_live k is on = let b : _ = live_port k p on in
+      powered b.0 (ap (λ t. port_there t p) is ∙ b.1) b.2
+
+  attempt_meets : (a : Attempt) (w : World) → step_keeps_pending (attempt a) w q ≡ true
+      → has_power w.roots p ≡ true → Meets (attempt a) w
+  unfolding after step_keeps_pending at_attempt
+  attempt_meets a w sp on = cases (attempt_cases a w)
+    where
+      made : w.fault ≡ None → after (attempt a) w ≡ with_attempt a (at_attempt w)
+          → Meets (attempt a) w
+      made sound is = pick (rests_or_pends p (due_course p w.left w refl sound) on)
+        where
+          above : (has_power (at_attempt w).roots p ≡ true)
+              ⊎ (pending (at_attempt w).roots q ≡ true) → Meets (attempt a) w
+          above (inl y) = meets_live (at_attempt w).roots refl y
+          above (inr y) = pends (rw is (made_pend a (at_attempt w) q sp y))
+
+          pick : UnchangedOrPending w (at_attempt w) p → Meets (attempt a) w
+          pick (inl y) = meets_live (at_attempt w).roots refl y.0
+          pick (inr y) = above (pend_or_live (at_attempt w).roots q n y)
+
+      cases : MadeOrNot a w (after (attempt a) w) → Meets (attempt a) w
+      cases (inl e) = nothing (ap (λ v. v.roots) e)
+      cases (inr m) = made (made_sound w m.0) m.1
+
+  step_meets : (s : Step) (w : World) → step_keeps_pending s w q ≡ true → has_power w.roots p ≡ true
+      → Meets s w
+  step_meets (attempt a) w sp on = attempt_meets a w sp on
+  step_meets _ w sp on = meets_live w.roots refl on
+
+  -- its hub's port has power on its whole way still, or a change is pending there
+  above_step : (s : Step) (w : World) → ActsAt p ClearConnectionChange s w → IsUp w.roots q
+      → IsUp (after s w).roots q ⊎ (pending (after s w).roots q ≡ true)
+  above_step s w k up = by_row q (λ x. k.about.others q (not_way q n)) up
+    where
+      by_row : (e : List ℕ) → (Unit {0} → AsksNothing s w e) → IsUp w.roots e
+          → IsUp (after s w).roots e ⊎ (pending (after s w).roots e ≡ true)
+      by_row [] asks up = inl tt
+      by_row (m ∷ e) asks up = pick (rests_or_pends (m ∷ e) (step s (asks tt) (here (after s w)))
+          up)
+        where
+          pick : UnchangedOrPending w (after s w) (m ∷ e) → IsUp (after s w).roots (m ∷ e)
+              ⊎ (pending (after s w).roots (m ∷ e) ≡ true)
+          pick (inl y) = inl y.0
+          pick (inr y) = inr y
+
+  still_powered : (s : Step) (w : World) → ActsAt p ClearConnectionChange s w → (b : PortState)
+      → port_there (ports_at_step s w) p ≡ Some b → b.power ≡ true
+      → (d : PortState) × (port_there (after s w).roots p ≡ Some d) × (d.power ≡ true)
+  still_powered s w k b there power = pick k.port
+    where
+      was : option_map port_of (place (ports_at_step s w) p) ≡ Some b
+      was = sym (port_of_place (ports_at_step s w) p) ∙ there
+
+      pick : (place (after s w).roots p ≡ place (ports_at_step s w) p)
+          ⊎ (place (after s w).roots p ≡ option_map (called ClearConnectionChange)
+          (place (ports_at_step s w) p))
+          → (d : PortState) × (port_there (after s w).roots p ≡ Some d) × (d.power ≡ true)
+      pick (inl e) = (b, port_of_place (after s w).roots p ∙ ap (option_map port_of) e ∙ was, power)
+      pick (inr e) =
+          let d : _ = powered_called (place (ports_at_step s w) p) b was in
+          (d.0, port_of_place (after s w).roots p ∙ ap (option_map port_of) e ∙ d.1, d.2 ∙ power)
+
+  up_step : (s : Step) (w : World) → ActsAt p ClearConnectionChange s w → Up w → Up (after s w)
+  up_step s w k (inr x) = inr (step_pend s w q (k.about.others q (not_way q n)).spares x)
+  up_step s w k (inl on) = by_meets (step_meets s w (k.about.others q (not_way q n)).spares on)
+    where
+      joined : (d : PortState) → port_there (after s w).roots p ≡ Some d → d.power ≡ true
+          → IsUp (after s w).roots q ⊎ (pending (after s w).roots q ≡ true) → Up (after s w)
+      joined d there power (inl up) = inl (live_of_up (after s w).roots q n d up there power)
+      joined d there power (inr x) = inr x
+
+      by_meets : Meets s w → Up (after s w)
+      by_meets (powered b there power) =
+          let d : _ = still_powered s w k b there power in
+          joined d.0 d.1 d.2 (above_step s w k (up_of_live w.roots q n on))
+      by_meets (pends x) = inr x
+      by_meets (nothing same) = inl (rw same on)
+
+  up_course : {w v : World} → Course (ActsAt p ClearConnectionChange) w v → Up w → Up v
+  up_course c = kept_course Up up_step c
+
+  up_done : {old : World} (new : World) → PortCallDone p ClearConnectionChange old new → Up old
+      → Up new
+  up_done new x h = up_rests (after x.last x.before) new x.since
+      (up_step x.last x.before x.acts (up_course x.repeats h))
+
+-- what pends elsewhere pends after a call
+pub pends_elsewhere : (p : List ℕ) {c : PortCall} {old new : World} → PortCallDone p c old new
+    → (x : List ℕ) → is_way p x ≡ false → pending old.roots x ≡ true → pending new.roots x ≡ true
+pends_elsewhere p d x away h =
+    let before = pending_persists x (course_wider (λ s w k. (k.about.others x away).spares)
+    d.repeats) h in
+    let called = step_pend d.last d.before x (d.acts.about.others x away).spares before in
+    pending_persists x (course_wider (λ s w k. k.spares) (d.since x)) called
+
+pub cleared_way : (p : List ℕ) {old : World} (new : World)
+    → PortCallDone p ClearConnectionChange old new → HasWay old p → HasWay new p
+cleared_way p new d (inr x) =
+    let away : is_way p x.0 ≡ false = rw x.2 (not_way x.0 x.1) in
+    inr (x.0, x.1, x.2, pends_elsewhere p d x.0 away x.3)
+cleared_way p new d (inl on) =
+    elim (up_done d.row.parent d.row.number new (rw d.row.is at d) (inl (rw d.row.is at on))) [
+      | inl x ↦ inl (rw d.row.is x)
+      | inr x ↦ inr (d.row.parent, d.row.number, d.row.is, x)
+    ]
+
+-- what is known of a port has a way
+split_last : (m : ℕ) (l : List ℕ) → (q : List ℕ) × (n : ℕ) × (m ∷ l ≡ q ++ n ∷ [])
+split_last m [] = ([], m, refl)
+split_last m (i ∷ l) = let x : _ = split_last i l in (m ∷ x.0, x.1, ap (λ e. m ∷ e) x.2)
+
+pends_way : (p : List ℕ) (w : World) → pending w.roots p ≡ true → HasWay w p
+pends_way [] w h = absurd (cc h)
+pends_way (m ∷ l) w h = let x : _ = split_last m l in
+    elim (pend_or_live w.roots x.0 x.1 (subst (λ e. pending w.roots e ≡ true) x.2 h)) [
+      | inl y ↦ inl (subst (λ r. has_power w.roots r ≡ true) (sym x.2) y)
+      | inr y ↦ inr (x.0, x.1, x.2, y)
+    ]
+
+pub known_way : (p : List ℕ) (w : World) (o : Option Finding) → IsKnownAs w p o → HasWay w p
+known_way p w o (inl x) = pends_way p w x
+known_way p w o (inr x) = inl x.0
+
+-- A status decides
+
+pending_decides : (c : Bool) (w : World) (p : List ℕ) → pending w.roots p ≡ true → Decides c w p
+pending_decides true w p h = inl h
+pending_decides false w p h = inl h
+
+is_some-is : (o : Option State) → is_some o ≡ true → IsSome o
+is_some-is None h = absurd (cc h)
+is_some-is (Some s) h = refl
+
+is_some-false : (o : Option State) → is_some o ≡ false → o ≡ None
+is_some-false None h = refl
+is_some-false (Some s) h = absurd (cc h)
+
+live_decides : (c : Bool) (w : World) (p : List ℕ) → has_power w.roots p ≡ true
+    → is_some (state_there w.roots p) ≡ c → Decides c w p
+live_decides true w p on h = inr (on, is_some-is (state_there w.roots p) h)
+live_decides false w p on h = inr (on, is_some-false (state_there w.roots p) h)
+
+pub told_decides : (p : List ℕ) (status : PortStatus) (old new : World)
+    → PortStatusAt p status old new → Consistent new.roots → HasWay old p
+    → Decides status.connected new p
+told_decides p status old new t sane (inr x) =
+    let above = pending_persists x.0 (course_wider (λ s w k. k.spares) (t.since x.0))
+    (pending_persists x.0 (course_wider (λ s w k. k.spares) (t.before x.0)) x.3) in
+    pending_decides status.connected new p (rw x.2 (pend_down new.roots x.0 (x.1 ∷ []) above))
+told_decides p status old new t sane (inl on) = pick (told_stands p status old new t on)
+  where
+    powered : has_power new.roots p ≡ true → port_there new.roots p ≡ Some t.port
+        → t.port.power ≡ true
+    powered h there = let b : _ = live_port new.roots p h in
+        ap (λ (x : PortState). x.power) (same_Some t.port b.0 (sym there ∙ b.1)) ∙ b.2
+
+    pick : StandsTold p t.port old new → Decides status.connected new p
+    pick (inl y) =
+        let connected : status.connected ≡ is_attached t.port.attached =
+        ap (λ (x : PortStatus). x.connected) t.is ∙ ap (λ b. b && is_attached t.port.attached)
+        (powered y.0 y.1) in
+        live_decides status.connected new p y.0 (sym (attached_there new.roots p t.port sane y.1)
+        ∙ sym connected)
+    pick (inr y) = pending_decides status.connected new p y
+
+-- what was decided stays so as the port is told to pass nothing on
+pub decided_stays : (c : Bool) (p : List ℕ) (old new : World) → PortCallDone p ClearEnable old new
+    → Decides c old p → Decides c new p
+decided_stays true p old new d (inl x) = inl (pends_there p ClearEnable old new refl d x)
+decided_stays true p old new d (inr x) = elim (done_stands p ClearEnable refl old new d x.0) [
+  | inl y ↦ inr (y.0, some_of (state_there old.roots p) (state_there new.roots p) y.2 x.1)
+  | inr y ↦ inl y
+]
+decided_stays false p old new d (inl x) = inl (pends_there p ClearEnable old new refl d x)
+decided_stays false p old new d (inr x) = elim (done_stands p ClearEnable refl old new d x.0) [
+  | inl y ↦ inr (y.0, none_same (state_there new.roots p) y.2 x.1)
+  | inr y ↦ inl y
+]
+
+-- Changes of a hub and of its ports that ask for nothing but their clearing: a port of a world
+-- tells none.
+
+told_plain : {p : List ℕ} {status : PortStatus} {old new : World} → PortStatusAt p status old new
+    → HasOnlyWorldChanges status
+told_plain t = (
+  ap (λ (s : PortStatus). s.suspend_changed) t.is,
+  ap (λ (s : PortStatus). s.over_current_changed) t.is,
+)
+
+pub watched_plain : (path : List ℕ) {port : KnownPort} (a : HostState) {b : World}
+    → StandsAt path port a → IsOwned a → (status : PortStatus)
+    → Watches port.port a.world (Ok status) b → HasOnlyWorldChanges status
+watched_plain path a s owned status w =
+    told_plain (w.told (claims a.entries) path (stands_at-claim s) owned status refl)
+
+pub keeps_each_then : {n : ℕ} {old mid new : World} {r s : Option (List ℕ)} → KeepsEach old mid
+    → StepRun n mid r new s → KeepsEach mid new → KeepsEach old new
+keeps_each_then {n = n} x went y = record {
+  addresses = keeps_then _ _ _ x.addresses y.addresses;
+  devices = devices_then n _ _ _ x.devices went y.devices;
+}
+
+-- The changes of a hub
+
+-- A port that its hub has disabled on an error
+
+pub failed_changed : (port : HubPort) (status : PortStatus) (device : Option Accepted)
+    → was_disabled port status device ≡ true → CanFail port × (status.enable_changed ≡ true)
+failed_changed (Root number) status device is = absurd (cc is)
+failed_changed (External hub number) status device is = (
+  tt,
+  and_first status.enable_changed (status.connected && (not status.enabled && is_some device)) is,
+)
+  where
+    and_first : (b c : Bool) → (b && c) ≡ true → b ≡ true
+    and_first true c e = refl
+    and_first false c e = absurd (cc e)
+
+-- where the host knows what is so, none has
+pub none_failed : (path : List ℕ) (port : KnownPort) (a : HostState) {b : World}
+    → StandsAt path port a → HostInvariant a → (status : PortStatus)
+    → Watches port.port a.world (Ok status) b → (device : Option Accepted)
+    → was_disabled port.port status device ≡ true → ⊥
+none_failed path port a s i status w device failed =
+    let is = failed_changed port.port status device failed in
+    let told = w.told (claims a.entries) path (stands_at-claim s) i.owned status refl in
+    no_change status.enable_changed is.1 (told_steady path told (i.order (w.still is.0)))
+  where
+    no_change : (c : Bool) → c ≡ true → c ≡ false → ⊥
+    no_change c x y = absurd (cc (x, y))
+
+-- the port was looked at: a hub was asked
+pub failed_served : {n : ℕ} (port : HubPort) (a b c : HostState)
+    (result : Result (Unit {0}) EnumFault) (status : PortStatus) → OnlyBusSteps a b → HostRuns n a b
+    → (device : Option Accepted) → was_disabled port status device ≡ true
+    → (CanFail port → ProgressOrLost result b c) → ProgressOrLost result a c
+failed_served port a b c result status r g device failed served =
+    served_after result a b c (rests_holds a b g r)
+    (served (failed_changed port status device failed).0)
+
+-- none is reachable there either after what keeps addresses
+pub bares_kept : {port : HubPort} {a b c : World} → Isolates port a b → KeepsAddresses b c
+    → Isolates port a c
+bares_kept x k = record { bares = λ f p at o. k.kept (map_without f p) (x.bares f p at o) }
+
+-- Where no event comes and nothing is asked of a port, it is as it was.
+
+-- events are counted, and where none came a relation holds
+abbrev IfNoneCame : (World → World → Type 0) → World → World → Type 0
+IfNoneCame R w v = (w.taken ≤ v.taken) × (v.taken ≡ w.taken → R w v)
+
+none_came : (R : World → World → Type 0) → ((w : World) → R w w)
+    → ((w m v : World) → R w m → R m v → R w v) → OverEvents (IfNoneCame R)
+unfolding after_event
+none_came R same joined = record {
+  same = λ w. (omega arith, λ e. same w);
+  joined = λ w m v x y. (
+    omega (arith, x.0, y.0),
+    λ e. joined w m v (x.1 (omega (arith, x.0, y.0))) (y.1 (omega (arith, x.0, y.0))),
+  );
+  came = λ e es w l. (omega arith, λ k. absurd (omega arith));
+}
+
+pub ready_none : (w : World) → (at_attempt w).taken ≡ w.taken → (at_attempt w).roots ≡ w.roots
+ready_none w =
+    (over_ready (none_came (λ w v. v.roots ≡ w.roots) (λ w. refl) (λ w m v x y. y ∙ x)) w).1
+
+-- The port
+
+calm_steps : (p : List ℕ) → OverSteps (LeavesPortAlone p) (IfNoneCame
+    (λ w v. port_there v.roots p ≡ port_there w.roots p))
+unfolding with_attempt leaves_step
+calm_steps p = record {
+  events =
+      none_came (λ w v. port_there v.roots p ≡ port_there w.roots p) (λ w. refl)
+      (λ w m v x y. y ∙ x);
+  made = λ a w made k. (omega arith, λ e. made_port a (at_attempt w) p k.leaves);
+  root = λ c n w k. (omega arith, λ e. root_port c n w.roots p k.leaves);
+  refused = λ w. (omega arith, λ e. refl);
+}
+
+pub calm_port : {p : List ℕ} {w v : World} → Course (LeavesPortAlone p) w v → v.taken ≡ w.taken
+    → port_there v.roots p ≡ port_there w.roots p
+calm_port {p = p} c = (over_course (calm_steps p) c).1
+
+-- Where nothing is pending at a hub, and no change of connection is told at its port, none is
+-- pending there
+
+pend_row : (k : Ports) (i : ℕ) → IfSome (port_at k i []) (λ b. b.connection_changed ≡ false)
+    → pending_at k i [] ≡ false
+unfolding pending_at port_at
+pend_row ended i none = refl
+pend_row (vacant b k) zero none = and_none b.power b.connection_changed none
+pend_row (vacant b k) (suc i) none = pend_row k i none
+pend_row (taken b s a k) zero none = and_none b.power b.connection_changed none
+pend_row (taken b s a k) (suc i) none = pend_row k i none
+
+row_calm : (k : Ports) (n : ℕ) → IfSome (port_there k (n ∷ [])) (λ b. b.connection_changed ≡ false)
+    → pending k (n ∷ []) ≡ false
+row_calm k zero told = refl
+row_calm k (suc i) told = pend_row k i told
+
+pub pend-no_change : (k : Ports) (q : List ℕ) (n : ℕ) → 1 ≤ n → pending k q ≡ false
+    → IfSome (port_there k (q ++ (n ∷ []))) (λ b. b.connection_changed ≡ false)
+    → pending k (q ++ (n ∷ [])) ≡ false
+pend-no_change k [] n least none told = row_calm k n told
+pend-no_change k (m ∷ q) n least none told =
+    pend_under k m q n [] ∙ ap
+    (λ x. x || (has_power k (m ∷ q) && pending (place_ports (place k (m ∷ q))) (n ∷ []))) none ∙ ap
+    (λ x. has_power k (m ∷ q) && x) (row_calm (place_ports (place k (m ∷ q))) n
+    (rw (port_there-below k m q n []) at told)) ∙ and_false (has_power k (m ∷ q))

@@ -1,19 +1,20 @@
 -- Where a round was quiet and no event came, nothing is left to do.
-use Rattle.std.proofs.Common.{◌≡◌, ◌≤◌, ◌⊎◌, ◌∙◌, inl, inr, refl, sym, ap, subst, arith, zero, suc}
-use Rattle.std.proofs.Common.{ℕ, ◌+◌, length-append, Bool, true, false, List, [], ◌∷◌, ◌++◌, length}
-use Rattle.std.proofs.Common.{Option, None, Some, Result, Ok, slice_get, is_some, if◌then◌else◌}
-use Rattle.std.proofs.Common.{IfSome, IfNone, IsSome, IsSomeAnd}
+use Rattle.std.proofs.Common.{◌≡◌, refl, arith, suc, zero, false, ℕ, ◌+◌, ◌-◌, ◌<◌, ◌≤◌, List, []}
+use Rattle.std.proofs.Common.{◌∷◌, length, slice_index_or, ◌⊎◌, ◌∙◌, inl, inr, sym, ap, subst}
+use Rattle.std.proofs.Common.{length-append, Bool, true, ◌++◌, Option, None, Some, Result, Ok}
+use Rattle.std.proofs.Common.{slice_get, is_some, if◌then◌else◌, IfSome, IfNone, IsSome, IsSomeAnd}
+use Rattle.std.proofs.Common.{Err, is_err}
+use Rattle.usb_port.specs.{PortState, off, path_cmp, parent_of, port_on_hub}
+use Rattle.usb_world.specs.{World, root_row, roots_of, root_port_at, change_of, changes}
 use Rattle.std.specs.Ordering.{is_eq}
 use Rattle.std.specs.declared.cmp.Ordering.{Ordering}
 use Rattle.std.specs.declared.cmp.Ordering.TheVariants.{Less, Equal, Greater}
-use Rattle.usb_port.specs.{path_cmp, parent_of, port_on_hub, PortState}
 use Rattle.usb_port.proofs.Interface.{rejoined}
 use Rattle.usb_resources.specs.{Addresses, IsFull}
 use Rattle.usb_device.specs.{row_of, port_there}
 use Rattle.usb_tree.specs.{pending}
-use Rattle.usb_world.specs.{World, root_row, roots_of, change_of, changes}
 use Rattle.usb_world.proofs.Interface.{course_joined, course_wider, pending_persists}
-use Rattle.usb_tree.proofs.Interface.{false_true}
+use Rattle.usb_tree.proofs.Interface.{false_true, decided}
 use Rattle.usb_hub.specs.{TouchesNoPort}
 use Rattle.usb_hub.proofs.Interface.{row_port}
 use Rattle.usb_enum.specs.{NoAddress, Finding, HubFacts, HostOptions}
@@ -23,15 +24,40 @@ use Rattle.usb_table.specs.{IsPortBelow, ListsEach, ComesAfter, Stands, IsNext, 
 use Rattle.usb_table.proofs.Interface.{path_tied}
 use Rattle.usb_host.specs.{Agrees, HostState, IsRooted, HostRuns, Did, Remains, either, HostFault}
 use Rattle.usb_host.specs.{HostInvariant, IsSilent, IsAtRest, NoneWaiting, KeepsInvariant}
-use Rattle.usb_host.specs.{RootsRest, HubKeeps, HubsKeep, LooksKeep, Round, Worked, Quiet}
+use Rattle.usb_host.specs.{RootsRest, HubKeeps, HubsKeep, LooksKeep, Round, Worked, Quiet, NoneWait}
 use Rattle.usb_host.proofs.StepSums.{went_before}
-use Rattle.usb_host.proofs.entries.Balances.{accounts_listed}
-use Rattle.usb_host.proofs.rests.CalmPorts.{calm_port, pend-no_change}
+use Rattle.usb_host.proofs.entries.Agreements.{accounts_listed, path_cmp-greater}
+use Rattle.usb_host.proofs.rests.ClearedPorts.{calm_port, pend-no_change}
 use Rattle.usb_host.proofs.rests.Polls.{hub_there}
 use Rattle.usb_host.proofs.entries.Roots.{accounted}
 use Rattle.usb_host.proofs.knowledge.SettledListings.{listed_port}
-use Rattle.usb_host.proofs.entries.Agreements.{path_cmp-greater}
 use Rattle.usb_host.proofs.PortLocations.{root_alone}
+
+-- Ports none of which has its change bit set.
+
+no_change : (p : PortState) → p.connection_changed ≡ false → change_of p ≡ 0
+unfolding change_of
+no_change p h = rw h refl
+
+no_changes : (ps : List PortState) → ((i : ℕ) → i < length ps
+    → (slice_index_or ps i off).connection_changed ≡ false) → changes ps ≡ 0
+unfolding changes
+no_changes [] h = refl
+no_changes (p ∷ ps) h = omega (
+  arith,
+  no_change p (h zero (omega arith)),
+  no_changes ps (λ i lt. h (suc i) (omega arith)),
+)
+
+pub none_changed : (w : World) (n : ℕ) → roots_of w < n
+    → ((k : ℕ) → 1 ≤ k → k < n → (root_port_at w k).connection_changed ≡ false)
+    → changes (root_row w) ≡ 0
+unfolding root_port_at
+none_changed w n lt h =
+    no_changes (root_row w) (λ i inside.
+    let back : (i + 1) - 1 ≡ i = omega arith in
+    let P : ℕ → Type 0 = λ k. (slice_index_or (root_row w) k off).connection_changed ≡ false in
+    rw back at (h (i + 1) (omega arith) (omega arith)))
 
 -- Rounds that are quiet
 
@@ -69,12 +95,11 @@ silent_stays hub b c same rests taken silent facts number at least most =
 -- what does not pend now did not before
 pub pended : (path : List ℕ) (w v : World) → TouchesNoPort w v → pending v.roots path ≡ false
     → pending w.roots path ≡ false
-pended path w v rests none = pick (pending w.roots path) refl
-  where
-    pick : (b : Bool) → pending w.roots path ≡ b → b ≡ false
-    pick true is = false_true (sym none ∙ pending_persists path
-        (course_wider (λ s u x. x.spares) (rests path)) is)
-    pick false is = refl
+pended path w v rests none = elim (decided (pending w.roots path)) [
+  | inl is ↦ false_true (sym none ∙ pending_persists path
+      (course_wider (λ s u x. x.spares) (rests path)) is)
+  | inr is ↦ is
+]
 
 -- One hub after another
 
@@ -286,3 +311,96 @@ at_rest a b c d roots sound hubs looks s taken sane =
     let ports = none_pends b c hubs.agrees rooted (hubs.calm refl working) still none
     (hubs.silent known refl working still) in
     record { none_pending = rw looked.0 ports; none_waiting = looked.1 }
+
+-- Where nothing is listed, and no root port has changed, nothing is done.
+
+changes-zero : (ps : List PortState) (i : ℕ) → changes ps ≡ 0
+    → (slice_index_or ps i off).connection_changed ≡ false
+unfolding changes change_of
+changes-zero (p ∷ ps) zero h = split p.connection_changed refl
+  where
+    split : (x : Bool) → p.connection_changed ≡ x → p.connection_changed ≡ false
+    split true e = absurd (omega (arith, ap {B = ℕ} (λ (x : Bool). if x then 1 else 0) e))
+    split false e = e
+changes-zero (p ∷ ps) (suc i) h = changes-zero ps i (omega arith)
+changes-zero [] _ h = refl
+
+changes-root_port : (w : World) (n : ℕ) → changes (root_row w) ≡ 0
+    → (root_port_at w n).connection_changed ≡ false
+unfolding root_port_at
+changes-root_port w n h = changes-zero (root_row w) (n - 1) h
+
+-- no root port shows a change
+pub none_shows : (a b : HostState) (n : ℕ) → b ≡ a → changes (root_row a.world) ≡ 0
+    → (root_port_at b.world n).connection_changed ≡ true → ⊥
+none_shows a b n same none shows =
+    let rests : (root_port_at b.world n).connection_changed ≡ false =
+    rw same (changes-root_port a.world n none) in
+    cc (shows, rests)
+
+listed_none : {kind : Finding → Bool} {last : Option (List ℕ)} {path : List ℕ}
+    → IsNext kind last [] path → ⊥
+listed_none next = cc next.stands.found
+
+-- no hub comes next
+pub none_next : {kind : Finding → Bool} {last : Option (List ℕ)} {a b : HostState} {path : List ℕ}
+    → b ≡ a → a.entries ≡ [] → IsNext kind last b.entries path → ⊥
+none_next same none next = listed_none (rw (ap (λ (h : HostState). h.entries) same ∙ none) at next)
+
+pub none_waits_of : {entries : Entries} → entries ≡ [] → NoneWait entries
+none_waits_of none = rw none (λ path at. cc at)
+
+-- The parts of a round
+
+abbrev Idle : HostState → Result Round HostFault → HostState → Type 0
+Idle a result b = (result ≡ Ok Quiet) × (b ≡ a)
+
+failed_idle : (a b : HostState) (fault : HostFault) → Idle a (Err fault) b → ⊥
+failed_idle a b fault idle = cc idle.0
+
+module _ (a : HostState) (entries : a.entries ≡ []) (none : changes (root_row a.world) ≡ 0) where
+  listed_idle : {b : HostState} → b ≡ a → b.entries ≡ []
+  listed_idle same = ap (λ (h : HostState). h.entries) same ∙ entries
+
+  pub roots_idle : (b : HostState) (fault : HostFault)
+      → (changes (root_row a.world) ≡ 0 → Idle a (Err fault) b) → ⊥
+  roots_idle b fault first = failed_idle a b fault (first none)
+
+  module _ (b : HostState) (roots : Round) (first : changes (root_row a.world) ≡ 0
+      → Idle a (Ok roots) b) where
+    pub hubs_idle : (d : HostState) (fault : HostFault) → (b.entries ≡ [] → Idle b (Err fault) d)
+        → ⊥
+    hubs_idle d fault second = failed_idle b d fault (second (listed_idle (first none).1))
+
+    module _ (d : HostState) (hubs : Round) (second : b.entries ≡ [] → Idle b (Ok hubs) d) where
+      hubs_same : d ≡ a
+      hubs_same = (second (listed_idle (first none).1)).1 ∙ (first none).1
+
+      pub looks_idle : (e : HostState) (fault : HostFault)
+          → (NoneWait d.entries → Idle d (Err fault) e) → ⊥
+      looks_idle e fault third = failed_idle d e fault
+          (third (none_waits_of (listed_idle hubs_same)))
+
+      pub all_idle : (e : HostState) (looks : Round) → (NoneWait d.entries → Idle d (Ok looks) e)
+          → Idle a (Ok (either (either roots hubs) looks)) e
+      all_idle e looks third =
+          let last : Idle d (Ok looks) e =
+          third (none_waits_of (listed_idle hubs_same)) in
+          let quiet : either (either roots hubs) looks ≡ Quiet =
+          all_quiet roots hubs looks (ok_is roots Quiet (first none).0)
+          (ok_is hubs Quiet (second (listed_idle (first none).1)).0) (ok_is looks Quiet last.0) in
+          (ap (λ (r : Round). Ok r) quiet, last.1 ∙ hubs_same)
+        where
+          all_quiet : (x y z : Round) → x ≡ Quiet → y ≡ Quiet → z ≡ Quiet
+              → either (either x y) z ≡ Quiet
+          all_quiet x y z p q r = rw (p, q, r) refl
+
+-- only the host's own stop could be new
+pub round_rests : (result : Result Round HostFault) (a b : HostState) (stopped : Bool)
+    → a.stopped ≡ false → stopped ≡ is_err result → Idle a result b → record b { stopped = stopped }
+    ≡ a
+round_rests result a b stopped going is idle =
+    let off : stopped ≡ a.stopped = is ∙ ap (λ (r : Result Round HostFault). is_err r) idle.0 ∙ sym
+    going in
+    ap (λ (h : HostState). record h { stopped = stopped }) idle.1 ∙ ap
+    (λ (x : Bool). record a { stopped = x }) off

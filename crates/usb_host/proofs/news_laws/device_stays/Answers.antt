@@ -1,4 +1,4 @@
-use Rattle.usb_host.proofs.arrivals.FewerNews.{other_news, stays_between}
+use Rattle.usb_host.proofs.arrivals.News.{other_news, stays_between}
 use Rattle.usb_host.proofs.news_laws.device_stays.Goals as goal
 
 pub returns : goal.returns

@@ -12,15 +12,11 @@ returns-clause-clears g c known =
 
 pub returns-clause-spends : goal.returns-clause-spends
 returns-clause-spends g c =
-    rw (← c.self.view_is) (counts_spend g.B.Bus.modelled g.B.Bus.spent g.B.Bus.failed
-    c.self.inside.left
-    c.self.inside.bus c.clear_port.new.bus _ c.clear_port.ensures.uses.spends.0
+    rw (← c.self.view_is) (counts_spend _ _ _ _ _ _ _ c.clear_port.ensures.uses.spends.0
     (order_most
     c.args.port))
 
 pub returns-clause-told : goal.returns-clause-told
 returns-clause-told g c =
-    counts_told (g.B.Bus.spent c.clear_port.new.bus) (g.B.Bus.failed c.clear_port.new.bus)
-    c.self.inside.left
-    g.B.Bus.modelled c.at_port.result (rw c.at_port.ensures (ports_reported _ _
+    counts_told _ _ _ _ c.at_port.result (rw c.at_port.ensures (ports_reported _ _
     c.clear_port.ensures.uses.told))

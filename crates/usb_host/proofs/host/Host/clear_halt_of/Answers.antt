@@ -1,54 +1,29 @@
-use Rattle.usb_host.proofs.TransferCalls.{had_stopped, over, stopped_any, stopped_tells}
-use Rattle.usb_host.proofs.TransferCalls.{transfers_any}
-use Rattle.std.proofs.Common.{arith, refl, rules}
-use Rattle.std.proofs.lemmas.Grind.{common_steps}
-use Rattle.usb_table.specs.{asked_through, clears_miss, pipe_to, pipes_at}
-use Rattle.usb_host.proofs.knowledge.Soundness.{transfer_kept}
-use Rattle.usb_host.proofs.Refusals.{moves_or_refuses}
-use Rattle.usb_host.proofs.WorkingBuses.{cleared_of_works}
-use Rattle.usb_host.proofs.arrivals.KeptNumbers.{keeps_by}
+use Rattle.std.proofs.Common.{refl}
+use Rattle.usb_host.proofs.Transfers.{cleared_of_works, had_stopped, moved_tells, moves_any}
+use Rattle.usb_host.proofs.Transfers.{stopped_any, stopped_tells}
 use Rattle.usb_host.proofs.host.Host.clear_halt_of.Goals as goal
 
 pub returns-then-self-clause-tells : goal.returns-then-self-clause-tells
-returns-then-self-clause-tells g c known =
-    stopped_tells (first_of (search rules, grind (arith, common_steps)))
-    (had_stopped c.self.view_is c.if-self.true)
+returns-then-self-clause-tells g c known = stopped_tells c.self.view_is c.if-self.true
 
 pub returns-clause-tells : goal.returns-clause-tells
-returns-clause-tells g c known = record {
-  stopped = first_of (search rules, grind (arith, common_steps));
-  went = first_of (search rules, grind (arith, common_steps));
-  told = first_of (search rules, grind (arith, common_steps));
-  works = rw (← c.self.view_is) (cleared_of_works c.args.endpoint _ _ _ _ c.clear_halt_of.result _
-      c.as_host_fault-cleared.ensures
-      (c.clear_halt_of.ensures.clears known).did);
-  did = first_of (search rules, grind (arith, common_steps));
-  keeps = rw (← c.self.view_is) (transfer_kept c.self.invariant
-      c.clear_halt_of.ensures.through.entries refl (c.clear_halt_of.ensures.clears known).went
-      (c.clear_halt_of.ensures.clears known).keeps c.if-self.false);
-}
+returns-clause-tells g c known =
+    rw (← c.self.view_is) (moved_tells c.clear_halt_of.result c.if-self.false
+    c.as_host_fault-cleared.ensures c.is_final-self-inside.ensures
+    c.self.invariant refl c.clear_halt_of.ensures.through
+    (cleared_of_works c.args.endpoint) (c.clear_halt_of.ensures.clears known))
 
 pub returns-clause-any_bus : goal.returns-clause-any_bus
 returns-clause-any_bus g c =
-    rw (← c.self.view_is) (record {
-      calls = transfers_any g.B.Bus.modelled g.B.Bus.spent g.B.Bus.failed c.self.inside.left
-          c.self.inside.bus c.clear_halt_of.new.bus c.clear_halt_of.result
-          refl refl c.as_host_fault-cleared.ensures
-          c.clear_halt_of.ensures.any_bus.0.0 (omega arith) c.clear_halt_of.ensures.any_bus.1
-          (keeps_by c.clear_halt_of.ensures.through.entries refl refl refl);
-      refuses = λ running. moves_or_refuses c.args.path.now
-          (over g.B.Bus.modelled g.B.Bus.world g.B.Bus.trace g.B.Bus.spent g.B.Bus.failed
-          c.self.inside.left c.self.view_is) c.self.inside.bus c.clear_halt_of.new.bus
-          c.clear_halt_of.ensures.through c.clear_halt_of.result
-          c.as_host_fault-cleared.ensures c.if-self.false c.is_final-self-inside.ensures
-          (asked_through (pipe_to c.args.endpoint) (clears_miss c.args.endpoint)
-          (pipes_at c.args.path.now c.self.inside.table))
-          c.clear_halt_of.ensures.any_bus.2;
-    })
+    rw (← c.self.view_is) (moves_any g.B.Bus.modelled g.B.Bus.world g.B.Bus.trace
+    g.B.Bus.spent g.B.Bus.failed c.self.inside.left c.self.view_is c.self.inside.bus
+    c.clear_halt_of.new.bus c.clear_halt_of.result c.as_host_fault-cleared.ensures c.if-self.false
+    c.is_final-self-inside.ensures c.clear_halt_of.ensures.through
+    c.clear_halt_of.ensures.any_bus.0.0 c.clear_halt_of.ensures.any_bus.1
+    c.clear_halt_of.ensures.any_bus.2)
 
 pub returns-then-self-clause-any_bus : goal.returns-then-self-clause-any_bus
-returns-then-self-clause-any_bus g c =
-    record {
-      calls = stopped_any;
-      refuses = had_stopped c.self.view_is c.if-self.true;
-    }
+returns-then-self-clause-any_bus g c = record {
+  calls = stopped_any;
+  refuses = had_stopped c.self.view_is c.if-self.true;
+}

@@ -16,15 +16,11 @@ returns-else-asked-clause-clears g c known = others_none c.if-asked.false
 
 pub returns-then-asked-clause-spends : goal.returns-then-asked-clause-spends
 returns-then-asked-clause-spends g c =
-    rw (← c.self.view_is) (counts_spend g.B.Bus.modelled g.B.Bus.spent g.B.Bus.failed
-    c.self.inside.left
-    c.self.inside.bus c.clear_port_change.new.bus _
+    rw (← c.self.view_is) (counts_spend _ _ _ _ _ _ _
     c.clear_port_change.ensures.uses.spends.0
     (order_most c.args.port))
 
 pub returns-then-asked-clause-told : goal.returns-then-asked-clause-told
 returns-then-asked-clause-told g c =
-    counts_told (g.B.Bus.spent c.clear_port_change.new.bus) (g.B.Bus.failed
-    c.clear_port_change.new.bus) c.self.inside.left
-    g.B.Bus.modelled c.at_port.result (rw c.at_port.ensures (ports_reported _ _
+    counts_told _ _ _ _ c.at_port.result (rw c.at_port.ensures (ports_reported _ _
     c.clear_port_change.ensures.uses.told))

@@ -28,9 +28,7 @@ returns-in-External-clause-clears g c known =
 
 pub returns-in-External-clause-spends : goal.returns-in-External-clause-spends
 returns-in-External-clause-spends g c =
-    rw (← c.self.view_is) (counts_spend g.B.Bus.modelled g.B.Bus.spent g.B.Bus.failed
-    c.self.inside.left
-    c.self.inside.bus c.clear_hub_changes.new.bus _
+    rw (← c.self.view_is) (counts_spend _ _ _ _ _ _ _
     c.clear_hub_changes.ensures.uses.spends.0 (omega (
       arith,
       status_most (External c.in-External.hub c.in-External.port)
@@ -39,7 +37,5 @@ returns-in-External-clause-spends g c =
 
 pub returns-in-External-clause-told : goal.returns-in-External-clause-told
 returns-in-External-clause-told g c =
-    counts_told (g.B.Bus.spent c.clear_hub_changes.new.bus) (g.B.Bus.failed
-    c.clear_hub_changes.new.bus) c.self.inside.left
-    g.B.Bus.modelled c.at_port.result (rw c.at_port.ensures (ports_reported _ _
+    counts_told _ _ _ _ c.at_port.result (rw c.at_port.ensures (ports_reported _ _
     c.clear_hub_changes.ensures.uses.told))

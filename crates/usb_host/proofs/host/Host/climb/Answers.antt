@@ -1,9 +1,9 @@
 use Rattle.usb_host.proofs.PartCalls.{call_fails, call_next, call_none, call_then}
 use Rattle.std.proofs.Common.{arith, refl, sym}
 use Rattle.usb_world.proofs.Interface.{way_itself, way_parent, way_trans}
-use Rattle.usb_host.proofs.ParentPaths.{parent_length}
-use Rattle.usb_host.proofs.knowledge.DroppedHubs.{failed_by}
-use Rattle.usb_host.proofs.StepSums.{host_rests_then}
+use Rattle.usb_host.proofs.PortLocations.{parent_length}
+use Rattle.usb_host.proofs.knowledge.HandledPorts.{failed_by}
+use Rattle.usb_host.proofs.StepSums.{host_rests_then, handed_is}
 use Rattle.usb_host.proofs.PortDrops.{climb_done, climb_fails, climb_top, climbed_none, climbed_on}
 use Rattle.usb_host.proofs.host.Host.climb.Goals as goal
 
@@ -29,8 +29,7 @@ up-preserved g c =
     let one = parent_length c.up.path parent in
     record {
       call = call_next i.call c.in_ok-disable.ensures.call (omega (arith, i.most, one));
-      so = λ known.
-          climbed_on (i.so known) i.most (c.disable.ensures.disables known)
+      so = λ known. climbed_on (i.so known) i.most (c.disable.ensures.disables known)
           (failed_by c.in_ok-disable.was c.if-branch.false) parent;
       rests = host_rests_then c.args.self.now _ i.rests c.disable.ensures.rests;
       on = way_trans c.in-Some.above c.up.path c.args.first
@@ -42,9 +41,8 @@ up-preserved g c =
 pub returns-in_err-disable-clause-climbs : goal.returns-in_err-disable-clause-climbs
 returns-in_err-disable-clause-climbs g c known =
     let i = c.up.invariant in
-    climb_fails (i.so known)
-    i.most (c.disable.ensures.disables known) i.least
-    c.from_residual.ensures.0
+    rw (handed_is c.from_residual.ensures.1) (climb_fails (i.so known) i.most
+    (c.disable.ensures.disables known) i.least)
 
 pub returns-then-branch-clause-climbs : goal.returns-then-branch-clause-climbs
 returns-then-branch-clause-climbs g c known =

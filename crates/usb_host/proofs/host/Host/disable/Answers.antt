@@ -4,14 +4,14 @@ use Rattle.usb_host.proofs.PortLocations.{placed}
 use Rattle.std.proofs.Common.{refl, subst, sym, IsSome, Ok, arith, rules}
 use Rattle.usb_host.specs.{HostState, counts_of}
 use Rattle.usb_hub.proofs.Interface.{keeps_devices_none, clear_works}
-use Rattle.usb_host.proofs.OwnedPorts.{none_disabled, cleared_enable_disabled, port_failed}
+use Rattle.usb_host.proofs.devices.Owners.{none_disabled, cleared_enable_disabled, port_failed}
 use Rattle.usb_host.proofs.devices.Causes.{told_caused, untold_caused}
-use Rattle.usb_host.proofs.knowledge.DroppedHubs.{fault_after-no_bus, told_backlog, told_dropped}
-use Rattle.usb_host.proofs.knowledge.DroppedHubs.{untold_droppable, nowhere_dropped}
+use Rattle.usb_host.proofs.knowledge.HandledPorts.{fault_after-no_bus, told_backlog, told_dropped}
+use Rattle.usb_host.proofs.knowledge.HandledPorts.{untold_droppable, nowhere_dropped}
 use Rattle.usb_enum.proofs.Interface.{order_most}
 use Rattle.usb_host.proofs.StepSums.{goes_by, host_goes_none}
 use Rattle.usb_host.proofs.BusCounts.{counts_last, counts_spend}
-use Rattle.usb_host.proofs.WorkingBuses.{other_works}
+use Rattle.usb_host.proofs.Transfers.{other_works}
 use Rattle.std.proofs.lemmas.Grind.{common_steps}
 use Rattle.usb_request.specs.{PORT_ENABLE}
 use Rattle.usb_port.specs.{ClearEnable}
@@ -124,17 +124,14 @@ returns-clause-call g c =
     let old = g.B.Bus.world c.self.inside.bus in
     let new = g.B.Bus.world c.clear_port.new.bus in
     rw (← c.self.view_is) (record {
-      spends = counts_spend g.B.Bus.modelled g.B.Bus.spent g.B.Bus.failed c.self.inside.left
-          c.self.inside.bus c.clear_port.new.bus _
+      spends = counts_spend _ _ _ _ _ _ _
           c.clear_port.ensures.uses.spends.0 (order_most c.in-Some.port.port);
       numbers = keeps_by refl refl refl refl;
       told = elim c.match-clear_port.branch [
         | in-Ok w ↦ rw w.result-is tt
         | in-Err-Bus w ↦ rw w.result-is (
           λ known. rw w.in-Err-Bus.field-0-is at (w.in-Err-Bus.ensures.fault known),
-          counts_last (g.B.Bus.spent c.clear_port.new.bus) (g.B.Bus.failed c.clear_port.new.bus)
-              c.self.inside.left
-              g.B.Bus.modelled (rw w.in-Err-Bus.field-0-is at w.in-Err-Bus.ensures.uses.told),
+          counts_last _ _ _ _ (rw w.in-Err-Bus.field-0-is at w.in-Err-Bus.ensures.uses.told),
         )
         | in-Err w ↦ rw w.result-is tt
       ];

@@ -1,6 +1,6 @@
 use Rattle.usb_host.proofs.PartCalls.{call_fails, call_leaves}
 use Rattle.std.proofs.Common.{arith}
-use Rattle.usb_host.proofs.LeftRoots.{leaves_rests}
+use Rattle.usb_host.proofs.BusCounts.{leaves_rests}
 use Rattle.usb_host.proofs.StepSums.{host_rests_then}
 use Rattle.usb_host.proofs.host.Host.disable_upward.Goals as goal
 

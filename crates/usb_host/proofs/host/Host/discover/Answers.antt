@@ -1,18 +1,17 @@
 use Rattle.std.proofs.Common.{arith, rules, ◌≡◌, ◌∙◌, Err, ap, refl, subst, sym}
 use Rattle.std.proofs.lemmas.Grind.{common_steps}
-use Rattle.usb_host.proofs.PortParts.{port_enters}
-use Rattle.usb_host.proofs.StepSums.{handed_is}
+use Rattle.usb_host.proofs.PartCalls.{port_enters}
+use Rattle.usb_host.proofs.StepSums.{handed_is, askable_wide}
 use Rattle.std.proofs.lemmas.Option.{same_Some}
 use Rattle.usb_table.specs.{KnownPort, Table}
 use Rattle.usb_host.specs.{IsFoundAt}
-use Rattle.usb_host.proofs.entries.Agreements.{nested_entered, rises_entered}
-use Rattle.usb_host.proofs.entries.Balances.{accounts_entered, range_claimed}
-use Rattle.usb_host.proofs.PortLooks.{discover_done, discover_fails, discover_lost}
+use Rattle.usb_host.proofs.entries.Agreements.{nested_entered, rises_entered, accounts_entered}
+use Rattle.usb_host.proofs.entries.Agreements.{range_claimed}
+use Rattle.usb_host.proofs.PortServes.{discover_done, discover_fails, discover_lost}
 use Rattle.usb_host.proofs.PortLocations.{placed}
 use Rattle.usb_host.proofs.BusCounts.{counts_spend, counts_told}
 use Rattle.usb_enum.proofs.Interface.{enumeration_most}
-use Rattle.usb_host.proofs.devices.Enumerations.{askable_wide}
-use Rattle.usb_host.proofs.entries.FoundEntries.{found_entered}
+use Rattle.usb_host.proofs.entries.KeptBytes.{found_entered}
 use Rattle.usb_host.proofs.arrivals.KeptNumbers.{keeps_by, keeps_entered, keeps_none}
 use Rattle.usb_host.proofs.host.Host.discover.Goals as goal
 
@@ -79,20 +78,17 @@ returns-clause-finds g c known =
 
 pub returns-in_err-finding-clause-call : goal.returns-in_err-finding-clause-call
 returns-in_err-finding-clause-call g c =
-    rw (← c.self.view_is) (port_enters (counts_spend g.B.Bus.modelled g.B.Bus.spent g.B.Bus.failed
-    c.self.inside.left c.self.inside.bus c.enumerate.new.bus _ c.enumerate.ensures.uses.spends.0
+    rw (← c.self.view_is) (port_enters (counts_spend _ _ _ _ _ _ _ c.enumerate.ensures.uses.spends.0
     (enumeration_most c.args.port.port (askable_wide c.args.port.port c.requires.port.askable)))
-    (keeps_none _) (rw (handed_is c.from_residual.ensures.1) (counts_told
-    (g.B.Bus.spent c.enumerate.new.bus) (g.B.Bus.failed c.enumerate.new.bus) c.self.inside.left
-    {A = Unit {0}} g.B.Bus.modelled (Err c.in_err-finding.field-0.0)
+    (keeps_none _) (rw (handed_is c.from_residual.ensures.1) (counts_told _ _ _ {A = Unit {0}} _
+    (Err c.in_err-finding.field-0.0)
     c.in_err-finding.ensures.uses.told)) (rw (handed_is c.from_residual.ensures.1) refl))
 
 pub returns-in_err-enter-clause-call : goal.returns-in_err-enter-clause-call
 returns-in_err-enter-clause-call g c =
     let entries = ap (λ (t : Table). t.entries) c.in_err-enter.ensures.err.0 in
     rw (← c.self.view_is, handed_is c.from_residual-in_err-enter.ensures.1) (port_enters
-    (counts_spend g.B.Bus.modelled g.B.Bus.spent g.B.Bus.failed
-    c.self.inside.left c.self.inside.bus c.enumerate.new.bus _ c.enumerate.ensures.uses.spends.0
+    (counts_spend _ _ _ _ _ _ _ c.enumerate.ensures.uses.spends.0
     (enumeration_most c.args.port.port (askable_wide c.args.port.port c.requires.port.askable)))
     (keeps_by entries c.in_err-enter.ensures.kept refl refl)
     (first_of (search rules, grind (arith, common_steps))) entries)
@@ -100,8 +96,7 @@ returns-in_err-enter-clause-call g c =
 pub returns-clause-call : goal.returns-clause-call
 returns-clause-call g c =
     let t = ap (λ (t : Table). t.entries) c.in_ok-enter.ensures.ok.0 in
-    port_enters (rw (← c.self.view_is) (counts_spend g.B.Bus.modelled g.B.Bus.spent g.B.Bus.failed
-    c.self.inside.left c.self.inside.bus c.enumerate.new.bus _ c.enumerate.ensures.uses.spends.0
+    port_enters (rw (← c.self.view_is) (counts_spend _ _ _ _ _ _ _ c.enumerate.ensures.uses.spends.0
     (enumeration_most c.args.port.port (askable_wide c.args.port.port c.requires.port.askable))))
     (rw (← c.self.view_is, t, c.duplicate.ensures, c.in_ok-enter.ensures.given) (keeps_entered
     c.args.path.now c.self.inside.table.entries c.in_ok-finding.finding c.enumerate.new.pool

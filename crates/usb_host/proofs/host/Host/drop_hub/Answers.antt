@@ -8,11 +8,10 @@ use Rattle.usb_enum.specs.{Lost}
 use Rattle.usb_enum.specs.declared.finding.Finding.TheVariants.{Refused}
 use Rattle.usb_table.specs.{without, Table, entered}
 use Rattle.usb_table.proofs.Interface.{known_port-without}
-use Rattle.usb_host.proofs.entries.Agreements.{nested_entered, rises_entered}
-use Rattle.usb_host.proofs.entries.Balances.{accounts_entered}
+use Rattle.usb_host.proofs.entries.Agreements.{nested_entered, rises_entered, accounts_entered}
 use Rattle.usb_host.proofs.PortDrops.{drop_done, drop_unlisted, drop_untold}
-use Rattle.usb_host.proofs.entries.FoundEntries.{found_entered}
-use Rattle.usb_host.proofs.looks.NearEntries.{drops_gone, drops_listed, drops_none, part_final}
+use Rattle.usb_host.proofs.entries.KeptBytes.{found_entered}
+use Rattle.usb_host.proofs.Looks.{drops_gone, drops_listed, drops_none, part_final}
 use Rattle.usb_host.proofs.arrivals.KeptNumbers.{keeps_by, keeps_refused}
 use Rattle.usb_host.proofs.host.Host.drop_hub.Goals as goal
 
@@ -37,80 +36,72 @@ invariant_of-self-2 g c =
           c.self.invariant.found;
     })
 
-pub returns-in_err-lost-clause-drops : goal.returns-in_err-lost-clause-drops
-returns-in_err-lost-clause-drops g c known =
-    rw (handed_is c.from_residual.ensures.1) (drop_untold c.args.hub c.in_err-lost.ensures.rests
-    (c.in_err-lost.ensures.climbs known))
+pub returns-in_err-lost : goal.returns-in_err-lost
+returns-in_err-lost g c = record {
+  call = call_fails c.from_residual.ensures.1 c.in_err-lost.ensures.call (omega arith);
+  near =
+      let told = err_from_is_err_and c.from_residual.result c.from_residual.ensures.1 in
+      rw told.1 (drops_none c.args.hub
+      (ap (λ (h : HostState). h.entries) c.in_err-lost.ensures.rests)
+      (part_final g.B.Bus.modelled told.0 c.disable_upward.new.self
+      (rw told.2 c.in_err-lost.ensures.call.told)));
+  drops = λ known.
+      rw (handed_is c.from_residual.ensures.1) (drop_untold c.args.hub c.in_err-lost.ensures.rests
+      (c.in_err-lost.ensures.climbs known));
+}
 
-pub returns-in_err-insert-clause-drops : goal.returns-in_err-insert-clause-drops
-returns-in_err-insert-clause-drops g c known =
-    let told = err_from_is_err_and c.from_residual-in_err-insert.result
-    c.from_residual-in_err-insert.ensures.1 in
-    let table = c.in_err-insert.ensures.err ∙ ap (λ (h : HostState). table_in h) c.self.view_is in
-    let same = ap (λ (h : HostState). record h {
-      entries = c.insert.new.self.entries;
-      pipes = c.insert.new.self.pipes;
-    }) c.self.view_is ∙ ap (λ (t : Table). record c.forget.new.self {
-      entries = t.entries;
-      pipes = t.pipes;
-    }) table in
-    rw told.1 (subst (DropsOne c.args.hub c.args.self.now (Err told.0)) (sym same)
-    (drop_unlisted c.in_ok-lost.ensures.rests (c.in_ok-lost.ensures.climbs known)
-    c.forget.ensures))
+pub returns-in_err-insert : goal.returns-in_err-insert
+returns-in_err-insert g c = record {
+  call = call_within (call_then c.in_ok-lost.ensures.call (call_then {n = 0}
+      (call_forgets c.forget.ensures) (rw (← c.self.view_is) (call_stands refl refl
+      (keeps_by (ap (λ (t : Table). t.entries) c.in_err-insert.ensures.err) refl refl refl)
+      (first_of (search rules, grind (arith, common_steps))))))) (omega arith);
+  near =
+      let told = err_from_is_err_and c.from_residual-in_err-insert.result
+      c.from_residual-in_err-insert.ensures.1 in
+      let same = ap (λ (t : Table). t.entries) c.in_err-insert.ensures.err
+      ∙ ap (λ (h : HostState). h.entries) c.self.view_is ∙ c.forget.ensures.rest
+      ∙ ap (λ (h : HostState). without c.in_ok-lost.lost h.entries) c.in_ok-lost.ensures.rests in
+      rw told.1 (drops_gone c.in_ok-lost.lost c.args.self.now.entries c.in_ok-lost.ensures.on.above
+      same (ap is_last_fault told.2));
+  drops = λ known.
+      let told = err_from_is_err_and c.from_residual-in_err-insert.result
+      c.from_residual-in_err-insert.ensures.1 in
+      let table = c.in_err-insert.ensures.err ∙ ap (λ (h : HostState). table_in h) c.self.view_is in
+      let same = ap (λ (h : HostState). record h {
+        entries = c.insert.new.self.entries;
+        pipes = c.insert.new.self.pipes;
+      }) c.self.view_is ∙ ap (λ (t : Table). record c.forget.new.self {
+        entries = t.entries;
+        pipes = t.pipes;
+      }) table in
+      rw told.1 (subst (DropsOne c.args.hub c.args.self.now (Err told.0)) (sym same)
+      (drop_unlisted c.in_ok-lost.ensures.rests (c.in_ok-lost.ensures.climbs known)
+      c.forget.ensures));
+}
 
-pub returns-clause-drops : goal.returns-clause-drops
-returns-clause-drops g c known =
-    let others = ap (λ (h : HostState). record h {
-      entries = c.insert.new.self.entries;
-      pipes = c.insert.new.self.pipes;
-      addresses = c.self.inside.pool;
-    }) c.self.view_is in
-    let table = c.in_ok-insert.ensures.ok ∙ ap
-    (λ (h : HostState). entered c.in_ok-lost.lost (Refused Lost) c.new.result (table_in h))
-    c.self.view_is in
-    drop_done c.in_ok-lost.ensures.rests (c.in_ok-lost.ensures.climbs known) c.forget.ensures _
-    others c.numbers-numbers.ensures.path _ table
-
-pub returns-in_err-lost-clause-near : goal.returns-in_err-lost-clause-near
-returns-in_err-lost-clause-near g c =
-    let told = err_from_is_err_and c.from_residual.result c.from_residual.ensures.1 in
-    rw told.1 (drops_none c.args.hub (ap (λ (h : HostState). h.entries) c.in_err-lost.ensures.rests)
-    (part_final g.B.Bus.modelled told.0 c.disable_upward.new.self
-    (rw told.2 c.in_err-lost.ensures.call.told)))
-
-pub returns-in_err-insert-clause-near : goal.returns-in_err-insert-clause-near
-returns-in_err-insert-clause-near g c =
-    let told = err_from_is_err_and c.from_residual-in_err-insert.result
-    c.from_residual-in_err-insert.ensures.1 in
-    let same = ap (λ (t : Table). t.entries) c.in_err-insert.ensures.err
-    ∙ ap (λ (h : HostState). h.entries) c.self.view_is ∙ c.forget.ensures.rest
-    ∙ ap (λ (h : HostState). without c.in_ok-lost.lost h.entries) c.in_ok-lost.ensures.rests in
-    rw told.1 (drops_gone c.in_ok-lost.lost c.args.self.now.entries c.in_ok-lost.ensures.on.above
-    same (ap is_last_fault told.2))
-
-pub returns-clause-near : goal.returns-clause-near
-returns-clause-near g c =
-    let gone = ap (λ (h : HostState). h.entries) c.self.view_is ∙ c.forget.ensures.rest
-    ∙ ap (λ (h : HostState). without c.in_ok-lost.lost h.entries) c.in_ok-lost.ensures.rests in
-    drops_listed c.in_ok-lost.lost c.args.self.now.entries c.self.inside.table.entries _
-    c.in_ok-lost.ensures.on.above gone
-    (ap (λ (t : Table). t.entries) c.in_ok-insert.ensures.ok)
-
-pub returns-in_err-lost-clause-call : goal.returns-in_err-lost-clause-call
-returns-in_err-lost-clause-call g c =
-    call_fails c.from_residual.ensures.1 c.in_err-lost.ensures.call (omega arith)
-
-pub returns-in_err-insert-clause-call : goal.returns-in_err-insert-clause-call
-returns-in_err-insert-clause-call g c =
-    call_within (call_then c.in_ok-lost.ensures.call (call_then {n = 0}
-    (call_forgets c.forget.ensures) (rw (← c.self.view_is) (call_stands refl refl
-    (keeps_by (ap (λ (t : Table). t.entries) c.in_err-insert.ensures.err) refl refl refl)
-    (first_of (search rules, grind (arith, common_steps))))))) (omega arith)
-
-pub returns-clause-call : goal.returns-clause-call
-returns-clause-call g c =
-    call_within (call_then c.in_ok-lost.ensures.call (call_then {n = 0}
-    (call_forgets c.forget.ensures) (rw (← c.self.view_is) (call_stands refl refl
-    (keeps_refused c.in_ok-lost.lost c.self.inside.table.entries Lost refl
-    (ap (λ (t : Table). t.entries) c.in_ok-insert.ensures.ok) refl refl refl) tt))))
-    (omega arith)
+pub returns : goal.returns
+returns g c = record {
+  call = call_within (call_then c.in_ok-lost.ensures.call (call_then {n = 0}
+      (call_forgets c.forget.ensures) (rw (← c.self.view_is) (call_stands refl refl
+      (keeps_refused c.in_ok-lost.lost c.self.inside.table.entries Lost refl
+      (ap (λ (t : Table). t.entries) c.in_ok-insert.ensures.ok) refl refl refl) tt))))
+      (omega arith);
+  near =
+      let gone = ap (λ (h : HostState). h.entries) c.self.view_is ∙ c.forget.ensures.rest
+      ∙ ap (λ (h : HostState). without c.in_ok-lost.lost h.entries) c.in_ok-lost.ensures.rests in
+      drops_listed c.in_ok-lost.lost c.args.self.now.entries c.self.inside.table.entries _
+      c.in_ok-lost.ensures.on.above gone
+      (ap (λ (t : Table). t.entries) c.in_ok-insert.ensures.ok);
+  drops = λ known.
+      let others = ap (λ (h : HostState). record h {
+        entries = c.insert.new.self.entries;
+        pipes = c.insert.new.self.pipes;
+        addresses = c.self.inside.pool;
+      }) c.self.view_is in
+      let table = c.in_ok-insert.ensures.ok ∙ ap
+      (λ (h : HostState). entered c.in_ok-lost.lost (Refused Lost) c.new.result (table_in h))
+      c.self.view_is in
+      drop_done c.in_ok-lost.ensures.rests (c.in_ok-lost.ensures.climbs known) c.forget.ensures _
+      others c.numbers-numbers.ensures.path _ table;
+}

@@ -7,7 +7,7 @@ use Rattle.usb_world.proofs.Interface.{at_or_below_way}
 use Rattle.usb_host.specs.Accounts.{Accounts}
 use Rattle.usb_host.specs.{Agrees, HostState, table_in}
 use Rattle.usb_host.proofs.entries.Agreements.{nested_without, rises_without}
-use Rattle.usb_host.proofs.entries.FoundEntries.{found_without}
+use Rattle.usb_host.proofs.entries.KeptBytes.{found_without}
 use Rattle.usb_host.proofs.host.Host.forget.Goals as goal
 use Rattle.usb_enum.specs.{HostOptions}
 

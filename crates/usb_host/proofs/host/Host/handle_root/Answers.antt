@@ -1,4 +1,4 @@
-use Rattle.usb_host.proofs.knowledge.Hubs.{root_stands}
+use Rattle.usb_host.proofs.knowledge.Servers.{root_stands}
 use Rattle.std.proofs.Common.{subst}
 use Rattle.usb_host.specs.{Agrees, HostState}
 use Rattle.usb_host.proofs.host.Host.handle_root.Goals as goal

@@ -1,7 +1,7 @@
 use Rattle.std.proofs.Common.{◌∙◌, ap, arith, rules, subst, sym}
 use Rattle.std.proofs.lemmas.Grind.{common_steps}
 use Rattle.usb_host.specs.{HostState, LookTells}
-use Rattle.usb_host.proofs.looks.LookCalls.{look_stops, look_tells, stopped_tells}
+use Rattle.usb_host.proofs.Looks.{look_stops, look_tells, stopped_tells}
 use Rattle.usb_host.proofs.host.Host.look.Goals as goal
 
 pub returns-then-self-clause-stopped : goal.returns-then-self-clause-stopped

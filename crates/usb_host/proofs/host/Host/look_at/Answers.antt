@@ -1,5 +1,5 @@
 use Rattle.usb_host.proofs.StepSums.{handed_is}
-use Rattle.usb_host.proofs.looks.LookCalls.{made_known, made_stops, made_unknown}
+use Rattle.usb_host.proofs.Looks.{made_known, made_stops, made_unknown}
 use Rattle.usb_host.proofs.host.Host.look_at.Goals as goal
 
 pub returns-in_default-clause-made : goal.returns-in_default-clause-made

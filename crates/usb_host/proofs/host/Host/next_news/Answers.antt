@@ -3,8 +3,8 @@ use Rattle.std.specs.BTreeMap.{insert_entry, is_at}
 use Rattle.std.specs.Map.{remove_entry}
 use Rattle.usb_port.specs.{path_cmp}
 use Rattle.usb_host.specs.{Agrees, HostState, ReportedDevices, known_in}
-use Rattle.usb_host.proofs.arrivals.ReportedPlaces.{host_room, left_first, none_left, same_known}
-use Rattle.usb_host.proofs.arrivals.FewerNews.{fewer_arrived, fewer_left}
+use Rattle.usb_host.proofs.arrivals.News.{host_room, left_first, none_left, same_known}
+use Rattle.usb_host.proofs.arrivals.News.{fewer_arrived, fewer_left}
 use Rattle.usb_host.proofs.arrivals.KeptNumbers.{numbers_fit}
 use Rattle.usb_host.proofs.host.Host.next_news.Goals as goal
 

@@ -1,6 +1,6 @@
 use Rattle.std.proofs.Common.{◌∙◌, ap, arith, sym, is_some}
 use Rattle.usb_host.specs.{HostState, known_in, reported_at}
-use Rattle.usb_host.proofs.arrivals.ReportedPlaces.{next_arrived, none_arrived, passed_next}
+use Rattle.usb_host.proofs.arrivals.News.{next_arrived, none_arrived, passed_next}
 use Rattle.usb_host.proofs.entries.Ranks.{rank_most, rank_rises}
 use Rattle.usb_host.proofs.host.Host.next_unreported.Goals as goal
 

@@ -1,52 +1,25 @@
-use Rattle.std.proofs.Common.{arith, refl, rules}
-use Rattle.std.proofs.lemmas.Grind.{common_steps}
-use Rattle.usb_table.specs.{asked_through, receives_miss, pipes_at, receives_through, unless_broken}
-use Rattle.usb_host.proofs.knowledge.Soundness.{transfer_kept}
-use Rattle.usb_host.proofs.TransferCalls.{had_stopped, over, stopped_any, stopped_tells}
-use Rattle.usb_host.proofs.TransferCalls.{transfers_any}
-use Rattle.usb_host.proofs.Refusals.{moves_or_refuses}
-use Rattle.usb_host.proofs.WorkingBuses.{received_works}
-use Rattle.usb_host.proofs.arrivals.KeptNumbers.{keeps_by}
+use Rattle.std.proofs.Common.{refl}
+use Rattle.usb_host.proofs.Transfers.{had_stopped, moved_tells, moves_any, received_works}
+use Rattle.usb_host.proofs.Transfers.{stopped_any, stopped_tells}
 use Rattle.usb_host.proofs.host.Host.receive_through.Goals as goal
 
 pub returns-then-self-clause-tells : goal.returns-then-self-clause-tells
-returns-then-self-clause-tells g c known =
-    stopped_tells (first_of (search rules, grind (arith, common_steps)))
-    (had_stopped c.self.view_is c.if-self.true)
+returns-then-self-clause-tells g c known = stopped_tells c.self.view_is c.if-self.true
 
 pub returns-clause-tells : goal.returns-clause-tells
 returns-clause-tells g c known =
-    let receives = c.receive.ensures.receives known in
-    record {
-      stopped = first_of (search rules, grind (arith, common_steps));
-      went = first_of (search rules, grind (arith, common_steps));
-      told = first_of (search rules, grind (arith, common_steps));
-      works = rw (← c.self.view_is) (received_works c.args.choice _ _ c.args.packets _ _
-          c.receive.result _
-          c.as_host_fault-received.ensures
-          receives.did);
-      did = first_of (search rules, grind (arith, common_steps));
-      keeps = rw (← c.self.view_is) (transfer_kept c.self.invariant
-          c.receive.ensures.through.entries refl receives.went
-          receives.keeps c.if-self.false);
-    }
+    rw (← c.self.view_is) (moved_tells c.receive.result c.if-self.false
+    c.as_host_fault-received.ensures c.is_final-self-inside.ensures
+    c.self.invariant refl c.receive.ensures.through
+    (received_works c.args.choice c.args.packets) (c.receive.ensures.receives known))
 
 pub returns-clause-any_bus : goal.returns-clause-any_bus
-returns-clause-any_bus g c = rw (← c.self.view_is) (record {
-  calls = transfers_any g.B.Bus.modelled g.B.Bus.spent g.B.Bus.failed c.self.inside.left
-      c.self.inside.bus c.receive.new.bus c.receive.result
-      refl refl c.as_host_fault-received.ensures
-      c.receive.ensures.any_bus.0.0 (omega arith) c.receive.ensures.any_bus.1
-      (keeps_by c.receive.ensures.through.entries refl refl refl);
-  refuses = λ running. moves_or_refuses c.args.path.now
-      (over g.B.Bus.modelled g.B.Bus.world g.B.Bus.trace g.B.Bus.spent g.B.Bus.failed
-      c.self.inside.left c.self.view_is) c.self.inside.bus c.receive.new.bus
-      c.receive.ensures.through c.receive.result
-      c.as_host_fault-received.ensures c.if-self.false c.is_final-self-inside.ensures
-      (unless_broken (asked_through (receives_through c.args.choice) (receives_miss c.args.choice)
-      (pipes_at c.args.path.now c.self.inside.table)))
-      c.receive.ensures.any_bus.2;
-})
+returns-clause-any_bus g c =
+    rw (← c.self.view_is) (moves_any g.B.Bus.modelled g.B.Bus.world g.B.Bus.trace
+    g.B.Bus.spent g.B.Bus.failed c.self.inside.left c.self.view_is c.self.inside.bus
+    c.receive.new.bus c.receive.result c.as_host_fault-received.ensures c.if-self.false
+    c.is_final-self-inside.ensures c.receive.ensures.through
+    c.receive.ensures.any_bus.0.0 c.receive.ensures.any_bus.1 c.receive.ensures.any_bus.2)
 
 pub returns-then-self-clause-any_bus : goal.returns-then-self-clause-any_bus
 returns-then-self-clause-any_bus g c = record {

@@ -5,6 +5,7 @@ use Rattle.usb_host.proofs.entries.Ranks.{rank_after, rank_after_most, rank_more
 use Rattle.usb_host.proofs.entries.Ranks.{rank_rises, rank_within}
 use Rattle.usb_host.proofs.RoundLoops.{waiting_begin, waiting_cut, waiting_end, waiting_handled}
 use Rattle.usb_host.proofs.payments.RoundPayments.{one_waits}
+use Rattle.usb_host.proofs.StepSums.{handed_is}
 use Rattle.usb_host.proofs.host.Host.retry_waiting.Goals as goal
 
 pub waiting-init : goal.waiting-init
@@ -35,34 +36,35 @@ waiting-preserved g c =
       path = is;
     }
 
-pub returns-in_err-retry_one-clause-looks : goal.returns-in_err-retry_one-clause-looks
-returns-in_err-retry_one-clause-looks g c known =
-    let i = c.waiting.invariant in
-    let some = c.in-Some.ensures.some in
-    waiting_cut (i.so known) i.path c.numbers-numbers.ensures.path some.0 some.1 (i.call.part.works
-    known)
-    c.from_residual.ensures.0 (c.in_err-retry_one.ensures.looks known) (λ none. (i.idle none).1)
+pub returns-in_err-retry_one : goal.returns-in_err-retry_one
+returns-in_err-retry_one g c = record {
+  call =
+      let i = c.waiting.invariant in
+      let is = c.numbers-numbers.ensures.path in
+      round_fails c.from_residual.ensures.1 (call_then i.call.part
+      c.in_err-retry_one.ensures.call.part)
+      (omega (
+        arith,
+        rank_rises c.waiting.last c.in-Some.path i.path is c.in-Some.ensures.some.1,
+        rank_most c.in-Some.path is,
+      ));
+  looks = λ known.
+      let i = c.waiting.invariant in
+      let some = c.in-Some.ensures.some in
+      rw (handed_is c.from_residual.ensures.1) (waiting_cut (i.so known) i.path
+      c.numbers-numbers.ensures.path some.0 some.1 (i.call.part.works known)
+      (c.in_err-retry_one.ensures.looks known) (λ none. (i.idle none).1));
+}
 
-pub returns-clause-looks : goal.returns-clause-looks
-returns-clause-looks g c known =
-    let i = c.waiting.invariant in
-    waiting_end (i.so known) i.path
-    c.in_default.ensures.agree c.in_default.ensures.none i.idle
-
-pub returns-in_err-retry_one-clause-call : goal.returns-in_err-retry_one-clause-call
-returns-in_err-retry_one-clause-call g c =
-    let i = c.waiting.invariant in
-    let is = c.numbers-numbers.ensures.path in
-    round_fails c.from_residual.ensures.1 (call_then i.call.part
-    c.in_err-retry_one.ensures.call.part)
-    (omega (
-      arith,
-      rank_rises c.waiting.last c.in-Some.path i.path is c.in-Some.ensures.some.1,
-      rank_most c.in-Some.path is,
-    ))
-
-pub returns-clause-call : goal.returns-clause-call
-returns-clause-call g c =
-    let i = c.waiting.invariant in
-    round_wider i.call
-    (rank_within handling_bound (rank_after c.waiting.last) (rank_after_most c.waiting.last i.path))
+pub returns : goal.returns
+returns g c = record {
+  call =
+      let i = c.waiting.invariant in
+      round_wider i.call
+      (rank_within handling_bound (rank_after c.waiting.last)
+      (rank_after_most c.waiting.last i.path));
+  looks = λ known.
+      let i = c.waiting.invariant in
+      waiting_end (i.so known) i.path
+      c.in_default.ensures.agree c.in_default.ensures.none i.idle;
+}

@@ -3,14 +3,13 @@ use Rattle.std.proofs.Common.{true, false}
 use Rattle.std.proofs.lemmas.Grind.{common_steps}
 use Rattle.usb_host.specs.{round_bound, HostInvariant, HostState, RoundsSound, PaysRound, HostSteps}
 use Rattle.usb_host.specs.{DidParts, HostWorks, KeepsNumbers, QuietKeeps, StopsIn}
-use Rattle.usb_host.proofs.LeftRoots.{quiet_stopped}
+use Rattle.usb_host.proofs.BusCounts.{quiet_stopped, part_reported}
 use Rattle.usb_host.proofs.payments.RoundPayments.{pays_stopped, stopped_pays}
-use Rattle.usb_host.proofs.rests.IdleRounds.{round_rests}
+use Rattle.usb_host.proofs.rests.RestingRounds.{round_rests}
 use Rattle.usb_host.proofs.StepSums.{host_goes_none}
 use Rattle.usb_host.proofs.devices.Owners.{round_owning}
-use Rattle.usb_host.proofs.services.RoundServices.{parts_done, parts_stopped}
+use Rattle.usb_host.proofs.RoundLoops.{parts_done, parts_stopped}
 use Rattle.usb_host.proofs.knowledge.Soundness.{rounds_stopped}
-use Rattle.usb_host.proofs.BusCounts.{part_reported}
 use Rattle.usb_host.proofs.arrivals.KeptNumbers.{keeps_none}
 use Rattle.usb_host.proofs.host.Host.round.Goals as goal
 

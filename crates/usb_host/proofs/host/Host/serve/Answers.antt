@@ -1,6 +1,6 @@
 use Rattle.std.proofs.Common.{◌*◌, arith, ◌∙◌, sym}
 use Rattle.usb_pipe.specs.{write_bound}
-use Rattle.usb_host.proofs.PortParts.{port_after, port_rests}
+use Rattle.usb_host.proofs.PartCalls.{port_after, port_rests}
 use Rattle.usb_host.proofs.StepSums.{handed_is}
 use Rattle.usb_enum.specs.{read_bound}
 use Rattle.usb_host.proofs.PortServes.{serve_failed, serve_fails, serve_looked, serve_settled}
@@ -19,48 +19,41 @@ look_after_error-requires g c =
     c.in_ok-status.ensures.rests (λ known. (c.status.ensures.shows known).requested.goes.went)
     c.requires
 
-pub returns-in_err-status-clause-serves : goal.returns-in_err-status-clause-serves
-returns-in_err-status-clause-serves g c known =
-    rw (handed_is c.from_residual.ensures.1) (serve_fails c.args.port (placed known c.requires)
-    c.in_err-status.ensures.rests (c.in_err-status.ensures.shows known))
+pub returns-in_err-status : goal.returns-in_err-status
+returns-in_err-status g c = record {
+  call = port_rests c.status.ensures.spends (rw (handed_is c.from_residual.ensures.1)
+      c.in_err-status.ensures.told) c.in_err-status.ensures.rests (omega arith);
+  serves = λ known.
+      rw (handed_is c.from_residual.ensures.1) (serve_fails c.args.port (placed known c.requires)
+      c.in_err-status.ensures.rests (c.in_err-status.ensures.shows known));
+}
 
-pub returns-then-status-clause-serves : goal.returns-then-status-clause-serves
-returns-then-status-clause-serves g c known =
-    serve_looked (placed known c.requires) c.in_ok-status.ensures.rests
-    (c.in_ok-status.ensures.shows known) c.if-status.true (c.enumerate_again.ensures.looks known)
+pub returns-then-status : goal.returns-then-status
+returns-then-status g c = record {
+  call = port_after _ c.enumerate_again.ensures.call
+      c.status.ensures.spends c.in_ok-status.ensures.rests (omega arith);
+  serves = λ known. serve_looked (placed known c.requires) c.in_ok-status.ensures.rests
+      (c.in_ok-status.ensures.shows known) c.if-status.true (c.enumerate_again.ensures.looks known);
+}
 
-pub returns-then-has_failed-clause-serves : goal.returns-then-has_failed-clause-serves
-returns-then-has_failed-clause-serves g c known =
-    serve_failed (placed known c.requires) c.in_ok-status.ensures.rests
-    (c.in_ok-status.ensures.shows known) c.if-status.false
-    (sym c.has_failed.ensures ∙ c.if-has_failed.true)
-    (c.look_after_error.ensures.looks known)
-    c.look_after_error.ensures.call.hubs
+pub returns-then-has_failed : goal.returns-then-has_failed
+returns-then-has_failed g c = record {
+  call = port_after _ c.look_after_error.ensures.call
+      c.status.ensures.spends c.in_ok-status.ensures.rests (omega arith);
+  serves = λ known. serve_failed (placed known c.requires) c.in_ok-status.ensures.rests
+      (c.in_ok-status.ensures.shows known) c.if-status.false
+      (sym c.has_failed.ensures ∙ c.if-has_failed.true)
+      (c.look_after_error.ensures.looks known)
+      c.look_after_error.ensures.call.hubs;
+}
 
-pub returns-else-has_failed-clause-serves : goal.returns-else-has_failed-clause-serves
-returns-else-has_failed-clause-serves g c known =
-    serve_settled (placed known c.requires) c.in_ok-status.ensures.rests
-    (c.in_ok-status.ensures.shows known) c.if-status.false
-    c.settle.ensures.rests (c.settle.ensures.settles known)
-    (sym c.has_failed.ensures ∙ c.if-has_failed.false)
-
-pub returns-in_err-status-clause-call : goal.returns-in_err-status-clause-call
-returns-in_err-status-clause-call g c =
-    port_rests c.status.ensures.spends (rw (handed_is c.from_residual.ensures.1)
-    c.in_err-status.ensures.told) c.in_err-status.ensures.rests (omega arith)
-
-pub returns-then-status-clause-call : goal.returns-then-status-clause-call
-returns-then-status-clause-call g c =
-    port_after _ c.enumerate_again.ensures.call
-    c.status.ensures.spends c.in_ok-status.ensures.rests (omega arith)
-
-pub returns-then-has_failed-clause-call : goal.returns-then-has_failed-clause-call
-returns-then-has_failed-clause-call g c =
-    port_after _ c.look_after_error.ensures.call
-    c.status.ensures.spends c.in_ok-status.ensures.rests (omega arith)
-
-pub returns-else-has_failed-clause-call : goal.returns-else-has_failed-clause-call
-returns-else-has_failed-clause-call g c =
-    port_after _ (port_rests {k = 4 * write_bound}
-    c.settle.ensures.spends c.settle.ensures.told c.settle.ensures.rests (omega arith))
-    c.status.ensures.spends c.in_ok-status.ensures.rests (omega arith)
+pub returns-else-has_failed : goal.returns-else-has_failed
+returns-else-has_failed g c = record {
+  call = port_after _ (port_rests {k = 4 * write_bound}
+      c.settle.ensures.spends c.settle.ensures.told c.settle.ensures.rests (omega arith))
+      c.status.ensures.spends c.in_ok-status.ensures.rests (omega arith);
+  serves = λ known. serve_settled (placed known c.requires) c.in_ok-status.ensures.rests
+      (c.in_ok-status.ensures.shows known) c.if-status.false
+      c.settle.ensures.rests (c.settle.ensures.settles known)
+      (sym c.has_failed.ensures ∙ c.if-has_failed.false);
+}

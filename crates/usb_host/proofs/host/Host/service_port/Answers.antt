@@ -9,17 +9,15 @@ drop_lost_parent-requires-clause-broke g c known =
     breaks c.serve-served.result _ (placed known c.requires)
     (c.serve-served.ensures.serves known).requested.told
 
-pub returns-clause-handles : goal.returns-clause-handles
-returns-clause-handles g c known =
-    handle_finished (placed known c.requires)
-    c.drop_lost_parent.ensures.ends.ends (c.drop_lost_parent.ensures.finishes known)
-    (c.serve-served.ensures.serves known)
-
-pub returns-clause-call : goal.returns-clause-call
-returns-clause-call g c =
-    call_finished _ c.serve-served.result c.drop_lost_parent.ensures.call
-    c.drop_lost_parent.ensures.ends.ends
-    c.serve-served.ensures.call.spends
-    c.serve-served.ensures.call.numbers (λ known. (c.serve-served.ensures.serves
-    known).requested.works)
-    (omega arith)
+pub returns : goal.returns
+returns g c = record {
+  call = call_finished _ c.serve-served.result c.drop_lost_parent.ensures.call
+      c.drop_lost_parent.ensures.ends.ends
+      c.serve-served.ensures.call.spends
+      c.serve-served.ensures.call.numbers (λ known. (c.serve-served.ensures.serves
+      known).requested.works)
+      (omega arith);
+  handles = λ known. handle_finished (placed known c.requires)
+      c.drop_lost_parent.ensures.ends.ends (c.drop_lost_parent.ensures.finishes known)
+      (c.serve-served.ensures.serves known);
+}

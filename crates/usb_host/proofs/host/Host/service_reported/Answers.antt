@@ -1,7 +1,7 @@
 use Rattle.std.proofs.Common.{arith}
 use Rattle.usb_host.proofs.StepSums.{goes_wider}
 use Rattle.usb_host.proofs.entries.Roots.{on_any}
-use Rattle.usb_host.proofs.services.HubServices.{own_reports, ports_report}
+use Rattle.usb_host.proofs.Services.{own_reports, ports_report}
 use Rattle.usb_host.proofs.host.Host.service_reported.Goals as goal
 
 pub returns-then-bits-eq1-clause-serves : goal.returns-then-bits-eq1-clause-serves

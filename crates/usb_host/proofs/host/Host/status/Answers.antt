@@ -2,7 +2,7 @@ use Rattle.std.proofs.Common.{refl}
 use Rattle.usb_host.proofs.PortRequests.{shows}
 use Rattle.usb_host.proofs.BusCounts.{counts_spend, counts_told}
 use Rattle.usb_enum.proofs.Interface.{status_most, ports_reported}
-use Rattle.usb_host.proofs.devices.Enumerations.{askable_wide}
+use Rattle.usb_host.proofs.StepSums.{askable_wide}
 use Rattle.usb_host.proofs.host.Host.status.Goals as goal
 
 pub returns-clause-shows : goal.returns-clause-shows
@@ -13,16 +13,12 @@ returns-clause-shows g c known =
 
 pub returns-clause-spends : goal.returns-clause-spends
 returns-clause-spends g c =
-    rw (← c.self.view_is) (counts_spend g.B.Bus.modelled g.B.Bus.spent g.B.Bus.failed
-    c.self.inside.left
-    c.self.inside.bus c.port_status.new.bus _ c.port_status.ensures.uses.spends.0
+    rw (← c.self.view_is) (counts_spend _ _ _ _ _ _ _ c.port_status.ensures.uses.spends.0
     (status_most
     c.args.port
     (askable_wide c.args.port c.requires.askable)))
 
 pub returns-clause-told : goal.returns-clause-told
 returns-clause-told g c =
-    counts_told (g.B.Bus.spent c.port_status.new.bus) (g.B.Bus.failed c.port_status.new.bus)
-    c.self.inside.left
-    g.B.Bus.modelled c.at_port.result (rw c.at_port.ensures (ports_reported _ _
+    counts_told _ _ _ _ c.at_port.result (rw c.at_port.ensures (ports_reported _ _
     c.port_status.ensures.uses.told))

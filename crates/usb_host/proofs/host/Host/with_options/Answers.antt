@@ -3,12 +3,11 @@ use Rattle.usb_request.specs.{PORT_POWER}
 use Rattle.usb_world.specs.{World, roots_of}
 use Rattle.usb_bus.specs.{still, Traced}
 use Rattle.usb_bus.proofs.Interface.{traced_cleared, traced_set}
-use Rattle.usb_host.proofs.parts.Powers.{powered_none, powers_one, powered_all, powered_world}
-use Rattle.usb_host.proofs.entries.Agreements.{nested_none, rises_none}
-use Rattle.usb_host.proofs.entries.FoundEntries.{found_none}
-use Rattle.usb_host.proofs.entries.Balances.{accounts_none, range_none}
-use Rattle.usb_host.proofs.BusCounts.{counts_known}
+use Rattle.usb_host.proofs.parts.Openings.{powered_none, powers_one, powered_all, powered_world}
 use Rattle.usb_host.proofs.parts.Openings.{powered_is_opening, owning_opening, sound_opening}
+use Rattle.usb_host.proofs.entries.Agreements.{nested_none, rises_none, accounts_none, range_none}
+use Rattle.usb_host.proofs.entries.KeptBytes.{found_none}
+use Rattle.usb_host.proofs.BusCounts.{counts_known}
 use Rattle.usb_host.specs.{HostMapHolds, HostInvariant, HostState}
 use Rattle.usb_host.proofs.host.Host.with_options.Goals as goal
 

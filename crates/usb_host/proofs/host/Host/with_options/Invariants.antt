@@ -1,6 +1,6 @@
 use Rattle.std.proofs.Common.{◌≡◌, ◌-◌, true}
 use Rattle.usb_bus.specs.{Traced}
-use Rattle.usb_host.proofs.parts.Powers.{powered_world}
+use Rattle.usb_host.proofs.parts.Openings.{powered_world}
 use Rattle.usb_host.proofs.host.Host.with_options.Given as goal
 
 abbrev pub invariant-ports : goal.invariant-ports

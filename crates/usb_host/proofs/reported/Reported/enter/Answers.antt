@@ -1,5 +1,6 @@
 use Rattle.std.proofs.Common.{◌∙◌}
-use Rattle.usb_host.proofs.arrivals.ReportedPlaces.{inserted_at, rise_entered}
+use Rattle.usb_host.proofs.arrivals.News.{inserted_at}
+use Rattle.usb_host.proofs.entries.Agreements.{rises_entered}
 use Rattle.usb_host.proofs.reported.Reported.enter.Goals as goal
 
 pub returns-clause-value : goal.returns-clause-value
@@ -9,5 +10,5 @@ returns-clause-value c =
 
 pub invariant_of-self : goal.invariant_of-self
 invariant_of-self c =
-    rw (returns-clause-value c) (rise_entered c.args.path c.args.number c.args.self.now
+    rw (returns-clause-value c) (rises_entered c.args.path c.args.number c.args.self.now
     c.place_of-place.ensures.rises)

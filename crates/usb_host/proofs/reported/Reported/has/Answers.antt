@@ -1,6 +1,6 @@
 use Rattle.std.proofs.Common.{◌∙◌, ap, refl, sym, is_some, Some}
 use Rattle.std.proofs.lemmas.Option.{slice_get_past, slice_get_read}
-use Rattle.usb_host.proofs.arrivals.ReportedPlaces.{has_at, unreported_past}
+use Rattle.usb_host.proofs.arrivals.News.{has_at, unreported_past}
 use Rattle.usb_host.proofs.reported.Reported.has.Goals as goal
 
 pub returns-in-Some : goal.returns-in-Some

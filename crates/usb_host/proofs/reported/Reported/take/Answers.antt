@@ -4,7 +4,7 @@ use Rattle.std.specs.BTreeMap.{is_at}
 use Rattle.std.specs.List.{slice_get}
 use Rattle.std.specs.Map.{remove_entry}
 use Rattle.usb_port.specs.{path_cmp}
-use Rattle.usb_host.proofs.arrivals.ReportedPlaces.{removed_at, rise_removed}
+use Rattle.usb_host.proofs.arrivals.News.{removed_at, rise_removed}
 use Rattle.usb_host.proofs.reported.Reported.take.Goals as goal
 
 there : (c : goal.After-path)

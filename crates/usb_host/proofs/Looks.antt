@@ -1,17 +1,37 @@
--- What a look reports, and what it leaves.
+-- What looks at ports leave and report.
 use Rattle.std.proofs.Common.{◌≡◌, ◌≢◌, ◌∙◌, inl, inr, ap, arith, refl, sym, ℕ, List, Bool, true}
-use Rattle.std.proofs.Common.{false, Result, Ok, Err}
+use Rattle.std.proofs.Common.{false, Result, Ok, Err, OnOk, Some}
 use Rattle.usb_world.specs.{PlanData}
-use Rattle.usb_table.specs.{NoPort}
+use Rattle.usb_table.specs.{NoPort, KnownPort, Entries, finding_at, without}
 use Rattle.usb_host.specs.{Affords, Bus, CutAt, HostFault, HostState, HostWorks, Look, LookCosts}
 use Rattle.usb_host.specs.{LookDid, LookKeeps, LookMade, LookTells, LooksOver, StopsAsLook}
 use Rattle.usb_host.specs.{PartFaultAllowed, ReportsPort, StandsNowhere, StaysOwned, StaysSingle}
-use Rattle.usb_host.specs.{Weights, handling_bound, handling_most, is_final, look_cost}
+use Rattle.usb_host.specs.{Weights, handling_bound, handling_most, is_final, look_cost, EndsAs}
+use Rattle.usb_host.specs.{FinishesAt, HostProgress, LookedThere, LooksAt, LooksOnceMore, Round}
+use Rattle.usb_host.specs.{StandsAt, Waits, Worked, ChangesNear, DropsNear, EntriesStay, Entered}
+use Rattle.usb_host.specs.{is_last_fault}
 use Rattle.usb_host.specs.declared.fault.HostFault.TheVariants.{Stopped, Transfer, Memory}
 use Rattle.usb_host.proofs.StepSums.{host_goes_none}
 use Rattle.usb_host.proofs.devices.Owners.{stays_owned_none}
 use Rattle.usb_host.proofs.knowledge.Soundness.{part_none}
 use Rattle.usb_host.proofs.payments.Payments.{costs_none, few_stop, stops_more}
+use Rattle.usb_enum.specs.{EnumFault, Finding, Lost}
+use Rattle.usb_host.proofs.HostProgress.{handled}
+use Rattle.usb_host.proofs.PortServes.{done_by, look_finished}
+use Rattle.usb_host.proofs.RoundLoops.{part-fails, part-wider}
+use Rattle.usb_host.proofs.payments.PortPayments.{look_over_pays}
+use Rattle.usb_host.proofs.Services.{looked_left, port_cut, handled_once}
+use Rattle.std.specs.BTreeMap.{insert_entry}
+use Rattle.usb_port.specs.{parent_of, path_cmp}
+use Rattle.usb_tree.specs.{is_way}
+use Rattle.usb_tree.proofs.Interface.{false_true}
+use Rattle.usb_world.proofs.Interface.{way_itself, way_parent, way_trans}
+use Rattle.usb_enum.specs.declared.finding.Finding.TheVariants.{Refused}
+use Rattle.usb_host.proofs.entries.Agreements.{lookup-insert_entry_elsewhere}
+use Rattle.usb_host.proofs.entries.Agreements.{lookup-insert_entry_here}
+use Rattle.usb_host.proofs.knowledge.Places.{finding-kept, untied}
+
+-- What a look reports, and what it leaves.
 
 -- What is left
 
@@ -212,3 +232,152 @@ stopped_tells path h on stops = record {
     costs = none_costs (Err Stopped) h;
   };
 }
+
+-- What the enumeration of a port anew leaves.
+
+on_due : {Due : Type 0} (P : Type 0) (result : Result (Unit {0}) HostFault)
+    → OnOk result (Due → P) → Due → OnOk result P
+on_due P (Ok done) by due = by due
+on_due P (Err fault) by due = tt
+
+module _ {path : List ℕ} {port : KnownPort} {a b d : HostState} (s : StandsAt path port a) where
+  looked_there : (served : Result (Unit {0}) EnumFault) (result : Result (Unit {0}) HostFault)
+      → EndsAs served result → FinishesAt path served b result d → LooksAt path port a served b
+      → OnOk result (LookedThere path a d)
+  looked_there served (Ok tt) ends y x = record {
+    port = port;
+    stands = s;
+    order = done_by _ path served (Ok tt) a b d s.known ends y.left x.order;
+    looked = λ i. handled_once path served a b d ends y.left (x.looked i.owned);
+  }
+  looked_there served (Err fault) ends y x = tt
+
+  pub looks_over : (served : Result (Unit {0}) EnumFault) (result : Result (Unit {0}) HostFault)
+      → EndsAs served result → FinishesAt path served b result d → LooksAt path port a served b
+      → LooksOver path a result d
+  looks_over served result ends y x = record {
+    part = look_finished s ends y x;
+    on = λ waits. on_due (HostProgress a d) result
+        (handled result served a b d ends y.holds x.on) (inr waits);
+    looked = looked_there served result ends y x;
+    cut = port_cut path served result a b d y.goes.went ends y.left
+        (λ i. looked_left path served a b (x.looked i.owned)) x.sound.cut
+        (λ i. y.drops.cut (x.sound.sound i));
+    pays = look_over_pays s ends x y;
+  }
+
+-- A device that waits
+
+module _ {path : List ℕ} {a d : HostState} where
+  pub waited_fails : {fault : HostFault} → LooksOver path a (Err fault) d
+      → LooksOnceMore path a (Err fault) d
+  waited_fails x = record {
+    part = part-fails x.part (omega arith);
+    did = tt;
+    looked = tt;
+    order = tt;
+    cut = x.cut;
+  }
+
+  pub waited : Waits path a → LooksOver path a (Ok tt) d → LooksOnceMore path a (Ok Worked) d
+  waited waits x = record {
+    part = part-wider Round x.part (omega arith);
+    did = record { did = x.on waits; some = λ r is. cc is };
+    looked = λ i. (refl, x.looked.looked i);
+    order = x.looked.order;
+    cut = tt;
+  }
+
+-- Which entries change where a port is handled.
+
+-- Elsewhere entries stay
+
+pub stay_same : (path : List ℕ) {es fs : Entries} → fs ≡ es → EntriesStay path es fs
+stay_same path is other away = ap (finding_at other) is
+
+pub stay_without : (path : List ℕ) (es : Entries) {fs : Entries} → fs ≡ without path es
+    → EntriesStay path es fs
+stay_without path es is other away = ap (finding_at other) is ∙ finding-kept path other es away
+
+pub stay_entered : (path : List ℕ) (f : Finding) (es : Entries) {fs : Entries}
+    → fs ≡ insert_entry path_cmp es path f → EntriesStay path es fs
+stay_entered path f es is other away =
+    ap (finding_at other) is
+    ∙ lookup-insert_entry_elsewhere other path f es (untied path other away)
+
+pub stay_then : (path : List ℕ) (es fs gs : Entries) → EntriesStay path es fs
+    → EntriesStay path fs gs → EntriesStay path es gs
+stay_then path es fs gs first then other away = then other away ∙ first other away
+
+-- one may be entered
+pub stay_found : (path : List ℕ) (c d : HostState) (result : Result (Unit {0}) EnumFault)
+    → Entered path c result d → EntriesStay path c.entries d.entries
+stay_found path c d (Ok done) e = stay_entered path e.finding c.entries e.entries
+stay_found path c d (Err fault) e = stay_same path e
+
+-- A hub is dropped
+
+pub part_final : (modelled : Bool) (fault : HostFault) (h : HostState)
+    → PartFaultAllowed modelled fault h → is_last_fault fault ≡ true
+part_final modelled Stopped h told = absurd told
+part_final modelled (Transfer fault) h told = absurd told
+part_final modelled (Bus fault) h told = refl
+part_final modelled Memory h told = refl
+
+module _ {A : Type 0} {result : Result A HostFault} where
+  pub drops_none : (hub : List ℕ) {es fs : Entries} → fs ≡ es → is_final result ≡ true
+      → DropsNear hub result es fs
+  drops_none hub is stops = record {
+    on = hub;
+    way = way_itself hub;
+    rest = stay_same hub is;
+    lost = λ goes. false_true (sym goes ∙ stops);
+  }
+
+  pub drops_gone : {hub : List ℕ} (lost : List ℕ) (es : Entries) {fs : Entries}
+      → is_way lost hub ≡ true → fs ≡ without lost es → is_final result ≡ true
+      → DropsNear hub result es fs
+  drops_gone lost es way is stops = record {
+    on = lost;
+    way = way;
+    rest = stay_without lost es is;
+    lost = λ goes. false_true (sym goes ∙ stops);
+  }
+
+  pub drops_listed : {hub : List ℕ} (lost : List ℕ) (es fs gs : Entries)
+      → is_way lost hub ≡ true → fs ≡ without lost es
+      → gs ≡ insert_entry path_cmp fs lost (Refused Lost) → DropsNear hub result es gs
+  drops_listed lost es fs gs way gone is = record {
+    on = lost;
+    way = way;
+    rest = stay_then lost es fs gs (stay_without lost es gone)
+        (stay_entered lost (Refused Lost) fs is);
+    lost = λ goes. ap (finding_at lost) is ∙ lookup-insert_entry_here lost (Refused Lost) fs;
+  }
+
+  -- of the hub of a port
+  pub drops_above : {path : List ℕ} {es fs : Entries} (hub : List ℕ) → parent_of path ≡ Some hub
+      → DropsNear hub result es fs → DropsNear path result es fs
+  drops_above {path = path} hub is x = record {
+    on = x.on;
+    way = way_trans x.on hub path x.way (way_parent path hub is);
+    rest = x.rest;
+    lost = x.lost;
+  }
+
+  -- after the port was handled
+  pub near_then : (path : List ℕ) (es fs gs : Entries) → EntriesStay path es fs
+      → ChangesNear path result fs gs → ChangesNear path result es gs
+  near_then path es fs gs first (inl then) = inl (stay_then path es fs gs first then)
+  near_then path es fs gs first (inr x) = inr (record {
+    on = x.on;
+    way = x.way;
+    rest = λ other away. x.rest other away
+        ∙ first other (apart other away (is_way path other) refl);
+    lost = x.lost;
+  })
+    where
+      apart : (other : List ℕ) → is_way x.on other ≡ false → (b : Bool) → is_way path other ≡ b
+          → is_way path other ≡ false
+      apart other away true way = false_true (sym away ∙ way_trans x.on path other x.way way)
+      apart other away false way = way

@@ -1,37 +1,43 @@
--- The pipes to functions and the endpoints at their other ends stay as they were over what a host
--- does at its ports.
+-- The pipes to functions and the endpoints at their other ends, over what a host does at a port.
 use Rattle.std.proofs.Common.{◌≡◌, ◌⊎◌, inl, inr, refl, sym, ap, subst, ◌∙◌, ℕ, Bool, true, false}
-use Rattle.std.proofs.Common.{List, Option, None, Some, option_map, Result}
+use Rattle.std.proofs.Common.{List, Option, None, Some, option_map, Result, not}
 use Rattle.std.specs.BTreeMap.{is_at}
 use Rattle.arrayvec.specs.ArrayVec.{ArrayVec}
 use Rattle.usb_port.specs.{path_cmp}
 use Rattle.usb_device.specs.{in_end, out_end, State, reach, state_there}
-use Rattle.usb_world.specs.{Was, EachWas, AnyStep, Course, after, event, here, World}
+use Rattle.usb_world.specs.{Was, EachWas, AnyStep, Course, after, event, here, World, Consistent}
 use Rattle.usb_tree.specs.{address_of, is_way}
-use Rattle.usb_world.proofs.Interface.{course_joined, each_wider, way_itself}
-use Rattle.usb_tree.proofs.Interface.{decided}
+use Rattle.usb_world.proofs.Interface.{course_joined, each_wider, way_itself, at_or_below_way}
+use Rattle.usb_tree.proofs.Interface.{decided, false_true}
 use Rattle.usb_address.specs.{MapHolds}
 use Rattle.usb_pipe.specs.{PipeFault}
 use Rattle.usb_hub.specs.{ControlCourse, StaysAs, EachElsewhere, EachNamedElsewhere, KeepsDevices}
 use Rattle.usb_hub.specs.{TouchesNoPort}
-use Rattle.usb_enum.specs.{Cause, Accepted, Finding}
+use Rattle.usb_enum.specs.{Cause, Accepted, Finding, IsOwn, HostOptions, usual_options}
 use Rattle.usb_enum.specs.declared.finding.Finding.TheVariants.{Device, Refused}
-use Rattle.usb_enum.proofs.Interface.{went_course}
+use Rattle.usb_enum.proofs.Interface.{went_course, ruled_there}
 use Rattle.usb_table.specs.{Pipes, Hub, function_of, Entries, has_at, accepted_device_of}
 use Rattle.usb_table.specs.{accepted_device_at, address_in, is_below_hub, SparesBulk, finding_at}
-use Rattle.usb_table.specs.{new_pipes, Table, GoesThrough, entered, pipes_at, PipesPolled}
+use Rattle.usb_table.specs.{new_pipes, Table, GoesThrough, entered, pipes_at, PipesPolled, no_pipes}
+use Rattle.usb_table.specs.{is_at_or_below, AllInSync, PipesInSync, InSyncAt, TakesOut}
 use Rattle.usb_table.proofs.Interface.{path_tied, pipes_at-entered, pipes_at-entered_elsewhere}
-use Rattle.usb_table.proofs.Interface.{spares-same, spares-stage, spares-then}
+use Rattle.usb_table.proofs.Interface.{spares-same, spares-stage, spares-then, level_beside}
+use Rattle.usb_table.proofs.Interface.{level_elsewhere, level_entered, level_stays}
 use Rattle.usb_host.specs.{Forgets, SameFunction, EndpointsStayed, EndpointsBegan, StayedAt}
 use Rattle.usb_host.specs.{RenewedAt, MovesNoBulk, NamedEndpointsStayed, StaysWhere, by_both}
 use Rattle.usb_host.specs.{by_control, by_rest, KeepsBulk, HostState, claims, HostSteps}
 use Rattle.usb_host.specs.{OnlyBusSteps, table_in}
 use Rattle.usb_host.proofs.StepSums.{went_before}
 use Rattle.usb_host.proofs.entries.Agreements.{lookup-insert_entry_elsewhere}
-use Rattle.usb_host.proofs.entries.Balances.{lookup-insert_entry_here}
+use Rattle.usb_host.proofs.entries.Agreements.{lookup-insert_entry_here, lookup-without}
+use Rattle.usb_host.proofs.entries.Agreements.{lookup-removed}
 use Rattle.usb_host.proofs.parts.Events.{event_same}
 use Rattle.usb_host.proofs.knowledge.Places.{finding-kept, finding-none}
 use Rattle.usb_host.proofs.knowledge.SettledListings.{reached_there}
+use Rattle.std.specs.Prelude.{unwrap_or}
+
+-- The pipes to functions and the endpoints at their other ends stay as they were over what a host
+-- does at its ports.
 
 -- Pipes
 
@@ -206,13 +212,11 @@ pub where_polled : {So : Type 0} (hub : List ℕ) (a b : HostState)
     → PipesPolled (pipes_at hub (table_in a)) a.world result (pipes_at hub (table_in b)) b.world
     → EachWas SparesBulk a.world b.world → StaysWhere So a b
 where_polled hub a b result goes polled each =
-    where_same goes.entries (λ path. pick path (is_at (path_cmp hub) path) refl) each
-  where
-    pick : (path : List ℕ) (tied : Bool) → is_at (path_cmp hub) path ≡ tied
-        → SameFunction (pipes_at path (table_in a)) (pipes_at path (table_in b))
-    pick path true tie = rw (path_tied hub path tie) at (polled_function (pipes_at hub (table_in a))
-        {left = pipes_at hub (table_in b)} a.world b.world result polled)
-    pick path false apart = same_function (goes.others path apart)
+    where_same goes.entries (λ path. elim (decided (is_at (path_cmp hub) path)) [
+      | inl tie ↦ rw (path_tied hub path tie) at (polled_function (pipes_at hub (table_in a))
+          {left = pipes_at hub (table_in b)} a.world b.world result polled)
+      | inr apart ↦ same_function (goes.others path apart)
+    ]) each
 
 -- an event comes
 pub stay_event : (a b : HostState) → b.entries ≡ a.entries → b.pipes ≡ a.pipes
@@ -227,11 +231,10 @@ stay_event a b same pipes_same is =
 -- what is listed after what stood at a path is forgotten stands elsewhere
 listed_away : (first path : List ℕ) (es : Entries) {device : Accepted} → has_at first es ≡ false
     → accepted_device_at path es ≡ Some device → is_way first path ≡ false
-listed_away first path es gone at = pick (decided (is_way first path))
-  where
-    pick : (is_way first path ≡ true) ⊎ (is_way first path ≡ false) → is_way first path ≡ false
-    pick (inl way) = absurd (cc (ap accepted_device_of (finding-none first path es gone way), at))
-    pick (inr away) = away
+listed_away first path es gone at = elim (decided (is_way first path)) [
+  | inl way ↦ absurd (cc (ap accepted_device_of (finding-none first path es gone way), at))
+  | inr away ↦ away
+]
 
 pub stay_forgotten : {first : List ℕ} {a b : HostState} → Forgets first a b → AllStay a b
 stay_forgotten {first = first} {a = a} {b = b} f = record {
@@ -337,30 +340,27 @@ entered_there first f said a b device table is at =
 pub stay_refused : (first : List ℕ) (cause : Cause) (said : ArrayVec ℕ) (a b : HostState)
     → table_in b ≡ entered first (Refused cause) said (table_in a) → b.world ≡ a.world → AllStay a b
 stay_refused first cause said a b table same =
-    record { each = λ path device at. pick path device at (is_at (path_cmp path) first) refl }
-  where
-    pick : (path : List ℕ) (device : Accepted) → accepted_device_at path b.entries ≡ Some device
-        → (tied : Bool) → is_at (path_cmp path) first ≡ tied → StayedAt path device a b
-    pick path device at true tie = absurd
-        (cc (entered_there first (Refused cause) said a b device table (path_tied path first tie)
-        at))
-    pick path device at false apart = beside first path (Refused cause) said a b device table apart
-        at
-        (λ listed. stayed_none path a.world same)
+    record {
+      each = λ path device at. elim (decided (is_at (path_cmp path) first)) [
+        | inl tie ↦ absurd (cc (entered_there first (Refused cause) said a b device table
+            (path_tied path first tie) at))
+        | inr apart ↦ beside first path (Refused cause) said a b device table apart at
+            (λ listed. stayed_none path a.world same)
+      ];
+    }
 
 -- whoever is reached holds the address of its entry
 unreached : (w : World) (path : List ℕ) (es : Entries) → MapHolds (claims es) w
     → finding_at path es ≡ None → reach w.roots path ≡ false
-unreached w path es held none = pick (reach w.roots path) refl
-  where
-    pick : (on : Bool) → reach w.roots path ≡ on → on ≡ false
-    pick true on =
-        let there : (s : State) × (state_there w.roots path ≡ Some s) =
-        reached_there w.roots path on in
-        let some_is : Some (address_of there.0) ≡ None = sym (ap (option_map address_of) there.1)
-        ∙ held.own path on ∙ ap address_in none in
-        absurd (cc some_is)
-    pick false on = refl
+unreached w path es held none = elim (decided (reach w.roots path)) [
+  | inl on ↦
+      let there : (s : State) × (state_there w.roots path ≡ Some s) =
+      reached_there w.roots path on in
+      let some_is : Some (address_of there.0) ≡ None = sym (ap (option_map address_of) there.1)
+      ∙ held.own path on ∙ ap address_in none in
+      absurd (cc some_is)
+  | inr off ↦ off
+]
 
 -- a device that is found where none was listed was not reached before
 module _ (first : List ℕ) (f : Finding) (said : ArrayVec ℕ) (a b : HostState)
@@ -369,7 +369,15 @@ module _ (first : List ℕ) (f : Finding) (said : ArrayVec ℕ) (a b : HostState
   pub bulk_entered : ControlCourse a.world b.world → MapHolds (claims a.entries) a.world
       → ((device : Accepted) → f ≡ Device device → EndpointsBegan first b.world) → KeepsBulk a b
   bulk_entered control held began = record {
-    each = λ path device at. pick path device at (is_at (path_cmp path) first) refl;
+    each = λ path device at. elim (decided (is_at (path_cmp path) first)) [
+      | inl tie ↦
+          let is : path ≡ first = path_tied path first tie in
+          inr (rw is (found device (entered_there first f said a b device table is at)))
+      | inr apart ↦
+          inl (beside first path f said a b device table apart at
+          (λ listed. stayed_elsewhere first path a.world b.world each
+          (listed_away first path a.entries gone listed)))
+    ];
     unmoved = by_control control;
   }
     where
@@ -389,17 +397,6 @@ module _ (first : List ℕ) (f : Finding) (said : ArrayVec ℕ) (a b : HostState
             ∙ ap (λ g. new_pipes g (is_below_hub first) said) is);
         endpoints = began device is;
       }
-
-      pick : (path : List ℕ) (device : Accepted) → accepted_device_at path b.entries ≡ Some device
-          → (tied : Bool) → is_at (path_cmp path) first ≡ tied → StayedAt path device a b
-          ⊎ RenewedAt path device a b
-      pick path device at true tie =
-          let is : path ≡ first = path_tied path first tie in
-          inr (rw is (found device (entered_there first f said a b device table is at)))
-      pick path device at false apart =
-          inl (beside first path f said a b device table apart at
-          (λ listed. stayed_elsewhere first path a.world b.world each
-          (listed_away first path a.entries gone listed)))
 
 -- One part after another
 
@@ -487,3 +484,105 @@ bulk_stopped a b stopped x = record {
       pipes = y.pipes;
       endpoints = y.endpoints;
     })
+
+-- Pipes stay as far as the endpoints at their other ends over what a host does at a port.
+
+-- Only the world goes on, and devices stay as they were
+
+pub level_rests : (a b : HostState) → OnlyBusSteps a b → KeepsDevices a.world b.world
+    → b.world.shared ≡ false → (path : List ℕ) → InSyncAt path (table_in a) a.world
+    → InSyncAt path (table_in b) b.world
+level_rests a b r devices single path l =
+    rw (ap (λ (h : HostState). table_in h) r) (level_stays _ _ b.world
+    (devices.stays single) _ l)
+
+-- What is taken out
+
+-- a path that is neither at another nor below it is not one that is
+is_at-not_below : (q path first : List ℕ) → is_at_or_below first path ≡ true
+    → is_at_or_below q path ≡ false → is_at (path_cmp q) first ≡ false
+is_at-not_below q path first on away = elim (decided (is_at (path_cmp q) first)) [
+  | inl tie ↦ false_true (sym (rw (path_tied q first tie) at away) ∙ on)
+  | inr apart ↦ apart
+]
+
+pub pipes_apart : (q path : List ℕ) {finding : Finding} (old new : Table)
+    → TakesOut path finding old new → is_at_or_below q path ≡ false
+    → pipes_at q new ≡ pipes_at q old
+pipes_apart q path old _ t away =
+    ap (λ (x : Table). pipes_at q x) t.rest ∙ ap (λ (o : Option Pipes). unwrap_or o no_pipes)
+    (lookup-removed q t.first old.pipes (is_at-not_below q path t.first t.at away))
+
+-- Of what is not listed nothing is to be level
+
+none_level : {path : List ℕ} {t : Table} {w : World} → finding_at path t.entries ≡ None
+    → InSyncAt path t w
+none_level none = record {
+  level = λ device s at on stands. absurd (cc (ap accepted_device_of none, at));
+}
+
+-- what stood at a path is forgotten
+pub level_forgotten : {first : List ℕ} {b c : HostState} → Forgets first b c
+    → ((x : List ℕ) → is_way first x ≡ false → InSyncAt x (table_in b) b.world)
+    → AllInSync (table_in c) c.world
+level_forgotten {first = first} {b = b} {c = c} f level x = elim (decided (is_way first x)) [
+  | inl way ↦ none_level (finding-none first x c.entries f.gone way)
+  | inr away ↦
+      let found : finding_at x c.entries ≡ finding_at x b.entries =
+      ap (λ (es : Entries). finding_at x es) f.rest ∙ lookup-without x first b.entries
+      (ap not (at_or_below_way x first ∙ away)) in
+      subst (InSyncAt x (table_in c)) (ap (λ (h : HostState). h.world) (sym f.others)) (record {
+        level = λ device s at on stands. subst (λ (p : Pipes). PipesInSync device p s)
+            (sym (f.pipes x away)) ((level x away).level device s
+            (sym (ap accepted_device_of found) ∙ at) on stands);
+      })
+]
+
+-- What is entered
+
+-- where nothing was listed at the path
+pub level_came : (path : List ℕ) (f : Finding) (said : ArrayVec ℕ) (t : Table) {u : Table}
+    (w : World) → u ≡ entered path f said t → InSyncAt path (entered path f said t) w
+    → AllInSync t w → AllInSync u w
+level_came path f said t w is own others x =
+    rw is (elim (decided (is_at (path_cmp x) path)) [
+      | inl tie ↦ rw (path_tied x path tie) own
+      | inr apart ↦ level_beside path f said t w x apart (others x)
+    ])
+
+-- a device that is refused has no pipes
+pub level_refused : (path : List ℕ) (cause : Cause) (said : ArrayVec ℕ) (t : Table) {u : Table}
+    (w : World) → u ≡ entered path (Refused cause) said t → AllInSync t w → AllInSync u w
+level_refused path cause said t w is others =
+    level_came _ (Refused cause) said t w is (level_entered path (Refused cause) said t w
+    (usual_options true) 0 0
+    (λ device s found. absurd (cc found))) others
+
+-- those to a device whose finding is its own are new, as its endpoints are
+pub level_found : (path : List ℕ) (f : Finding) (said : ArrayVec ℕ) (options : HostOptions)
+    (tier supply : ℕ)
+    (t : Table) {u : Table} (w : World) → u ≡ entered path f said t → Consistent w.roots
+    → ((device : Accepted) (s : State) → f ≡ Device device → reach w.roots path ≡ true
+    → state_there w.roots path ≡ Some s → IsOwn options tier supply device s) → AllInSync t w
+    → AllInSync u w
+level_found path f said options tier supply t w is sane own others =
+    level_came _ f said t w is (level_entered path f said t w options tier supply
+    (λ device s found on stands. (
+      ruled_there w.roots path s sane stands,
+      own device s found on stands,
+    ))) others
+
+-- Elsewhere
+
+pub level_but : (path : List ℕ) (t : Table) (w v : World) → EachElsewhere path StaysAs w v
+    → ((x : List ℕ) → is_way path x ≡ false → InSyncAt x t w) → (x : List ℕ) → is_way path x ≡ false
+    → InSyncAt x t v
+level_but path t w v each level x away = level_elsewhere t w v path each x away (level x away)
+
+-- of what stands at a path and below it nothing is listed
+pub level_gone : (path : List ℕ) (t : Table) (w : World) → has_at path t.entries ≡ false
+    → ((x : List ℕ) → is_way path x ≡ false → InSyncAt x t w) → AllInSync t w
+level_gone path t w gone level x = elim (decided (is_way path x)) [
+  | inl way ↦ none_level (finding-none path x t.entries gone way)
+  | inr away ↦ level x away
+]

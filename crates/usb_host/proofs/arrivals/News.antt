@@ -1,29 +1,34 @@
 -- Where the devices are that were reported, which news comes next, and how few they are.
-use Rattle.std.proofs.Common.{◌≡◌, ◌≢◌, ◌∙◌, ap, arith, refl, subst, sym, cond, ℕ, zero, suc, ◌<◌}
-use Rattle.std.proofs.Common.{List, [], ◌∷◌, Bool, true, false, Some, None, is_some, nat_eq, ◌||◌}
-use Rattle.std.proofs.Common.{Option, eqb, length, map, unwrap_or, inl, inr}
+use Rattle.usb_tree.proofs.Interface.{decided}
+use Rattle.std.proofs.Common.{◌≡◌, ◌≢◌, ◌∙◌, ap, arith, refl, subst, sym, ℕ, zero, suc, ◌+◌, ◌-◌}
+use Rattle.std.proofs.Common.{◌<◌, List, [], ◌∷◌, Bool, true, false, not, ◌||◌, Option, Some, None}
+use Rattle.std.proofs.Common.{length, cond, inl, inr, is_some, nat_eq, eqb, map, unwrap_or}
+use Rattle.std.proofs.lemmas.Bool.{eq-eqb, eqb-true, ne_eqb, cases_order}
 use Rattle.std.specs.BTreeMap.{insert_entry, is_at}
-use Rattle.std.specs.List.{AllByRecursion, insert, remove, slice_get, IsDistinct, list_any}
-use Rattle.std.specs.List.Sorted.{IsStrictlySortedBy}
-use Rattle.std.specs.Map.{keys_of, remove_entry, lookup}
-use Rattle.std.specs.Ordering.{is_eq, match_ordering, ordering_reverse}
-use Rattle.std.specs.Cmp.Lexicographic.{nat_list_cmp_total, pointwise, same_text, texts_ties}
+use Rattle.std.specs.List.{list_any, slice_get, AllByRecursion, insert, remove, IsDistinct}
+use Rattle.std.specs.Ordering.{match_ordering, is_eq, ordering_reverse}
 use Rattle.std.specs.declared.cmp.Ordering.{Ordering}
 use Rattle.std.specs.declared.cmp.Ordering.TheVariants.{Less, Equal, Greater}
+use Rattle.usb_port.specs.{path_cmp}
+use Rattle.usb_table.proofs.Interface.{path_tied, path_itself}
+use Rattle.usb_host.specs.{HasArrived, IsFirstLeft, IsLeast, NoneLeft, ReportsArrived, ReportsLeft}
+use Rattle.usb_host.specs.{is_there, news_left, number_in, some_left, HostState, Known}
+use Rattle.usb_host.specs.{ReportedDevices, known_in, Arrived, Left, KeepsNumbers, KnownDevice}
+use Rattle.usb_host.specs.{News, NoNews, NumbersFit, ReportsNews, device_in, path_of_news}
+use Rattle.usb_host.specs.{reported_at, IsPlaceOf, ReportedRise, Agrees, DeviceNumbers, claims}
+use Rattle.usb_host.specs.{HasLeft, IsNextUnreported, known_device}
+use Rattle.std.specs.Map.{remove_entry, keys_of, lookup}
+use Rattle.std.specs.Option.{option_map}
+use Rattle.std.specs.List.Sorted.{IsStrictlySortedBy}
+use Rattle.std.specs.Cmp.Lexicographic.{nat_list_cmp_total, pointwise, same_text, texts_ties}
 use Rattle.std.proofs.lemmas.List.Elements.{All-from_recursion, recursion_from_All}
 use Rattle.std.proofs.lemmas.Map.Entries.{lookup_at_gap, lookup_from_place, length-keys_of}
 use Rattle.std.proofs.lemmas.Map.Entries.{place_from_lookup}
 use Rattle.std.proofs.lemmas.Map.Keys.{IsDistinct-from_sorted, sorted_head, sorted_tail}
-use Rattle.std.proofs.lemmas.Map.Views.{All-keys-insert_entry, All-map-remove_entry}
+use Rattle.std.proofs.lemmas.Map.Views.{All-map-remove_entry}
 use Rattle.std.specs.Cmp.{eq_by_cmp_equiv}
-use Rattle.usb_port.specs.{path_cmp}
-use Rattle.usb_table.proofs.Interface.{path_itself, path_tied}
-use Rattle.usb_host.specs.{IsPlaceOf, ReportedDevices, ReportedRise, reported_at, HasArrived}
-use Rattle.usb_host.specs.{NoneLeft, Agrees, DeviceNumbers, HostState, Known, claims, known_in}
-use Rattle.usb_host.specs.{HasLeft, IsFirstLeft, IsLeast, IsNextUnreported, number_in, KnownDevice}
-use Rattle.usb_host.specs.{known_device}
-use Rattle.usb_host.proofs.entries.Agreements.{above_all}
-use Rattle.std.proofs.lemmas.Bool.{eqb-true, ne_eqb, cases_order}
+use Rattle.usb_host.proofs.entries.Agreements.{claims_distinct, claims_taken}
+use Rattle.usb_host.proofs.entries.Agreements.{lookup-insert_entry_elsewhere, lookup-removed}
 use Rattle.std.proofs.lemmas.Map.Steps.{length-le_from_distinct_below}
 use Rattle.usb_resources.specs.{Addresses, HasAddresses}
 use Rattle.usb_world.proofs.Interface.{same_is}
@@ -32,8 +37,180 @@ use Rattle.usb_enum.specs.declared.finding.Finding.TheVariants.{Device, Refused}
 use Rattle.usb_table.specs.{Entries, address_in, ComesAfter, IsLast, IsNext, Stands}
 use Rattle.usb_table.specs.{accepted_device_of, is_accepted}
 use Rattle.usb_host.specs.Accounts.{Accounts}
-use Rattle.usb_host.proofs.entries.Balances.{claims_distinct, claims_taken}
-use Rattle.std.specs.Option.{option_map}
+
+-- Each news leaves fewer, and a device stays as long as no news is of its path.
+
+-- what is so of one at a place is so of some
+any_at : (test : List ℕ × ℕ → Bool) (rs : ReportedDevices) (i : ℕ) (d : List ℕ × ℕ)
+    → slice_get rs i ≡ Some d → test d ≡ true → list_any test rs ≡ true
+any_at test [] i d at is = absurd (cc at)
+any_at test (r ∷ rs) zero d at is =
+    let same : r ≡ d = cc at in
+    let here : test r ≡ true = rw same is in
+    rw here refl
+any_at test (r ∷ rs) (suc i) d at is = by (test r) (any_at test rs i d at is)
+  where
+    by : (b : Bool) → list_any test rs ≡ true → (b || list_any test rs) ≡ true
+    by true more = refl
+    by false more = more
+
+-- and if it is so of none, of not any
+not_any : (test : List ℕ × ℕ → Bool) (rs : ReportedDevices)
+    → ((i : ℕ) (d : List ℕ × ℕ) → slice_get rs i ≡ Some d → test d ≡ false)
+    → list_any test rs ≡ false
+not_any test [] none = refl
+not_any test (r ∷ rs) none =
+    let here : test r ≡ false = none zero r refl in
+    rw here (not_any test rs (λ i d at. none (suc i) d at))
+
+there_or_gone : (o : Option ℕ) (n : ℕ) → o ≢ Some n → (b : Bool) → is_there o n ≡ b
+    → not b ≡ true
+there_or_gone None n gone true is = absurd (cc is)
+there_or_gone (Some m) n gone true is = absurd (gone (ap Some (eqb-true m n is)))
+there_or_gone o n gone false is = refl
+
+is_there_at : (o : Option ℕ) (n : ℕ) → o ≡ Some n → is_there o n ≡ true
+is_there_at o n there = rw there (eq-eqb n n refl)
+
+counted_step : (test : List ℕ × ℕ → Bool) (p : List ℕ) (n : ℕ) (r : List ℕ × ℕ)
+    (rs : ReportedDevices) → test (p, n) ≡ false → (test r || list_any test rs) ≡ false
+    → (list_any test rs ≡ false → list_any test (insert_entry path_cmp rs p n) ≡ false)
+    → (o : Ordering) → path_cmp p r.0 ≡ o
+    → list_any test (match_ordering o ((p, n) ∷ r ∷ rs) ((r.0, n) ∷ rs)
+    (r ∷ insert_entry path_cmp rs p n)) ≡ false
+counted_step test p n r rs new none more Less is = rw new none
+counted_step test p n r rs new none more Equal is =
+    let path : p ≡ r.0 = path_tied p r.0 (rw is refl) in
+    let here : test (r.0, n) ≡ false = rw path at new in
+    rw here (rest_off (test r) none)
+  where
+    rest_off : (b : Bool) → (b || list_any test rs) ≡ false → list_any test rs ≡ false
+    rest_off true off = absurd (cc off)
+    rest_off false off = off
+counted_step test p n r rs new none more Greater is = by (test r) none
+  where
+    by : (b : Bool) → (b || list_any test rs) ≡ false
+        → (b || list_any test (insert_entry path_cmp rs p n)) ≡ false
+    by true off = absurd (cc off)
+    by false off = more off
+
+not_entered : (test : List ℕ × ℕ → Bool) (p : List ℕ) (n : ℕ) (rs : ReportedDevices)
+    → test (p, n) ≡ false → list_any test rs ≡ false
+    → list_any test (insert_entry path_cmp rs p n) ≡ false
+not_entered test p n [] new none = rw new refl
+not_entered test p n (r ∷ rs) new none =
+    counted_step test p n r rs new none (λ off. not_entered test p n rs new off)
+    (path_cmp p r.0) refl
+
+-- one that left is taken out
+pub fewer_left : {path : List ℕ} {old new : HostState} → ReportsLeft path old new → (place : ℕ)
+    → IsFirstLeft (known_in old) place → length new.reported + 1 ≡ length old.reported
+    → news_left new < news_left old
+fewer_left {old = old} {new = new} left place first less =
+    let k : Known = known_in old in
+    let gone : some_left k ≡ true =
+    any_at (λ d. not (is_there (number_in d.0 k) d.1)) old.reported place first.device first.at
+    (there_or_gone (number_in first.device.0 k) first.device.1 first.gone
+    (is_there (number_in first.device.0 k) first.device.1) refl) in
+    rw gone (by (some_left (known_in new)))
+  where
+    by : (b : Bool) → cond b (129 + length new.reported) (128 - length new.reported)
+        < 129 + length old.reported
+    by true = omega arith
+    by false = omega arith
+
+-- one that arrived comes in
+fewer_entered : (old : HostState) (reported : ReportedDevices) (path : List ℕ)
+    (arrived : IsLeast (HasArrived (known_in old)) path) → NoneLeft (known_in old)
+    → reported ≡ insert_entry path_cmp old.reported path arrived.is.number
+    → length reported ≡ length old.reported + 1 → length old.reported < 128
+    → news_left (record old { reported = reported }) < news_left old
+fewer_entered old reported path arrived none entered more room =
+    let k : Known = known_in old in
+    let test : List ℕ × ℕ → Bool = λ d. not (is_there (number_in d.0 k) d.1) in
+    let before : list_any test old.reported ≡ false = not_any test old.reported
+    (λ i d at. ap not (is_there_at (number_in d.0 k) d.1 (none i d at))) in
+    let new : test (path, arrived.is.number) ≡ false =
+    ap not (is_there_at (number_in path k) arrived.is.number arrived.is.there) in
+    let behind : list_any test reported ≡ false =
+    rw entered (not_entered test path arrived.is.number old.reported new before) in
+    rw (before, behind) (omega arith)
+
+pub fewer_arrived : {path : List ℕ} {old new : HostState} → ReportsArrived path old new
+    → NoneLeft (known_in old) → length new.reported ≡ length old.reported + 1
+    → length old.reported < 128 → news_left new < news_left old
+fewer_arrived {path} {old} {new} x none more room =
+    subst (λ (h : HostState). news_left h < news_left old) (sym x.rest)
+    (fewer_entered old (insert_entry path_cmp old.reported path x.arrived.is.number) path x.arrived
+    none refl (sym (ap (λ (h : HostState). length h.reported) x.rest) ∙ more) room)
+
+-- A device stays
+
+-- News of another path
+
+apart_at : (p q : List ℕ) → q ≢ p → is_at (path_cmp p) q ≡ false
+apart_at p q other = elim (decided (is_at (path_cmp p) q)) [
+  | inl tie ↦ absurd (other (sym (path_tied p q tie)))
+  | inr off ↦ off
+]
+
+pub other_news : (path : List ℕ) (news : News) (old new : HostState)
+    → ReportsNews old (Some news) new → path_of_news news ≢ path
+    → (new ≡ record old { reported = new.reported })
+    × (reported_at path new.reported ≡ reported_at path old.reported)
+other_news path (Left q) old new left other = (
+  left.rest ∙ ap (λ (rs : ReportedDevices). record old { reported = rs })
+      (sym (ap (λ (h : HostState). h.reported) left.rest)),
+  ap (λ (h : HostState). reported_at path h.reported) left.rest
+      ∙ lookup-removed path q old.reported (apart_at path q other),
+)
+other_news path (Arrived q) old new arrived other = (
+  arrived.rest ∙ ap (λ (rs : ReportedDevices). record old { reported = rs })
+      (sym (ap (λ (h : HostState). h.reported) arrived.rest)),
+  ap (λ (h : HostState). reported_at path h.reported) arrived.rest
+      ∙ lookup-insert_entry_elsewhere path q arrived.arrived.is.number old.reported
+      (apart_at path q other),
+)
+
+-- A device that stays
+
+-- a device with a number that was given before was there before
+was_there : (path : List ℕ) (old new : HostState) → KeepsNumbers old new → (device : KnownDevice)
+    → device_in path (known_in new) ≡ Some device → device.number < old.numbers.next
+    → device_in path (known_in old) ≡ Some device
+was_there path old new keeps device at lt = elim (keeps.each path device at) [
+  | inl there ↦ there
+  | inr le ↦ absurd (omega arith)
+]
+
+pub stays_between : (path : List ℕ) (device : KnownDevice) (a m b c : HostState)
+    → NumbersFit (known_in a) → NoNews a → device_in path (known_in a) ≡ Some device
+    → KeepsNumbers a m → KeepsNumbers m b → c ≡ record b { reported = c.reported } → NoNews c
+    → reported_at path c.reported ≡ reported_at path b.reported
+    → (device_in path (known_in m) ≡ Some device) × (device_in path (known_in c) ≡ Some device)
+stays_between path device a m b c fit none at before behind rest ended same =
+    by (device_in path (known_in b)) refl
+  where
+    known : device_in path (known_in c) ≡ device_in path (known_in b)
+    known = ap (λ (h : HostState). device_in path (known_in h)) rest
+
+    numbers : number_in path (known_in b) ≡ Some device.number
+    numbers =
+        ap (λ (h : HostState). number_in path (known_in h)) (sym rest) ∙ sym (ended path) ∙ same
+        ∙ ap (λ (rs : ReportedDevices). reported_at path rs) (behind.reported ∙ before.reported)
+        ∙ none path ∙ ap (λ (o : Option KnownDevice). option_map (λ d. d.number) o) at
+
+    by : (o : Option KnownDevice) → device_in path (known_in b) ≡ o
+        → (device_in path (known_in m) ≡ Some device)
+        × (device_in path (known_in c) ≡ Some device)
+    by None is = absurd (cc (rw is at numbers))
+    by (Some e) is =
+        let number : e.number ≡ device.number = cc (rw is at numbers) in
+        let lt = fit.given path device at in
+        let there = was_there path m b behind e is (omega (arith, before.rising)) in
+        let first = was_there path a m before e there (omega arith) in
+        let one : e ≡ device = cc (sym first ∙ at) in
+        (rw one at there, known ∙ rw one at is)
 
 pub rise_none : ReportedRise []
 unfolding IsStrictlySortedBy
@@ -118,28 +295,6 @@ inserted_at p n (suc i) (r ∷ rs) none is =
       before = λ k d lt at. is.before (suc k) d (omega arith) at;
       after = λ d at. is.after d at;
     })))
-
-entered_step : (p : List ℕ) (n : ℕ) (r : List ℕ × ℕ) (rs : ReportedDevices)
-    → ReportedRise (r ∷ rs) → ReportedRise (insert_entry path_cmp rs p n) → (o : Ordering)
-    → path_cmp p r.0 ≡ o → ReportedRise (match_ordering o ((p, n) ∷ r ∷ rs) ((r.0, n) ∷ rs)
-    (r ∷ insert_entry path_cmp rs p n))
-unfolding IsStrictlySortedBy
-entered_step p n r rs rise more Less is = ((is, above_all p r.0 (keys_of rs) is rise.0), rise)
-entered_step p n r rs rise more Equal is = rise
-entered_step p n r rs rise more Greater is =
-    let P : List ℕ → Type 0 = λ k. path_cmp r.0 k ≡ Less in (
-      recursion_from_All P (keys_of (insert_entry path_cmp rs p n))
-          (All-keys-insert_entry path_cmp p n P rs (All-from_recursion P (keys_of rs) rise.0)
-          (nat_list_cmp_total.antisymm r.0 p ∙ ap ordering_reverse is)),
-      more,
-    )
-
-pub rise_entered : (p : List ℕ) (n : ℕ) (rs : ReportedDevices) → ReportedRise rs
-    → ReportedRise (insert_entry path_cmp rs p n)
-unfolding IsStrictlySortedBy
-rise_entered p n [] rise = (tt, tt)
-rise_entered p n (r ∷ rs) rise =
-    entered_step p n r rs rise (rise_entered p n rs rise.1) (path_cmp p r.0) refl
 
 -- Whether one is reported at a path
 

@@ -1,0 +1,311 @@
+-- What is done at the ports, and what is left where the host stopped.
+use Rattle.usb_tree.proofs.Interface.{decided}
+use Rattle.std.proofs.Common.{◌≡◌, ◌∙◌, refl, sym, arith, true, false, ℕ, ◌+◌, ◌≤◌, ◌/◌, ◌%◌, ◌^◌}
+use Rattle.std.proofs.Common.{◌≢◌, bit_and, List, Ok, Err, OnOk, Result, inl, inr, ap, length}
+use Rattle.std.proofs.Common.{length-append, ◌<◌, not, Bool, [], ◌∷◌, ◌++◌, Some, OnErr}
+use Rattle.std.proofs.Common.{MatchResult, None}
+use Rattle.std.proofs.lemmas.Bool.{eq-eqb, ne_eqb}
+use Rattle.std.proofs.lemmas.Nat.{and_mask}
+use Rattle.usb_port.specs.{has_bit, path_cmp, parent_of, port_on_hub, IsPath, IsPortNumber}
+use Rattle.usb_port.specs.{is_reset, PortCall, PortStatus}
+use Rattle.usb_world.specs.{World}
+use Rattle.usb_pipe.specs.{FaultAfter, PipeFault}
+use Rattle.usb_pipe.specs.declared.fault.PipeFault.TheVariants as pipe
+use Rattle.usb_host.specs.{BitsHandledSo, HostFault, OwnServed, ReportHandled, own_reported}
+use Rattle.usb_host.specs.{ports_reported, HostState, HandledSo, claims, HasLost, IsOwned, Watches}
+use Rattle.usb_host.specs.{EndsAs, StandsAt, HostProgress, HostSteps, OnlyBusSteps, HostInvariant}
+use Rattle.usb_host.specs.{DoneWhere, EndsAt, ForgetsOnWay, HandlesAt, LookedOnce, LookedOrLost}
+use Rattle.usb_host.specs.{LosesParent, Renews, ServedAt, ServedOrLost, StaysOrForgets, TidiesTold}
+use Rattle.usb_host.specs.{was_tidied, was_looked_at, was_lost, looked_once, lost_once, CutAt}
+use Rattle.usb_host.specs.{StaysWhere}
+use Rattle.std.specs.BTreeMap.{insert_entry}
+use Rattle.usb_port.proofs.Interface.{parent, rejoined}
+use Rattle.usb_tree.specs.{is_way}
+use Rattle.usb_world.proofs.Interface.{at_or_below_way, way_parent, way_trans, way_itself}
+use Rattle.usb_address.specs.{AddressMap, MapHolds, WhileBusWorks}
+use Rattle.usb_hub.specs.{HubPort, IsAt, CommandsPort, PortCallDone, PortStatusAt}
+use Rattle.usb_enum.specs.{EnumFault, ParentLost, Bus, Memory, Lost}
+use Rattle.usb_enum.specs.declared.finding.Finding.TheVariants.{Refused}
+use Rattle.usb_table.specs.{KnownPort, Entries, is_at_or_below, without}
+use Rattle.usb_host.proofs.devices.Owners.{owned_rests}
+use Rattle.usb_host.proofs.StepSums.{host_rests_then, went_before}
+use Rattle.usb_host.proofs.knowledge.HandledPorts.{rests_stands}
+use Rattle.usb_host.proofs.knowledge.SettledListings.{port_number}
+use Rattle.usb_host.proofs.PortLocations.{stands_at-claim}
+use Rattle.usb_host.proofs.devices.Pipes.{AllStay, stays_where, where_joined}
+
+-- How what a hub reported is handled.
+
+-- A bit of a byte
+
+pub bit_so : (bits n : ℕ) → bit_and (bits / 2 ^ n) 1 ≡ 1 → has_bit bits n ≡ true
+unfolding has_bit
+bit_so bits n is = eq-eqb (bits / 2 ^ n % 2) 1 (sym (and_mask (bits / 2 ^ n) 1) ∙ is)
+
+pub bit_not : (bits n : ℕ) → bit_and (bits / 2 ^ n) 1 ≢ 1 → has_bit bits n ≡ false
+unfolding has_bit
+bit_not bits n not = ne_eqb (bits / 2 ^ n % 2) 1 (λ is. not (and_mask (bits / 2 ^ n) 1 ∙ is))
+
+-- a poll that failed took an attempt, where it was not the bus that failed
+pub failed_more : (old new : World) (fault : PipeFault) → ((told : _) → fault ≡ pipe.Bus told → ⊥)
+    → FaultAfter 0 old fault new → old.attempts + 1 ≤ new.attempts
+failed_more old new pipe.Broken other x = absurd x
+failed_more old new (pipe.Bus told) other x = absurd (other told refl)
+failed_more old new _ other x = omega (arith, x.least)
+
+-- What a hub reported is handled
+
+pub own_reports : (hub : List ℕ) (bits : ℕ) (result : Result (Unit {0}) HostFault)
+    (old new : HostState) → bits ≡ 1 → OnOk result (OwnServed hub old new)
+    → OnOk result (ReportHandled hub bits old new)
+own_reports hub bits (Ok done) old new is own = own_reported is own
+own_reports hub bits (Err fault) old new is own = tt
+
+pub ports_report : (hub : List ℕ) (bits : ℕ) (result : Result (Unit {0}) HostFault)
+    (old new : HostState) → bits ≢ 1 → OnOk result (BitsHandledSo hub bits 16 old new)
+    → OnOk result (ReportHandled hub bits old new)
+ports_report hub bits (Ok done) old new other ports = ports_reported other ports
+ports_report hub bits (Err fault) old new other ports = tt
+
+-- How the parts of a port's handling make up what was done at the port.
+
+-- Requests
+
+-- a call that succeeded was done at its port
+pub call_done : {port : HubPort} {c : PortCall} {old new : World} → (is_reset c ≡ true → ⊥)
+    → CommandsPort port (Some c) old (Ok tt) new → (f : AddressMap) (p : List ℕ) → IsAt f port p
+    → WhileBusWorks (MapHolds f) old → PortCallDone p c old new
+call_done {c = c} other calls f p at owned =
+    calls.done f p c (record {
+      at = at;
+      is = refl;
+      alone = λ resets. absurd (other resets);
+      owned = owned;
+    }) refl
+
+pub done_not : {b : Bool} (p : List ℕ) (c : PortCall) (old new : World) → b ≡ false → new ≡ old
+    → DoneWhere b p c old new
+done_not p c _ _ is same = rw is same
+
+-- Entries
+
+-- what is taken out below a path goes with the path
+pub without-way : (lost path : List ℕ) → is_way lost path ≡ true → (es : Entries)
+    → without lost (without path es) ≡ without lost es
+without-way _ _ _ [] = refl
+without-way lost path way (e ∷ es) =
+    let rest = without-way lost path way es in
+    elim (decided (is_at_or_below e.0 path)) [
+      | inl at ↦
+          let goes : is_at_or_below e.0 lost ≡ true = at_or_below_way e.0 lost
+          ∙ way_trans lost path e.0 way (sym (at_or_below_way e.0 path) ∙ at) in
+          rw (at, goes) rest
+      | inr off ↦ rw off (elim (decided (is_at_or_below e.0 lost)) [
+        | inl on ↦ rw on rest
+        | inr away ↦ rw away (ap (λ (l : Entries). e ∷ l) rest)
+      ])
+    ]
+
+-- a hub above the port is lost, whatever was forgotten at the port before
+pub loses_then : (path : List ℕ) (old : Entries) {mid new : Entries} → StaysOrForgets path old mid
+    → LosesParent path mid new → LosesParent path old new
+loses_then path old {new = new} (inl same) x = rw same at x
+loses_then path old {mid = mid} (inr gone) x =
+    let way = way_trans x.loses.path x.hub path x.loses.above (way_parent path _ x.parent) in
+    let left : without x.loses.path mid ≡ without x.loses.path old =
+    ap (λ (es : Entries). without x.loses.path es) gone ∙ without-way x.loses.path path way old in
+    record {
+      hub = x.hub;
+      parent = x.parent;
+      loses = record {
+        path = x.loses.path;
+        above = x.loses.above;
+        entries = x.loses.entries ∙ ap
+            (λ (es : Entries). insert_entry path_cmp es x.loses.path (Refused Lost)) left;
+      };
+    }
+
+pub renews_by : {b : Bool} (path : List ℕ) (old new : Entries) {c : Bool} → b ≡ c
+    → Renews c path old new → Renews b path old new
+renews_by _ _ _ is x = rw is x
+
+-- A port
+
+module _ {path : List ℕ} {port : KnownPort} {a b : HostState} (s : StandsAt path port a)
+    (r : OnlyBusSteps a b) {n : ℕ} (went : HostSteps n a b) (o : IsOwned a) where
+  stays : b.entries ≡ a.entries
+  stays = ap (λ (h : HostState). h.entries) r
+
+  -- the hub was lost as it was asked for the status
+  pub status_failed : (fault : EnumFault) → ServedOrLost path a (Err fault) b
+  status_failed fault = inl stays
+
+  pub cleared_failed : (fault : EnumFault) → LookedOrLost path a (Err fault) b
+  cleared_failed _ = inl stays
+
+  module _ {status : PortStatus} (x : Watches port.port a.world (Ok status) b.world) where
+    told_now : PortStatusAt path status a.world b.world
+    told_now = x.told (claims a.entries) path (stands_at-claim s) o status refl
+
+    owned_now : IsOwned b
+    owned_now = owned_rests a r x.addresses o
+
+    -- no change of connection was told
+    pub serves_tidied : status.connection_changed ≡ false
+        → (result : Result (Unit {0}) EnumFault) (c : HostState) → OnlyBusSteps b c
+        → TidiesTold port.port status b result c → ServedOrLost path a result c
+    serves_tidied off (Ok done) c q t = was_tidied (record {
+      status = status;
+      mid = b.world;
+      told = told_now;
+      steady = off;
+      clears = t.clears (claims b.entries) path (stands_at-claim (rests_stands s r went)) owned_now;
+      rests = host_rests_then a c r q;
+    })
+    serves_tidied off (Err fault) c q t =
+        inl (ap (λ (h : HostState). h.entries) (host_rests_then a c r q))
+
+    -- one was
+    pub serves_looked : status.connection_changed ≡ true
+        → (result : Result (Unit {0}) EnumFault) (c : HostState)
+        → (IsOwned b → LookedOrLost path b result c) → ServedOrLost path a result c
+    serves_looked on (Ok done) c x = was_looked_at _ b told_now on r (x owned_now)
+    serves_looked on (Err fault) c x = rw stays at (x owned_now)
+
+-- what stood there was forgotten, and no more was done
+pub found_failed : (path : List ℕ) (a c d : HostState) (fault : EnumFault)
+    → c.entries ≡ without path a.entries → d.entries ≡ c.entries → LookedOrLost path a (Err fault) d
+found_failed path a c d fault gone same = inr (same ∙ gone)
+
+-- A port was handled
+
+pub handled_at : (path : List ℕ) (served : Result (Unit {0}) EnumFault)
+    (result : Result (Unit {0}) HostFault) (a b c : HostState) → EndsAs served result
+    → EndsAt path served b result c → ServedOrLost path a served b → OnOk result (ServedAt path a c)
+handled_at path (Ok done) (Ok x) a b c ends left s = rw left s
+handled_at path (Err ParentLost) (Ok x) a b c ends left s =
+    was_lost (loses_then _ a.entries s left)
+handled_at path (Err (Bus fault)) (Ok x) a b c ends left s = absurd (cc ends)
+handled_at path (Err Memory) (Ok x) a b c ends left s = absurd (cc ends)
+handled_at path _ _ a b c ends left s = tt
+
+pub handled_once : (path : List ℕ) (looked : Result (Unit {0}) EnumFault) (a b c : HostState)
+    → EndsAs looked (Ok tt) → EndsAt path looked b (Ok tt) c → LookedOrLost path a looked b
+    → LookedOnce path a c
+handled_once _ (Ok _) a b c _ left s = looked_once (rw left s)
+handled_once _ (Err ParentLost) a b c _ left s = lost_once (loses_then _ a.entries s left)
+handled_once path _ a b c ends left s = absurd (cc ends)
+
+pub handles_at : (path : List ℕ) (due : Type 0) (result : Result (Unit {0}) HostFault)
+    (a c : HostState) → OnOk result (due → HostProgress a c)
+    → (HostInvariant a → OnOk result (ServedAt path a c)) → OnOk result (HandledSo path a c)
+    → OnOk result (HandlesAt path due a c)
+handles_at _ _ (Ok _) a c x y z = record { advances = x; served = y; order = z }
+handles_at _ _ (Err _) a c x y z = tt
+
+-- a hub that was dropped is the port's own, or stands above it; so does one that could not be
+pub loses_parent : (path hub : List ℕ) (old new : Entries) (result : Result (Unit {0}) HostFault)
+    → parent_of path ≡ Some hub → OnOk result (HasLost hub old new)
+    → OnErr result (ForgetsOnWay hub old new)
+    → MatchResult result (λ _. LosesParent path old new) (λ _. ForgetsOnWay path old new)
+loses_parent path hub old new (Ok done) above x y = record { hub = hub; parent = above; loses = x }
+loses_parent path hub old new (Err fault) above x y = record {
+  on = y.on;
+  way = way_trans y.on hub path y.way (way_parent path _ above);
+  left = y.left;
+}
+
+pub same_last : (q : List ℕ) {m n : ℕ} → q ++ m ∷ [] ≡ q ++ n ∷ [] → m ≡ n
+same_last [] e = cc e
+same_last (i ∷ q) e = same_last q (cc e)
+
+-- a path that ends in a port's number goes on to it from a shorter one
+pub pushed_part : (hub : List ℕ) (number : ℕ) → 1 ≤ length hub → IsPath (hub ++ (number ∷ []))
+    → IsPortNumber number × (length hub < 7)
+pushed_part hub number least is =
+    let long : length (hub ++ (number ∷ [])) ≡ length hub + 1 = length-append hub (number ∷ []) in
+    let last = same_last hub {m = number} {n = port_on_hub (hub ++ (number ∷ []))}
+    (rejoined (hub ++ (number ∷ [])) _ (parent hub number least)) in (
+      rw last (port_number (hub ++ (number ∷ [])) is),
+      omega (arith, is.1),
+    )
+
+-- What is left at a port where the host stopped.
+
+pub on_errors : {A E : Type 0} (result : Result A E) (P : Type 0) → P → OnErr result P
+on_errors (Ok done) P p = tt
+on_errors (Err why) P p = p
+
+-- the host stopped after a part
+pub cut_after : (So : Type 0) {a b : HostState} (c : HostState)
+    (result : Result (Unit {0}) EnumFault) → AllStay a b → OnErr result (StaysWhere So b c)
+    → OnErr result (StaysWhere So a c)
+cut_after So c (Ok done) first last = tt
+cut_after So {a = a} {b = b} c (Err fault) first last =
+    where_joined a b c (λ so. so) (stays_where a b first) last
+
+-- Entries
+
+-- nothing is forgotten, or what stood at the path
+pub forgets_there : (path : List ℕ) {old new : Entries} → StaysOrForgets path old new
+    → ForgetsOnWay path old new
+forgets_there path x = record { on = path; way = way_itself path; left = x }
+
+-- what stood at a path, and then on its way
+forgets_then : (path : List ℕ) (old : Entries) {mid new : Entries} → StaysOrForgets path old mid
+    → ForgetsOnWay path mid new → ForgetsOnWay path old new
+forgets_then path old (inl same) x = rw same at x
+forgets_then path old {mid = mid} {new = new} (inr gone) x = pick x.left
+  where
+    pick : StaysOrForgets x.on mid new → ForgetsOnWay path old new
+    pick (inl same) = forgets_there path (inr (same ∙ gone))
+    pick (inr went) = record {
+      on = x.on;
+      way = x.way;
+      left = inr (went ∙ ap (λ (es : Entries). without x.on es) gone ∙ without-way x.on path x.way
+          old);
+    }
+
+pub served_left : (path : List ℕ) (served : Result (Unit {0}) EnumFault) (a b : HostState)
+    → ServedOrLost path a served b → OnErr served (StaysOrForgets path a.entries b.entries)
+served_left path (Ok done) a b x = tt
+served_left path (Err fault) a b x = x
+
+pub looked_left : (path : List ℕ) (looked : Result (Unit {0}) EnumFault) (a b : HostState)
+    → LookedOrLost path a looked b → OnErr looked (StaysOrForgets path a.entries b.entries)
+looked_left path (Ok done) a b x = tt
+looked_left path (Err fault) a b x = x
+
+cut_entries : (path : List ℕ) (served : Result (Unit {0}) EnumFault) (fault : HostFault)
+    (a b d : HostState) → EndsAs served (Err fault) → EndsAt path served b (Err fault) d
+    → OnErr served (StaysOrForgets path a.entries b.entries)
+    → ForgetsOnWay path a.entries d.entries
+cut_entries path (Ok done) fault a b d ends left x = absurd (cc ends)
+cut_entries path (Err ParentLost) fault a b d ends left x = forgets_then path a.entries x left
+cut_entries path (Err (Bus why)) fault a b d ends left x = rw left (forgets_there path x)
+cut_entries path (Err Memory) fault a b d ends left x = rw left (forgets_there path x)
+
+-- Bulk pipes
+
+cut_bulk : (n : ℕ) (served : Result (Unit {0}) EnumFault) (fault : HostFault) (a b d : HostState)
+    → HostSteps n b d → EndsAs served (Err fault)
+    → OnErr served (StaysWhere (b.world.fault ≡ None) a b)
+    → StaysWhere (d.world.fault ≡ None) b d → StaysWhere (d.world.fault ≡ None) a d
+cut_bulk n (Ok done) fault a b d went ends x y = absurd (cc ends)
+cut_bulk n (Err why) fault a b d went ends x y =
+    where_joined a b d (λ still. went_before went still) x y
+
+-- A port was served, and its hub dropped where that was lost; one of them failed
+
+pub port_cut : {n : ℕ} (path : List ℕ) (served : Result (Unit {0}) EnumFault)
+    (result : Result (Unit {0}) HostFault) (a b d : HostState) → HostSteps n b d
+    → EndsAs served result → EndsAt path served b result d
+    → (HostInvariant a → OnErr served (StaysOrForgets path a.entries b.entries))
+    → (HostInvariant a → OnErr served (StaysWhere (b.world.fault ≡ None) a b))
+    → (HostInvariant a → OnErr result (StaysWhere (d.world.fault ≡ None) b d))
+    → OnErr result (HostInvariant a → CutAt path a d)
+port_cut path served (Ok done) a b d went ends left entries first last = tt
+port_cut {n = n} path served (Err fault) a b d went ends left entries first last = λ i. record {
+  entries = cut_entries path served fault a b d ends left (entries i);
+  bulk = cut_bulk n served fault a b d went ends (first i) (last i);
+}

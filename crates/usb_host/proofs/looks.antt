@@ -1,4 +1,0 @@
--- Looks at ports.
-pub mod LookCalls
-pub mod NearEntries
-pub mod OverPorts
