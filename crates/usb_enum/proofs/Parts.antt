@@ -7,7 +7,7 @@ use Rattle.std.specs.Prelude.{⊤}
 use Rattle.usb_request.specs.{Setup, set_address, set_configuration}
 use Rattle.usb_device.specs.{Spec}
 use Rattle.usb_world.specs.{BusFault, EachWas, World}
-use Rattle.usb_bus.specs.{StepRun, Steps}
+use Rattle.usb_bus.specs.{Steps}
 use Rattle.usb_bus.proofs.Interface.{went_none, went_wider}
 use Rattle.usb_transaction.specs.{Target}
 use Rattle.usb_address.specs.{KeepsAddresses}
@@ -18,37 +18,28 @@ use Rattle.usb_hub.specs.{ConfigurationAsked, EndsAfter, WorksAfter}
 use Rattle.usb_hub.proofs.Interface.{ended_works}
 use Rattle.usb_enum.specs.{AtPort, read_bound, OnlyAsks, OnlySets, OnlyTells, FailsAt, Gone, Cause}
 use Rattle.usb_enum.specs.{EnumFault, IsReportedStop, Part, Stop, StopNotOfBus, answered_or}
-use Rattle.usb_enum.specs.{as_stop, at_port, stop_in}
-use Rattle.usb_enum.proofs.courses.Counts.{went_on_more}
+use Rattle.usb_enum.specs.{as_stop, at_port, stop_in, Went}
+use Rattle.usb_enum.proofs.courses.Courses.{keeping, went_on_more, went_steps}
 use Rattle.usb_enum.proofs.devices.Frames.{asks_none, asks_then, at_addressed, at_port_none}
 use Rattle.usb_enum.proofs.devices.Frames.{at_port_then, configuration_sets, sets_asked, sets_then}
 use Rattle.usb_enum.proofs.devices.Frames.{tells_none, tells_then, answer_asks}
-use Rattle.usb_enum.proofs.ports.WorkingBuses.{answer_works, at_port_works}
+use Rattle.usb_enum.proofs.stops.PlainStops.{answer_works, at_port_works, answers_reported}
+use Rattle.usb_enum.proofs.stops.PlainStops.{port_reported}
 use Rattle.usb_enum.proofs.refusals.Refusals.{failed as handed}
 use Rattle.usb_enum.proofs.stops.Reasons.{AtPortFails, call_ends}
-use Rattle.usb_enum.proofs.stops.ReportedFaults.{answers_reported, port_reported}
 
 -- What is kept where nothing went, and from one part to the next
 
 pub record Keeping (Keeps : World → World → Type 0) : Type 0 where
   pub none : (w : World) → Keeps w w
-  pub joined : (m n : ℕ) (old mid new : World) {q r s : Option (List ℕ)} → Keeps old mid
-      → StepRun m old q mid r → StepRun n mid r new s → Keeps mid new → Keeps old new
-
-asks_joined : (m n : ℕ) (old mid new : World) {q r s : Option (List ℕ)} → OnlyAsks old mid
-    → StepRun m old q mid r → StepRun n mid r new s → OnlyAsks mid new → OnlyAsks old new
-asks_joined m n old mid new a first went b = asks_then n old mid new a went b
+  pub joined : (old mid new : World) → Keeps old mid → Went old mid → Went mid new
+      → Keeps mid new → Keeps old new
 
 pub asking : Keeping OnlyAsks
-asking = record { none = asks_none; joined = asks_joined }
-
-tells_joined : (address m n : ℕ) (old mid new : World) {q r s : Option (List ℕ)}
-    → OnlyTells address old mid → StepRun m old q mid r → StepRun n mid r new s
-    → OnlyTells address mid new → OnlyTells address old new
-tells_joined address m n old mid new a first went b = tells_then address n old mid new a went b
+asking = record { none = asks_none; joined = asks_then }
 
 pub telling : (address : ℕ) → Keeping (OnlyTells address)
-telling address = record { none = tells_none address; joined = tells_joined address }
+telling address = record { none = tells_none address; joined = tells_then address }
 
 pub setting : (address : ℕ) → Keeping (OnlySets address)
 setting address = record {
@@ -56,16 +47,10 @@ setting address = record {
   joined = sets_then address;
 }
 
-at_port_joined : (port : HubPort) (address m n : ℕ) (old mid new : World)
-    {q r s : Option (List ℕ)} → AtPort port address old mid → StepRun m old q mid r
-    → StepRun n mid r new s → AtPort port address mid new → AtPort port address old new
-at_port_joined port address m n old mid new a first went b =
-    at_port_then port address n old mid new a went b
-
 pub enumerating : (port : HubPort) (address : ℕ) → Keeping (AtPort port address)
 enumerating port address = record {
   none = at_port_none port address;
-  joined = at_port_joined port address;
+  joined = λ old mid new a first next b. at_port_then port address old mid new a next b;
 }
 
 module _ {S : Type 0} {modelled : Bool} {world : S → World} {trace : S → Option (List ℕ)}
@@ -74,13 +59,10 @@ module _ {S : Type 0} {modelled : Bool} {world : S → World} {trace : S → Opt
 
   pub gone_none : {K : World → World → Type 0} (n : ℕ) {old : S} → Keeping K
       → Gone modelled world trace spent ports failed K n old None old
-  gone_none n {old} keeping = record {
+  gone_none n {old} kept = record {
     spends = (omega arith, refl);
     told = tt;
-    steps = λ known. record {
-      went = went_wider 0 n went_none (omega arith);
-      keeps = keeping.none (world old);
-    };
+    steps = λ known. keeping (went_wider 0 n went_none (omega arith)) (kept.none (world old));
     works = λ known sound none. none;
   }
 
@@ -90,15 +72,12 @@ module _ {S : Type 0} {modelled : Bool} {world : S → World} {trace : S → Opt
       → Gone modelled world trace spent ports failed L n mid stop new
       → (modelled ≡ true → M (world old) (world new)) → m + n ≤ k
       → Gone modelled world trace spent ports failed M k old stop new
-  gone_behind {m} {n} {k} {old} {mid} {new} first next keeps le =
+  gone_behind {k} first next keeps le =
       record {
         spends = (omega (arith, first.spends.0, next.spends.0, le), next.spends.1 ∙ first.spends.1);
         told = next.told;
-        steps = λ known. record {
-          went = went_on_more k m n (world old) (world mid) (world new) (first.steps known).went
-              (next.steps known).went le;
-          keeps = keeps known;
-        };
+        steps = λ known. keeping (went_on_more k
+            (first.steps known).run (next.steps known).run le) (keeps known);
         works = λ known sound none. next.works known sound (first.works known tt none);
       }
 
@@ -106,17 +85,17 @@ module _ {S : Type 0} {modelled : Bool} {world : S → World} {trace : S → Opt
       → Keeping K → Gone modelled world trace spent ports failed K m old None mid
       → Gone modelled world trace spent ports failed K n mid stop new → m + n ≤ k
       → Gone modelled world trace spent ports failed K k old stop new
-  gone_then {m} {n} {old} {mid} {new} keeping first next =
+  gone_then {old} {mid} {new} kept first next =
       gone_behind first next (λ known.
       let a = first.steps known in
       let b = next.steps known in
-      keeping.joined m n (world old) (world mid) (world new) a.keeps a.went b.went b.keeps)
+      kept.joined (world old) (world mid) (world new) a.keeps a.went b.went b.keeps)
 
   pub gone_joined : {K : World → World → Type 0} {m n : ℕ} {old mid new : S} {stop : Option Stop}
       → Keeping K → Gone modelled world trace spent ports failed K m old None mid
       → Gone modelled world trace spent ports failed K n mid stop new
       → Gone modelled world trace spent ports failed K (m + n) old stop new
-  gone_joined keeping first next = gone_then keeping first next (omega arith)
+  gone_joined kept first next = gone_then kept first next (omega arith)
 
   pub gone_wider : {K : World → World → Type 0} {m n : ℕ} {old new : S} {stop : Option Stop}
       → Gone modelled world trace spent ports failed K m old stop new → m ≤ n
@@ -124,31 +103,30 @@ module _ {S : Type 0} {modelled : Bool} {world : S → World} {trace : S → Opt
   gone_wider {m} {n} gone le = record {
     spends = (omega (arith, gone.spends.0, le), gone.spends.1);
     told = gone.told;
-    steps = λ known. record {
-      went = went_wider m n (gone.steps known).went le;
-      keeps = (gone.steps known).keeps;
-    };
+    steps = λ known. keeping (went_wider m n (gone.steps known).run le) (gone.steps known).keeps;
     works = gone.works;
   }
 
   -- so many times the same, once more, and no more than there may be
-  pub gone_again : {K : World → World → Type 0} (k n : ℕ) {old mid new : S} {stop : Option Stop}
-      → Keeping K → Gone modelled world trace spent ports failed K (k * n) old None mid
+  pub gone_again : {K : World → World → Type 0} (k : ℕ) {n : ℕ} {old mid new : S}
+      {stop : Option Stop} → Keeping K
+      → Gone modelled world trace spent ports failed K (k * n) old None mid
       → Gone modelled world trace spent ports failed K n mid stop new
       → Gone modelled world trace spent ports failed K ((k + 1) * n) old stop new
-  gone_again k n keeping first next = gone_then keeping first next (omega (arith, suc-mul k n))
+  gone_again k {n} kept first next = gone_then kept first next (omega (arith, suc-mul k n))
 
   pub gone_times : {K : World → World → Type 0} (k m n : ℕ) {old new : S} {stop : Option Stop}
       → Gone modelled world trace spent ports failed K (k * n) old stop new → k ≤ m
       → Gone modelled world trace spent ports failed K (m * n) old stop new
   gone_times k m n gone le = gone_wider gone (mul-le-mul_right n le)
 
-  pub gone_more : {K : World → World → Type 0} (k m n : ℕ) {old mid new : S} {stop : Option Stop}
-      → Keeping K → Gone modelled world trace spent ports failed K (k * n) old None mid
+  pub gone_more : {K : World → World → Type 0} (k m : ℕ) {n : ℕ} {old mid new : S}
+      {stop : Option Stop} → Keeping K
+      → Gone modelled world trace spent ports failed K (k * n) old None mid
       → Gone modelled world trace spent ports failed K n mid stop new → k < m
       → Gone modelled world trace spent ports failed K (m * n) old stop new
-  gone_more k m n keeping first next less =
-      gone_times (k + 1) m n (gone_again k n keeping first next) (omega (arith, less))
+  gone_more k m {n} kept first next less =
+      gone_times (k + 1) m n (gone_again k kept first next) (omega (arith, less))
 
   -- what is kept keeps something else
   pub gone_as : {K L : World → World → Type 0} {n : ℕ} {old new : S} {stop : Option Stop}
@@ -158,10 +136,8 @@ module _ {S : Type 0} {modelled : Bool} {world : S → World} {trace : S → Opt
   gone_as {old} {new} f gone = record {
     spends = gone.spends;
     told = gone.told;
-    steps = λ known. record {
-      went = (gone.steps known).went;
-      keeps = f (world old) (world new) (gone.steps known).keeps;
-    };
+    steps = λ known. keeping (gone.steps known).run
+        (f (world old) (world new) (gone.steps known).keeps);
     works = gone.works;
   }
 
@@ -208,7 +184,7 @@ module _ {S : Type 0} {modelled : Bool} {world : S → World} {trace : S → Opt
   gone_answered least stalled outcome {old} {new} is uses ends keeps = rw is (record {
     spends = uses.spends;
     told = answers_reported (failed new) stalled outcome uses.told;
-    steps = λ known. record { went = uses.steps known; keeps = keeps known };
+    steps = λ known. keeping (uses.steps known) (keeps known);
     works = λ known. answer_works stalled outcome (world old) (world new)
         (ended_works least outcome (world old) (world new) (ends known));
   })
@@ -216,8 +192,7 @@ module _ {S : Type 0} {modelled : Bool} {world : S → World} {trace : S → Opt
   -- at a maximum packet of 8 or more
   pub uses_read : {Told : Option BusFault → Type 0} (max bytes : ℕ) {old new : S} → 8 ≤ max
       → UsesBus modelled (Steps world trace) spent ports failed (control_bound max bytes) Told old
-      new
-      → UsesBus modelled (Steps world trace) spent ports failed (read_bound bytes) Told old new
+      new → UsesBus modelled (Steps world trace) spent ports failed (read_bound bytes) Told old new
   uses_read {Told} max bytes {old} {new} wide = subst
       (λ n. UsesBus modelled (Steps world trace) spent ports failed n Told old new)
       (bound_wide max bytes wide)
@@ -226,15 +201,12 @@ module _ {S : Type 0} {modelled : Bool} {world : S → World} {trace : S → Opt
   pub gone_asked : (given : Spec → Option (List ℕ)) {t : Target} {request : Setup} {wanted : ℕ}
       (bytes : ℕ) (stalled : Cause) {outcome : Result (Vec ℕ) PipeFault}
       {result : Result (Vec ℕ) Stop} {old new : S} → 8 ≤ t.max
-      → result ≡ answered_or stalled outcome
-      → UsesBus modelled (Steps world trace) spent ports failed (control_bound t.max bytes)
-      (BusToldIt outcome) old new
-      → (modelled ≡ true → Queried t request (world old) outcome (world new))
-      → (modelled ≡ true → (world new).shared ≡ false
-      → EachWas (TextAsked given t wanted outcome) (world old) (world new))
-      → (modelled ≡ true → KeepsAddresses (world old) (world new))
-      → Gone modelled world trace spent ports failed OnlyAsks (read_bound bytes) old
-      (stop_in result) new
+      → result ≡ answered_or stalled outcome → UsesBus modelled (Steps world trace) spent ports
+      failed (control_bound t.max bytes) (BusToldIt outcome) old new
+      → (modelled ≡ true → Queried t request (world old) outcome (world new)) → (modelled ≡ true
+      → (world new).shared ≡ false → EachWas (TextAsked given t wanted outcome) (world old)
+      (world new)) → (modelled ≡ true → KeepsAddresses (world old) (world new)) → Gone modelled
+      world trace spent ports failed OnlyAsks (read_bound bytes) old (stop_in result) new
   gone_asked given {t} bytes stalled {outcome} wide is uses asked what keeps =
       gone_answered 3 stalled outcome is (uses_read t.max bytes wide uses)
       (λ known. (asked known).ends) (λ known. answer_asks (asked known) (what known) (keeps known))
@@ -250,11 +222,11 @@ module _ {S : Type 0} {modelled : Bool} {world : S → World} {trace : S → Opt
       → EachWas (AddressAsked t a outcome (world mid) (world new)) (world mid) (world new))
       → (modelled ≡ true → GivesAddress t.addr a (world mid) (world new))
       → Gone modelled world trace spent ports failed (AtPort p a) (m + n) old (stop_in result) new
-  gone_addressed {p} {a} {n} {t} stalled {outcome} {old} {mid} {new} first zero least is uses
+  gone_addressed stalled {outcome} first zero least is uses
       ordered what gives =
       gone_behind first (gone_answered {K = λ v w. ⊤} 2 stalled outcome is uses
-      (λ known. (ordered known).ends) (λ known. tt)) (λ known. at_addressed p a n t outcome
-      (world old) (world mid) (world new) (first.steps known).keeps zero least (uses.steps known)
+      (λ known. (ordered known).ends) (λ known. tt)) (λ known. at_addressed
+      (first.steps known).keeps zero least (went_steps (uses.steps known))
       (ordered known) (what known) (gives known)) (omega arith)
 
   -- SET_CONFIGURATION
@@ -267,10 +239,9 @@ module _ {S : Type 0} {modelled : Bool} {world : S → World} {trace : S → Opt
       → EachWas (ConfigurationAsked t value outcome (world new)) (world old) (world new))
       → (modelled ≡ true → KeepsAddresses (world old) (world new))
       → Gone modelled world trace spent ports failed (OnlySets t.addr) n old (stop_in result) new
-  gone_set {value} {t} stalled {outcome} {old} {new} is uses ordered what keeps =
+  gone_set {value} stalled {outcome} is uses ordered what keeps =
       gone_answered 2 stalled outcome is uses (λ known. (ordered known).ends)
-      (λ known. configuration_sets t value outcome (world old) (world new) (ordered known)
-      (what known) (keeps known))
+      (λ known. configuration_sets value (ordered known) (what known) (keeps known))
 
   -- Parts
 
@@ -289,18 +260,16 @@ module _ {S : Type 0} {modelled : Bool} {world : S → World} {trace : S → Opt
       (result : Result A EnumFault) (outcome : Result A PipeFault) → result ≡ at_port outcome
       → UsesBus modelled (Steps world trace) spent ports failed n (BusToldIt outcome) old new
       → (modelled ≡ true → IfErr outcome (λ why. FaultAfter 1 (world old) why (world new)))
-      → (modelled ≡ true → (why : PipeFault) → outcome ≡ Err why
-      → AtPortFails port why (world old) (world new))
-      → (modelled ≡ true → WorksAfter outcome (world old) (world new))
-      → (modelled ≡ true → K (world old) (world new))
-      → Part modelled world trace spent ports failed K n (λ v w x. ⊤) (FailsAt port) old
-      (as_stop result) new
+      → (modelled ≡ true → (why : PipeFault) → outcome ≡ Err why → AtPortFails port why (world old)
+      (world new)) → (modelled ≡ true → WorksAfter outcome (world old) (world new))
+      → (modelled ≡ true → K (world old) (world new)) → Part modelled world trace spent ports failed
+      K n (λ v w x. ⊤) (FailsAt port) old (as_stop result) new
   part_called port {old} {new} (Ok done) outcome is uses ends fails works keeps =
       record {
         gone = record {
           spends = uses.spends;
           told = tt;
-          steps = λ known. record { went = uses.steps known; keeps = keeps known };
+          steps = λ known. keeping (uses.steps known) (keeps known);
           works = λ known sound.
               at_port_works (Ok done) outcome (world old) (world new) is (works known);
         };
@@ -311,7 +280,7 @@ module _ {S : Type 0} {modelled : Bool} {world : S → World} {trace : S → Opt
         gone = record {
           spends = uses.spends;
           told = port_reported (failed new) outcome fault uses.told is;
-          steps = λ known. record { went = uses.steps known; keeps = keeps known };
+          steps = λ known. keeping (uses.steps known) (keeps known);
           works = λ known.
               at_port_works (Err fault) outcome (world old) (world new) is (works known);
         };

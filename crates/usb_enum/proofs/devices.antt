@@ -4,4 +4,3 @@ pub mod Frames
 pub mod Presence
 pub mod ReachedDevices
 pub mod SaidBytes
-pub mod SharedAddresses

@@ -47,7 +47,7 @@ pub use Losses.{FewLosses, NoNewStretch}
 pub use Parts.{Answered, Both, FailsAt, Gone, IsDone, KeepingSteps, Part, Read, StopsAt}
 pub use Parts.{StopsConfiguring, StopsDescriptor, StopsExamining, StopsHead, StopsHub, StopsPower}
 pub use Parts.{EndsWithout, StopsRead, StopsStart, StopsText, StopsTexts, StopsWithout}
-pub use Parts.{TakesAddressed}
+pub use Parts.{TakesAddressed, Went}
 pub use Places.{HasEmptyPorts, IsDisabledAt, IsKnownAs, IsOccupied, IsPlaced, IsReachedAt, IsThere}
 pub use PresentDevices.{AnswersSo, AtPath, Awaits, AwaitsAddress, Finds, HasDescriptor, HasHead}
 pub use PresentDevices.{HasReadings, HasSpeed, HasTaken, IsAddressed, IsInOrder, IsOrderly}

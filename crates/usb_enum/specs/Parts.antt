@@ -1,10 +1,11 @@
 -- What a part of an enumeration says: how many attempts it makes, what it keeps of all else, and
 -- what it gives or why it stops.
-use Rattle.std.specs.Prelude.{◌≡◌, ℕ, Bool, true, List, Option, Result, IfSome, MatchResult, ⊤}
+use Rattle.std.specs.Prelude.{◌≡◌, ℕ, Bool, true, false, List, Option, Some, Result, IfSome}
+use Rattle.std.specs.Prelude.{MatchResult, ⊤}
 use Rattle.usb_device.specs.{Spec}
 use Rattle.usb_world.specs.{BusFault, World}
 use Rattle.usb_bus.specs.{Spends, StepRun}
-use Rattle.usb_transaction.specs.{Target}
+use Rattle.usb_transaction.specs.{NoThreeDamaged, Target}
 use Rattle.usb_hub.specs.{HubPort, StillWorks}
 use Rattle.usb_enum.specs.declared.addressed.Addressed.{Addressed}
 use Rattle.usb_enum.specs.declared.cause.Cause.{Cause}
@@ -13,8 +14,9 @@ use Rattle.usb_enum.specs.declared.stop.Stop.{Stop}
 use Rattle.usb_enum.specs.declared.stop.Stop.TheVariants.{Refused, Fault}
 use Rattle.usb_enum.specs.FairEnumerations.{StopsFairly}
 use Rattle.usb_enum.specs.Frames.{OnlyAsks}
+use Rattle.usb_enum.specs.LastRequests.{Leads}
 use Rattle.usb_enum.specs.LearnedFacts.{FailureReason, ExplainsSet, DeviceFact}
-use Rattle.usb_enum.specs.PresentDevices.{HasTaken}
+use Rattle.usb_enum.specs.PresentDevices.{HasTaken, IsInOrder}
 use Rattle.usb_enum.specs.Readings.{AtMaximum}
 use Rattle.usb_enum.specs.Reasons.{DescriptorRead, FaultBy, CauseAllowed, CauseAllowedAt}
 use Rattle.usb_enum.specs.Reasons.{StoppedWithout, StopsAtPort, StopsDevice, CauseAllowedAtStart}
@@ -26,10 +28,20 @@ use Rattle.usb_enum.specs.Refusals.{unaddressed_fault, whole_fault}
 use Rattle.usb_enum.specs.Said.{Says}
 use Rattle.usb_enum.specs.Stops.{IsReportedStop, NotOfBus, stop_in}
 
+-- steps went: order stays, no address that is shared is unshared again, damages stay the same, and
+-- a bus that gave up has given up
+pub record Went (old new : World) : Type 0 where
+  pub led : Leads old new
+  pub order : IsInOrder old → IsInOrder new
+  pub unshared : new.shared ≡ false → old.shared ≡ false
+  pub three : NoThreeDamaged old → NoThreeDamaged new
+  pub faulted : (fault : BusFault) → old.fault ≡ Some fault → new.fault ≡ Some fault
+
 -- at most so many attempts were made, and this was kept
 pub record KeepingSteps (Keeps : World → World → Type 0) (most : ℕ) (old : World)
     (before : Option (List ℕ)) (new : World) (now : Option (List ℕ)) : Type 0 where
-  pub went : StepRun most old before new now
+  pub run : StepRun most old before new now
+  pub went : Went old new
   pub keeps : Keeps old new
 
 -- What went over a bus until something stopped it, or nothing did. Of one that does what its world

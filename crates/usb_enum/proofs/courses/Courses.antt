@@ -1,11 +1,16 @@
--- What went between two states of a bus that is at work, as a course of steps.
+-- What went between two states of a bus: as a course of steps, what it keeps, and how it joins.
 use Rattle.std.proofs.Common.{◌≡◌, ℕ, List, Option, None, Some, Result, Ok, Err, refl, ap, sym}
-use Rattle.std.proofs.Common.{subst, ◌∙◌}
-use Rattle.usb_world.specs.{Attempt, BusFault, Outcome, Step, AnyStep, Course}
-use Rattle.usb_world.specs.{here, attempt, root_call, after, World}
-use Rattle.usb_world.proofs.Interface.{between_course, course_then}
+use Rattle.std.proofs.Common.{subst, ◌∙◌, false, ◌+◌, ◌≤◌}
+use Rattle.usb_world.specs.{Attempt, BusFault, Outcome, Step, AnyStep, Course, here, attempt}
+use Rattle.usb_world.specs.{root_call, after, World, after_event, with_attempt, at_attempt}
+use Rattle.usb_world.proofs.Interface.{between_course, course_then, course_joined}
 use Rattle.usb_bus.specs.{Attempts, Traced, still, attempted, called, StepRun}
-use Rattle.usb_enum.specs.{IsInOrder, IsOrderly, IsRegular}
+use Rattle.usb_enum.specs.{IsInOrder, IsOrderly, IsRegular, KeepingSteps, Leads, Went}
+use Rattle.usb_transaction.specs.{NoThreeDamaged}
+use Rattle.usb_pipe.proofs.Interface.{never_three}
+use Rattle.usb_bus.proofs.Interface.{OverFaults, over_traced, went_then, went_wider}
+use Rattle.usb_device.specs.{held_addresses, repeats}
+use Rattle.usb_tree.proofs.Interface.{neither}
 
 -- the bus was at work, and these were its steps
 pub record AtWork (old new : World) : Type 0 where
@@ -26,8 +31,8 @@ sound_before w v result h again = split w.fault refl
     split (Some fault) e = ap (λ (u : World). u.fault) (sym (again fault e).1) ∙ h
 
 pub attempt_sound : {a : Attempt} {w v : World} {t s : Option (List ℕ)}
-    (result : Result Outcome BusFault) → Attempts a w t result v s → v.fault ≡ None → w.fault ≡ None
-attempt_sound {w} {v} result made h = sound_before w v result h made.counts.again
+    {result : Result Outcome BusFault} → Attempts a w t result v s → v.fault ≡ None → w.fault ≡ None
+attempt_sound {w} {v} {result} made h = sound_before w v result h made.counts.again
 
 pub attempt_after : {a : Attempt} {w v : World} {t s : Option (List ℕ)}
     (result : Result Outcome BusFault) → Attempts a w t result v s → v.fault ≡ None
@@ -40,7 +45,7 @@ pub traced_only_later : {old : World} {t : Option (List ℕ)} {new : World} {s :
 unfolding after
 traced_only_later {old} still h = record { sound = h; course = here old }
 traced_only_later {old} (attempted a result fits before made) h =
-    let work = traced_only_later before (attempt_sound result made h) in
+    let work = traced_only_later before (attempt_sound made h) in
     record {
       sound = work.sound;
       course =
@@ -88,9 +93,80 @@ pub went_in_order : (n : ℕ) (old new : World) {t s : Option (List ℕ)} → St
     → IsInOrder old → IsInOrder new
 went_in_order n old new went = traced_in_order went.traced
 
-pub went_regular : (n : ℕ) (old new : World) {t s : Option (List ℕ)} → StepRun n old t new s
-    → IsRegular old → IsRegular new
-went_regular n old new went = went_in_order n old new went
-
 pub regular_order : {w : World} → IsInOrder w → IsRegular w
 regular_order order = order
+
+same_damages : OverFaults (λ w v. v.damages ≡ w.damages)
+unfolding after_event with_attempt
+same_damages = record {
+  steps = record {
+    events = record { same = λ w. refl; joined = λ w m v x y. y ∙ x; came = λ e es w l. refl };
+    made = λ a w made k. refl;
+    root = λ c n w k. refl;
+    refused = λ w. refl;
+  };
+  cut = λ k w. refl;
+  told = λ fault w. refl;
+}
+
+pub went_three : (n : ℕ) (old new : World) {t s : Option (List ℕ)} → StepRun n old t new s
+    → NoThreeDamaged old → NoThreeDamaged new
+went_three n old new went = never_three old new (over_traced same_damages went.traced)
+
+unshared_back : OverFaults (λ w v. v.shared ≡ false → w.shared ≡ false)
+unfolding after_event with_attempt
+unshared_back = record {
+  steps = record {
+    events = record { same = λ w h. h; joined = λ w m v x y h. x (y h); came = λ e es w l h. h };
+    made = λ a w made k h. (neither (at_attempt w).shared
+        (repeats (held_addresses (at_attempt w).roots)) h).0;
+    root = λ c n w k h. h;
+    refused = λ w h. h;
+  };
+  cut = λ k w h. (neither w.shared (repeats (held_addresses w.roots)) h).0;
+  told = λ fault w h. h;
+}
+
+pub went_unshared : {n : ℕ} {old new : World} {t s : Option (List ℕ)} → StepRun n old t new s
+    → new.shared ≡ false → old.shared ≡ false
+went_unshared went = over_traced unshared_back went.traced
+
+-- What led to a last request
+
+pub leads_none : (w : World) → Leads w w
+leads_none w = record { sound = λ none. none; course = λ none. here w }
+
+pub leads_then : {old mid new : World} → Leads old mid → Leads mid new → Leads old new
+leads_then first next = record {
+  sound = λ none. first.sound (next.sound none);
+  course = λ none. course_joined (first.course (next.sound none)) (next.course none);
+}
+
+-- What went
+
+pub went_steps : {n : ℕ} {old new : World} {a b : Option (List ℕ)} → StepRun n old a new b
+    → Went old new
+went_steps {n} {old} {new} run = record {
+  led = record { sound = went_sound n old new run; course = went_course n old new run };
+  order = traced_in_order run.traced;
+  unshared = went_unshared run;
+  three = went_three n old new run;
+  faulted = λ fault before. (traced_faulted run.traced fault before).1;
+}
+
+pub went_on : {old mid new : World} → Went old mid → Went mid new → Went old new
+went_on first next = record {
+  led = leads_then first.led next.led;
+  order = λ order. next.order (first.order order);
+  unshared = λ single. first.unshared (next.unshared single);
+  three = λ few. next.three (first.three few);
+  faulted = λ fault before. next.faulted fault (first.faulted fault before);
+}
+
+pub keeping : {K : World → World → Type 0} {n : ℕ} {old new : World} {a b : Option (List ℕ)}
+    → StepRun n old a new b → K old new → KeepingSteps K n old a new b
+keeping run keeps = record { run = run; went = went_steps run; keeps = keeps }
+
+pub went_on_more : (k : ℕ) {m n : ℕ} {a b c : World} {t r s : Option (List ℕ)} → StepRun m a t b r
+    → StepRun n b r c s → m + n ≤ k → StepRun k a t c s
+went_on_more k {m} {n} p q le = went_wider (m + n) k (went_then m n p q) le

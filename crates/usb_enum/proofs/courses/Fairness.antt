@@ -1,20 +1,16 @@
 -- What stays fair in an enumeration from one call to the next, and when a hub is lost.
 use Rattle.std.proofs.Common.{◌≡◌, ◌≢◌, ◌⊎◌, inl, inr, ◌≤◌, ◌&&◌, ◌||◌, not, if◌then◌else◌, ◌==◌, ℕ}
-use Rattle.std.proofs.Common.{zero, suc, true, false, List, [], ◌∷◌, ◌++◌, Option, None, Some}
-use Rattle.std.proofs.Common.{is_some, option_map, Result, Ok, Err, refl, ap, sym, subst, ◌∙◌}
-use Rattle.std.proofs.Common.{IsSome, IsSomeAnd}
+use Rattle.std.proofs.Common.{true, false, List, [], ◌∷◌, ◌++◌, Option, None, Some, is_some}
+use Rattle.std.proofs.Common.{option_map, Result, Ok, Err, refl, ap, sym, subst, ◌∙◌, IsSomeAnd}
 use Rattle.std.proofs.lemmas.Option.{same_Some}
-use Rattle.usb_port.specs.{parent_of, PortState, PortCall}
+use Rattle.usb_port.specs.{parent_of, PortCall}
 use Rattle.usb_port.proofs.Interface.{parent}
-use Rattle.usb_device.specs.{State, Ports, vacant, taken, state_at, port_at, Location}
-use Rattle.usb_device.specs.{path_to, reach_on, state_on, state_there, port_there, Spec}
+use Rattle.usb_device.specs.{State, Location, path_to, reach_on, state_on, state_there, Spec}
 use Rattle.usb_world.specs.{KeepsPendingAt, Was, spec_of, LeavesPortAlone, SameAt, Consistent}
 use Rattle.usb_world.specs.{Course, World}
 use Rattle.usb_tree.specs.{is_way, has_power, pending, deep_at}
 use Rattle.usb_world.proofs.Interface.{course_wider, pending_persists, reach_live, rests_or_pends}
 use Rattle.usb_world.proofs.Interface.{stands_or_pends}
-use Rattle.usb_tree.proofs.Interface.{false_true}
-use Rattle.usb_bus.specs.{StepRun}
 use Rattle.usb_transaction.specs.{Target, Listens}
 use Rattle.usb_address.specs.{AddressMap}
 use Rattle.usb_address.proofs.Interface.{live_port, not_way, pend_or_live}
@@ -26,10 +22,9 @@ use Rattle.usb_hub.proofs.Interface.{stays-registers, stays-spec}
 use Rattle.usb_enum.specs.{Cause, EnumFault, Stop, IsSpare, AtPort, CalledAt, StatusAt, ServesAt}
 use Rattle.usb_enum.specs.{HasServer, IsFairAt, PendingOr, FaultsFor, StopsFairly, Faulted, OnlyAt}
 use Rattle.usb_enum.specs.{IsOccupied, IsReachedAt, AtPath, at_port, FaultAllowedAt, FaultAllowed}
+use Rattle.usb_enum.specs.{Went}
 use Rattle.usb_enum.specs.declared.fault.EnumFault.TheVariants as fault
 use Rattle.usb_enum.specs.declared.stop.Stop.TheVariants.{Refused, Fault}
-use Rattle.usb_enum.proofs.courses.Courses.{went_sound, went_in_order, went_course}
-use Rattle.usb_enum.proofs.courses.Damages.{went_three}
 use Rattle.usb_enum.proofs.courses.Losses.{few_before}
 use Rattle.usb_enum.proofs.devices.ReachedDevices.{some_of, is_some-value, occupied_on}
 
@@ -111,10 +106,10 @@ module _ (f : AddressMap) (hub : Target) (n : ℕ) (p : List ℕ) (at : IsBelow 
         | inr y ↦ inl y
       ]
 
-pub server_on : (f : AddressMap) (port : HubPort) (p : List ℕ) → IsAt f port p → (old new : World)
+pub server_on : (f : AddressMap) (port : HubPort) {p : List ℕ} → IsAt f port p → {old new : World}
     → Consistent old.roots → OnlyAt p old new → HasServer port p old → HasServer port p new
-server_on f (Root n) p at old new sane only server = tt
-server_on f (External hub n) p at old new sane only server =
+server_on f (Root n) at sane only server = tt
+server_on f (External hub n) {p} at {old} {new} sane only server =
     let P : World → List ℕ → Type 0 = λ w q. (pending w.roots q ≡ true) ⊎ ServesAt hub n q w in
     subst (λ o. IsSomeAnd o (P new)) (sym (parent_is f hub n p at))
     (elim (subst (λ o. IsSomeAnd o (P old)) (parent_is f hub n p at) server) [
@@ -150,23 +145,22 @@ parent_lost_not_served _ why told lost served = served
 -- What is fair
 
 -- no device at the port has taken its address yet
-pub held_spare : (f : AddressMap) (port : HubPort) (p : List ℕ) (address : ℕ)
+pub held_spare : {f : AddressMap} {port : HubPort} {p : List ℕ} {address : ℕ}
     → IsSpare f port p address → IsSpare f port p 0
-held_spare f port p address spare = record {
+held_spare spare = record {
   at = spare.at;
   free = spare.free;
   none = spare.none;
   spare = spare.none;
 }
 
-module _ (f : AddressMap) (port : HubPort) (p : List ℕ) (address m n : ℕ) {old mid new : World}
-    {a b c d : Option (List ℕ)} (first : StepRun m old a mid b) (second : StepRun n mid c new d)
-    (fair : IsFairAt f port p address old new) where
+module _ {f : AddressMap} {port : HubPort} {p : List ℕ} {address : ℕ} {old mid new : World}
+    (first : Went old mid) (second : Went mid new) (fair : IsFairAt f port p address old new) where
   pub fair_sound : mid.fault ≡ None
-  fair_sound = went_sound n mid new second fair.working
+  fair_sound = second.led.sound fair.working
 
   fair_start : old.fault ≡ None
-  fair_start = went_sound m old mid first fair_sound
+  fair_start = first.led.sound fair_sound
 
   pub fair_before : IsFairAt f port p address old mid
   fair_before = record {
@@ -176,7 +170,7 @@ module _ (f : AddressMap) (port : HubPort) (p : List ℕ) (address m n : ℕ) {o
     occupied = fair.occupied;
     server = fair.server;
     few = fair.few;
-    kept = few_before (went_course n mid new second fair.working) fair.kept;
+    kept = few_before (second.led.course fair.working) fair.kept;
     working = fair_sound;
   }
 
@@ -186,86 +180,60 @@ module _ (f : AddressMap) (port : HubPort) (p : List ℕ) (address m n : ℕ) {o
       record {
         spare = fair.spare;
         held = at.within.stays f p fair.spare fair.held;
-        order = went_in_order m old mid first fair.order;
+        order = first.order fair.order;
         occupied = occupied_on p only.spares fair.occupied;
-        server = server_on f port p fair.spare.at old mid (fair.order fair_start).sane only
-            fair.server;
-        few = went_three m old mid first fair.few;
+        server = server_on f port fair.spare.at (fair.order fair_start).sane only fair.server;
+        few = first.three fair.few;
         kept = fair.kept;
         working = fair.working;
       }
 
 -- what calls at the port keep
-pub fair_only : (f : AddressMap) (port : HubPort) (p : List ℕ) (address : ℕ) {old new : World}
+pub fair_only : {f : AddressMap} {port : HubPort} {p : List ℕ} {address : ℕ} {old new : World}
     → IsFairAt f port p address old new → AtPort port address old new → OnlyAt p old new
-fair_only f port p address fair at = at.only.at f p fair.spare fair.held fair.working
+fair_only {f} {p} fair at = at.only.at f p fair.spare fair.held fair.working
 
-pub fair_single : (f : AddressMap) (port : HubPort) (p : List ℕ) (address : ℕ) {old new : World}
+pub fair_single : {f : AddressMap} {port : HubPort} {p : List ℕ} {address : ℕ} {old new : World}
     → IsFairAt f port p address old new → AtPort port address old new → new.shared ≡ false
-fair_single f port p address fair at = (at.within.stays f p fair.spare fair.held).single
+fair_single {f} {p} fair at = (at.within.stays f p fair.spare fair.held).single
 
 -- Calls at the port
 
-pub called_faulted : (port : HubPort) (address n : ℕ) (call : Option PortCall) (why : EnumFault)
-    {old new : World} {a b : Option (List ℕ)} → StepRun n old a new b → AtPort port address old new
-    → FaultAllowedAt port why new → CalledAt port call old (Err why) new
-    → Faulted port address why old new
-called_faulted port address n call why {old} {new} went at told called = record {
+pub called_faulted : {port : HubPort} {address : ℕ} {call : Option PortCall} {why : EnumFault}
+    {old new : World} → Went old new → AtPort port address old new → FaultAllowedAt port why new
+    → CalledAt port call old (Err why) new → Faulted port address why old new
+called_faulted {port} {why} {new} went at told called = record {
   why = λ f p fair.
-      lost_hub_faults f port p fair.spare.at why new told
-      (server_on f port p fair.spare.at old new
-      (fair.order (went_sound n old new went fair.working)).sane
-      (fair_only f port p address fair at) fair.server)
+      lost_hub_faults f port p fair.spare.at why new told (server_on f port fair.spare.at
+      (fair.order (went.led.sound fair.working)).sane (fair_only fair at) fair.server)
       (λ hub i is parent serves there wide. absurd
       (parent_lost_not_served called.outcome why called.told parent
-      (called.calls.why hub i is fair.few (fair_single f port p address fair at) serves)));
+      (called.calls.why hub i is fair.few (fair_single fair at) serves)));
 }
 
--- a port stands where its change of connection is pending and that of its hub is not, and where a
--- device stands
+-- an occupied port has power, where no change is pending at its hub
+occupied_powered : (w : World) (j : Location) (n : ℕ) → IsOccupied w (path_to j ++ (n ∷ []))
+    → (has_power w.roots (path_to j ++ (n ∷ [])) ≡ true) ⊎ (pending w.roots (path_to j) ≡ true)
+occupied_powered w j n (inl h) = pend_or_live w.roots (path_to j) n h
+occupied_powered w j n (inr h) = inl h.0
 
-state_port : (k : Ports) (j : ℕ) (p : List ℕ) → IsSome (state_at k j p) → IsSome (port_at k j p)
-unfolding state_at port_at
-state_port (vacant b k) (suc j) p h = state_port k j p h
-state_port (taken b s a k) zero [] h = refl
-state_port (taken b s a k) zero (suc i ∷ p) h = state_port a i p h
-state_port (taken b s a k) (suc j) p h = state_port k j p h
-state_port _ _ _ h = false_true h
-
-pub state_there-port : (k : Ports) (p : List ℕ) → IsSome (state_there k p) → (b : PortState)
-    × (port_there k p ≡ Some b)
-state_there-port k (suc j ∷ p) some = is_some-value (port_at k j p) (state_port k j p some)
-state_there-port k _ some = false_true some
-
--- where no change is pending at its hub
-occupied_port_there : (w : World) (j : Location) (n : ℕ) → IsOccupied w (path_to j ++ (n ∷ []))
-    → (pending w.roots (path_to j) ≡ true) ⊎ IsSome (port_there w.roots (path_to j ++ (n ∷ [])))
-occupied_port_there w j n (inl h) = elim (pend_or_live w.roots (path_to j) n h) [
-  | inl on ↦ inr (subst IsSome (sym (live_port w.roots (path_to j ++ (n ∷ [])) on).1) refl)
-  | inr above ↦ inl above
-]
-occupied_port_there w j n (inr h) = inr (state_port w.roots j.row (j.rest ++ (n ∷ [])) h.1)
-
-module _ (port : HubPort) (address n : ℕ) (why : EnumFault) {old new : World}
-    {a b : Option (List ℕ)} (went : StepRun n old a new b) (at : AtPort port address old new)
+module _ {port : HubPort} {address : ℕ} {why : EnumFault} {old new : World}
+    (went : Went old new) (at : AtPort port address old new)
     (told : FaultAllowedAt port why new) (shown : StatusAt port old (Err why) new) where
   pub status_faulted : Faulted port address why old new
   status_faulted = record {
     why = λ f p fair.
-        lost_hub_faults f port p fair.spare.at why new told
-        (server_on f port p fair.spare.at old new
-        (fair.order (went_sound n old new went fair.working)).sane
-        (fair_only f port p address fair at) fair.server)
+        lost_hub_faults f port p fair.spare.at why new told (server_on f port fair.spare.at
+        (fair.order (went.led.sound fair.working)).sane (fair_only fair at) fair.server)
         (λ hub i is parent serves there wide.
         let above = path_to serves.spot in
-        elim (occupied_port_there old serves.spot i (subst (IsOccupied old) there fair.occupied)) [
-          | inl h ↦ pending_persists above (course_wider (λ s w k. k.spares)
-              ((fair_only f port p address fair at).others above
-              (ap (λ x. is_way x above) there ∙ not_way above i))) h
-          | inr h ↦ (let b = is_some-value (port_there old.roots (above ++ (i ∷ []))) h in
+        elim (occupied_powered old serves.spot i (subst (IsOccupied old) there fair.occupied)) [
+          | inl on ↦ (let b = live_port old.roots (above ++ (i ∷ [])) on in
               absurd (parent_lost_not_served shown.outcome why shown.told parent
-              (shown.tells.why hub i is fair.few (fair_single f port p address fair at) wide
-              serves b.0 b.1)))
+              (shown.tells.why hub i is fair.few (fair_single fair at) wide serves b.0 b.1)))
+          | inr h ↦ pending_persists above (course_wider (λ s w k. k.spares)
+              ((fair_only fair at).others above
+              (ap (λ x. is_way x above) there ∙ not_way above i))) h
         ]);
   }
 
@@ -299,13 +267,12 @@ stops_wider (Refused cause) more stops = record {
 }
 stops_wider (Fault why) more stops = record { why = stops.why }
 
-pub faulted_after : (port : HubPort) (address m n : ℕ) (why : EnumFault) {old mid new : World}
-    {a b c d : Option (List ℕ)} → StepRun m old a mid b → StepRun n mid c new d
-    → AtPort port address old mid → Faulted port address why mid new
+pub faulted_after : {port : HubPort} {address : ℕ} {why : EnumFault} {old mid new : World}
+    → Went old mid → Went mid new → AtPort port address old mid → Faulted port address why mid new
     → Faulted port address why old new
-faulted_after port address m n why first second at faulted =
+faulted_after {why} first second at faulted =
     record {
-      why = λ f p fair. faulted.why f p (fair_then f port p address m n first second fair at);
+      why = λ f p fair. faulted.why f p (fair_then first second fair at);
     }
 
 -- no port was asked

@@ -25,9 +25,9 @@ pub record Having (f : AddressMap) (p : List ℕ) (address : ℕ) (w : World) : 
   pub is : (has ≡ 0) ⊎ (has ≡ address)
   pub owned : WhileBusWorks (MapHolds (after_taking f p has)) w
 
-pub having : (f : AddressMap) (p : List ℕ) (address : ℕ) (w : World)
+pub having : (f : AddressMap) (p : List ℕ) (address : ℕ) {w : World}
     → WhileBusWorks (Enumerating f p address) w → Having f p address w
-having f p address w t = split w.fault refl
+having f p address {w} t = split w.fault refl
   where
     split : (x : Option BusFault) → w.fault ≡ x → Having f p address w
     split None e = let now = t.so e in record {
@@ -64,20 +64,20 @@ at_taking f (External hub port) p a at = record {
 pub within_none : (port : HubPort) (address : ℕ) (w : World) → Within port address w w
 within_none port address w = record { stays = λ f p spare t. t }
 
-pub within_then : (port : HubPort) (address : ℕ) (a b c : World) → Within port address a b
+pub within_then : {port : HubPort} {address : ℕ} {a b c : World} → Within port address a b
     → Within port address b c → Within port address a c
-within_then port address a b c m n = record {
+within_then m n = record {
   stays = λ f p spare t. n.stays f p spare (m.stays f p spare t);
 }
 
-pub takes_after : (port : HubPort) (address : ℕ) (a b c : World) → Within port address a b
+pub takes_after : {port : HubPort} {address : ℕ} {a b c : World} → Within port address a b
     → TakesAddress port address b c → TakesAddress port address a c
-takes_after port address a b c m n =
+takes_after m n =
     record { took = λ f p spare t. n.took f p spare (m.stays f p spare t) }
 
-pub takes_then : (port : HubPort) (address : ℕ) (a b c : World) → TakesAddress port address a b
+pub takes_then : {port : HubPort} {address : ℕ} {a b c : World} → TakesAddress port address a b
     → KeepsAddresses b c → TakesAddress port address a c
-takes_then port address a b c m n = record {
+takes_then {address} m n = record {
   took = λ f p spare t. n.kept (after_taking f p address) (m.took f p spare t);
 }
 
@@ -85,17 +85,17 @@ takes_then port address a b c m n = record {
 
 pub within_kept : {port : HubPort} {address : ℕ} {old new : World} → KeepsAddresses old new
     → Within port address old new
-within_kept {address} {old} keeps = record {
+within_kept {address} keeps = record {
   stays = λ f p spare t.
-      let h = having f p address old t in
+      let h = having f p address t in
       till_weaker (keeps.kept (after_taking f p h.has) h.owned)
       (λ o. record { has = h.has; is = h.is; owned = o });
 }
 
-pub within-keeps_addresses : (port : HubPort) (address : ℕ) (a b c : World)
+pub within-keeps_addresses : {port : HubPort} {address : ℕ} {a b c : World}
     → Within port address a b → KeepsAddresses b c → Within port address a c
-within-keeps_addresses port address a b c within keeps =
-    within_then port address a b c within (within_kept keeps)
+within-keeps_addresses within keeps =
+    within_then within (within_kept keeps)
 
 -- only the port that is being enumerated may claim address 0
 pub zero_there : (f : AddressMap) (p : List ℕ) (has : ℕ) → Unused f 0 → (x : List ℕ)
@@ -107,18 +107,18 @@ pub within_reset : (port : HubPort) (address : ℕ) (old new : World) → Resets
     → Within port address old new
 within_reset port address old new resets = record {
   stays = λ f p spare t.
-      let h = having f p address old t in
+      let h = having f p address t in
       let g : AddressMap = after_taking f p h.has in
       till_weaker (resets.resets g p (at_taking f port p h.has spare.at) (zero_there f p h.has
       spare.none) h.owned) (after_a_reset f p address h.has new spare.free h.is);
 }
 
 -- SET_ADDRESS, at address 0
-pub within_given : (port : HubPort) (target address : ℕ) (old new : World) → target ≡ 0
+pub within_given : (port : HubPort) {target address : ℕ} {old new : World} → target ≡ 0
     → 1 ≤ address → GivesAddress target address old new → Within port address old new
-within_given port target address old new zero_is least gives = record {
+within_given port {address} {new} zero_is least gives = record {
   stays = λ f p spare t.
-      let h = having f p address old t in
+      let h = having f p address t in
       let g : AddressMap = after_taking f p h.has in
       till_weaker (gives.gives g p
       (λ x e. after_taking-zero f p h.has x spare.none (e ∙ ap Some zero_is))
@@ -131,10 +131,10 @@ within_given port target address old new zero_is least gives = record {
 -- Who holds which address
 
 -- whoever answered at address 0, or at the one that is set aside, is the device at the port
-pub answered_has : (f : AddressMap) (port : HubPort) (p : List ℕ) (address has n : ℕ)
+pub answered_has : {f : AddressMap} {port : HubPort} {p : List ℕ} {address : ℕ} (has n : ℕ)
     → IsSpare f port p address → (n ≡ 0) ⊎ (n ≡ address) → (q : List ℕ)
     × (after_taking f p has q ≡ Some n) → has ≡ n
-answered_has f port p address has n spare is who = elim (decided (same_path p who.0)) [
+answered_has {p} has n spare is who = elim (decided (same_path p who.0)) [
   | inl e ↦ same_Some has n (rw e at who.1)
   | inr e ↦ (let other = rw e at who.1 in elim is [
     | inl none_yet ↦ absurd (spare.none who.0 (other ∙ ap Some none_yet))
@@ -143,13 +143,13 @@ answered_has f port p address has n spare is who = elim (decided (same_path p wh
 ]
 
 -- whoever answered at the address stands at the port
-pub takes_answered : (port : HubPort) (address : ℕ) (old new : World) → KeepsAddresses old new
+pub takes_answered : (port : HubPort) {address : ℕ} {old new : World} → KeepsAddresses old new
     → IsClaimed address old → TakesAddress port address old new
-takes_answered port address old new keeps answers = record {
+takes_answered port {address} {old} keeps answers = record {
   took = λ f p spare t.
-      let h = having f p address old t in
+      let h = having f p address t in
       keeps.kept (after_taking f p address)
       (subst (λ n. WhileBusWorks (MapHolds (after_taking f p n)) old)
-      (answered_has f port p address h.has address spare (inr refl)
+      (answered_has h.has address spare (inr refl)
       (answers.held (after_taking f p h.has) h.owned)) h.owned);
 }

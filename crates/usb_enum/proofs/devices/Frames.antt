@@ -5,14 +5,13 @@ use Rattle.std.proofs.Common.{subst, ◌∙◌, IfErr}
 use Rattle.std.specs.Global.{Vec}
 use Rattle.usb_request.specs.{PORT_POWER, PORT_ENABLE, PORT_RESET, set_port_feature}
 use Rattle.usb_request.specs.{set_configuration, set_address, Setup}
-use Rattle.usb_device.specs.{State, Spec, Location, path_to, reach_on, state_on}
+use Rattle.usb_device.specs.{State, Spec, Location, path_to}
 use Rattle.usb_port.specs.{PortCall, SetReset, ClearEnable, set_call, clear_call, PortStatus}
 use Rattle.usb_world.specs.{BusFault, after_taking, Relation, Was, EachWas, is_above, here, World}
 use Rattle.usb_tree.specs.{address_of, is_way, same_path, keeps_pending}
 use Rattle.usb_world.proofs.Interface.{course_joined, course_wider, each_joined, each_none}
 use Rattle.usb_world.proofs.Interface.{each_wider}
 use Rattle.usb_tree.proofs.Interface.{and_false, decided, equal_same, false_true, self_path}
-use Rattle.usb_bus.specs.{StepRun}
 use Rattle.usb_transaction.specs.{Target}
 use Rattle.usb_address.specs.{AddressMap, Unused, MapHolds, Enumerating, WhileBusWorks}
 use Rattle.usb_address.specs.{KeepsAddresses}
@@ -27,15 +26,13 @@ use Rattle.usb_hub.proofs.Interface.{power_backlog, stays_as_same, stays-registe
 use Rattle.usb_hub.proofs.Interface.{stays_itself, stays_joined, keeps_devices_none}
 use Rattle.usb_hub.proofs.Interface.{commanded_control, queried_control}
 use Rattle.usb_enum.specs.{IsSpare, TakesAddress, OnlyCalls, AtPort, FoundAt, OnlyAsks, OnlyTells}
-use Rattle.usb_enum.specs.{StaysBut, OnlySets, OnlyAt}
+use Rattle.usb_enum.specs.{StaysBut, OnlySets, OnlyAt, Went}
 use Rattle.usb_backlog.specs.{KeepsAll, gives_power}
 use Rattle.usb_backlog.proofs.Interface.{all_none, all_then, found_all, found_called, found_then}
-use Rattle.usb_enum.proofs.courses.Courses.{traced_faulted, went_sound}
 use Rattle.usb_enum.proofs.devices.Enumerations.{Having, having, at_taking, within_none}
 use Rattle.usb_enum.proofs.devices.Enumerations.{within_then, within-keeps_addresses, within_kept}
 use Rattle.usb_enum.proofs.devices.Enumerations.{within_reset, within_given, zero_there}
-use Rattle.usb_enum.proofs.readings.Readings.{devices_then}
-use Rattle.usb_enum.proofs.devices.SharedAddresses.{went_unshared}
+use Rattle.usb_enum.proofs.readings.Readings.{devices_on}
 
 -- Where the bus is at work, it did not end a call
 
@@ -53,11 +50,11 @@ ends_without_fault {A} least (Err why) old new ends none =
 -- Requests for data
 
 -- what is attempted over one part, and then over the next
-control_then : (n : ℕ) (old mid new : World) {r s : Option (List ℕ)}
-    → (mid.fault ≡ None → ControlCourse old mid) → StepRun n mid r new s
-    → (new.fault ≡ None → ControlCourse mid new) → new.fault ≡ None → ControlCourse old new
-control_then n old mid new a went b none =
-    course_joined (a (went_sound n mid new went none)) (b none)
+control_then : (old : World) {mid new : World} → (mid.fault ≡ None → ControlCourse old mid)
+    → Went mid new → (new.fault ≡ None → ControlCourse mid new) → new.fault ≡ None
+    → ControlCourse old new
+control_then old a went b none =
+    course_joined (a (went.led.sound none)) (b none)
 
 pub asks_none : (w : World) → OnlyAsks w w
 asks_none w = record {
@@ -68,37 +65,39 @@ asks_none w = record {
   control = λ none. here w;
 }
 
-pub asks_then : (n : ℕ) (old mid new : World) {r s : Option (List ℕ)} → OnlyAsks old mid
-    → StepRun n mid r new s → OnlyAsks mid new → OnlyAsks old new
-asks_then n old mid new a went b = record {
+pub asks_then : (old mid new : World) → OnlyAsks old mid → Went old mid → Went mid new
+    → OnlyAsks mid new → OnlyAsks old new
+asks_then old mid new a first went b = record {
   addresses = keeps_then old mid new a.addresses b.addresses;
-  devices = devices_then n old mid new a.devices went b.devices;
-  ports = λ none x. course_joined (a.ports (went_sound n mid new went none) x) (b.ports none x);
-  backlog = λ none. all_then (a.backlog (went_sound n mid new went none)) (b.backlog none);
-  control = control_then n old mid new a.control went b.control;
+  devices = devices_on a.devices went b.devices;
+  ports = λ none x. course_joined (a.ports (went.led.sound none) x) (b.ports none x);
+  backlog = λ none. all_then (a.backlog (went.led.sound none)) (b.backlog none);
+  control = control_then old a.control went b.control;
 }
 
 pub answer_asks : {A X : Type 0} {given : Spec → Option X} {Has : State → A → Type 0} {t : Target}
     {request : Setup} {outcome : Result A PipeFault} {answer : Result (Vec ℕ) PipeFault}
     {old new : World} → Queried t request old answer new → (new.shared ≡ false
     → EachWas (ReadAsked given Has t outcome) old new) → KeepsAddresses old new → OnlyAsks old new
-answer_asks {given} {Has} {t} {request} {outcome} {answer} {old} {new} asked what keeps = record {
-  addresses = keeps;
-  devices = record {
-    stays = λ single. each_wider (ReadAsked given Has t outcome) StaysAs
-        (λ j s v x. x.frame) old new (what single);
-  };
-  ports = λ none. asked.rests (ends_without_fault 3 answer old new asked.ends none);
-  backlog = λ none. asked.backlog (ends_without_fault 3 answer old new asked.ends none);
-  control = λ none. queried_control t request answer old new asked
-      (ends_without_fault 3 answer old new asked.ends none);
-}
+answer_asks {given} {Has} {t} {request} {outcome} {answer} {old} {new} asked what keeps =
+    let sound : new.fault ≡ None → IsNoBusFault answer =
+    ends_without_fault 3 answer old new asked.ends in
+    record {
+      addresses = keeps;
+      devices = record {
+        stays = λ single. each_wider (ReadAsked given Has t outcome) StaysAs
+            (λ j s v x. x.frame) old new (what single);
+      };
+      ports = λ none. asked.rests (sound none);
+      backlog = λ none. asked.backlog (sound none);
+      control = λ none. queried_control t request answer old new asked (sound none);
+    }
 
 -- a port's status; that of a root port is a register
-pub status_asks : (port : HubPort) (outcome : Result PortStatus PipeFault) (old new : World)
+pub status_asks : {port : HubPort} {outcome : Result PortStatus PipeFault} {old new : World}
     → PortRead port old outcome new → IfErr outcome (λ why. FaultAfter 1 old why new)
     → KeepsAsked port old outcome new → OnlyAsks old new
-status_asks port outcome old new read ends keeps =
+status_asks {port} {outcome} {old} {new} read ends keeps =
     record {
       addresses = keeps.keeps;
       devices = keeps.devices;
@@ -134,51 +133,54 @@ pub tells_none : (hub : ℕ) (w : World) → OnlyTells hub w w
 tells_none hub w = tells_asked hub w w (asks_none w)
 
 -- whoever is owned before a call is so after it
-owned_on : (f : AddressMap) (old new : World) → KeepsAddresses old new → new.fault ≡ None
+owned_on : {f : AddressMap} {old new : World} → KeepsAddresses old new → new.fault ≡ None
     → MapHolds f old → MapHolds f new
-owned_on f old new keeps none own =
+owned_on {f} keeps none own =
     (keeps.kept f (record { so = λ h. own; single = own.single })).so none
 
-rest_then : (address n : ℕ) (old mid new : World) {r s : Option (List ℕ)} → KeepsAddresses old mid
-    → (mid.fault ≡ None → TouchesPortsBelow address old mid) → StepRun n mid r new s
+rest_then : (address : ℕ) {old mid new : World} → KeepsAddresses old mid
+    → (mid.fault ≡ None → TouchesPortsBelow address old mid) → Went mid new
     → (new.fault ≡ None → TouchesPortsBelow address mid new)
     → new.fault ≡ None → TouchesPortsBelow address old new
-rest_then address n old mid new keeps a went b none f q held own x apart =
-    let sound = went_sound n mid new went none in
+rest_then address keeps a went b none f q held own x apart =
+    let sound = went.led.sound none in
     course_joined (a sound f q held own x apart)
-    (b none f q held (owned_on f old mid keeps sound own) x apart)
+    (b none f q held (owned_on keeps sound own) x apart)
 
-found_at_then : (address n : ℕ) (old mid new : World) {r s : Option (List ℕ)}
-    → KeepsAddresses old mid → (mid.fault ≡ None → FoundAt address old mid) → StepRun n mid r new s
+found_at_then : (address : ℕ) {old mid new : World} → KeepsAddresses old mid
+    → (mid.fault ≡ None → FoundAt address old mid) → Went mid new
     → (new.fault ≡ None → FoundAt address mid new) → new.fault ≡ None → FoundAt address old new
-found_at_then address n old mid new keeps a went b none f q held own =
-    let sound = went_sound n mid new went none in
-    found_then q (a sound f q held own) (b none f q held (owned_on f old mid keeps sound own))
+found_at_then address keeps a went b none f q held own =
+    let sound = went.led.sound none in
+    found_then q (a sound f q held own) (b none f q held (owned_on keeps sound own))
 
-pub tells_then : (hub n : ℕ) (old mid new : World) {r s : Option (List ℕ)} → OnlyTells hub old mid
-    → StepRun n mid r new s → OnlyTells hub mid new → OnlyTells hub old new
-tells_then hub n old mid new a went b = record {
+pub tells_then : (hub : ℕ) (old mid new : World) → OnlyTells hub old mid → Went old mid
+    → Went mid new → OnlyTells hub mid new → OnlyTells hub old new
+tells_then hub old mid new a first went b = record {
   addresses = keeps_then old mid new a.addresses b.addresses;
-  devices = devices_then n old mid new a.devices went b.devices;
-  ports = rest_then hub n old mid new a.addresses a.ports went b.ports;
-  backlog = found_at_then hub n old mid new a.addresses a.backlog went b.backlog;
-  control = control_then n old mid new a.control went b.control;
+  devices = devices_on a.devices went b.devices;
+  ports = rest_then hub a.addresses a.ports went b.ports;
+  backlog = found_at_then hub a.addresses a.backlog went b.backlog;
+  control = control_then old a.control went b.control;
 }
 
 -- PORT_POWER
-pub power_tells : (hub : Target) (port : ℕ) (old : World) (result : Result (Unit {0}) PipeFault)
-    (new : World) → Commanded hub (set_port_feature PORT_POWER port) old result new
-    → KeepsAddresses old new → KeepsDevices old new → OnlyTells hub.addr old new
+pub power_tells : {hub : Target} (port : ℕ) {result : Result (Unit {0}) PipeFault} {old new : World}
+    → Commanded hub (set_port_feature PORT_POWER port) old result new → KeepsAddresses old new
+    → KeepsDevices old new → OnlyTells hub.addr old new
 unfolding set_port_feature
-power_tells hub port old result new ordered keeps devices = record {
-  addresses = keeps;
-  devices = devices;
-  ports = λ none. ordered.elsewhere refl (ends_without_fault 2 result old new ordered.ends none);
-  backlog = λ none f q held own. power_backlog hub f q old result new
-      (ends_without_fault 2 result old new ordered.ends none) held own port ordered;
-  control = λ none. commanded_control hub (set_port_feature PORT_POWER port) result old new ordered
-      (ends_without_fault 2 result old new ordered.ends none);
-}
+power_tells {hub} port {result} {old} {new} ordered keeps devices =
+    let sound : new.fault ≡ None → IsNoBusFault result =
+    ends_without_fault 2 result old new ordered.ends in
+    record {
+      addresses = keeps;
+      devices = devices;
+      ports = λ none. ordered.elsewhere refl (sound none);
+      backlog = λ none f q held own.
+          power_backlog hub f q old result new (sound none) held own port ordered;
+      control = λ none. commanded_control hub (set_port_feature PORT_POWER port) result old new
+          ordered (sound none);
+    }
 
 -- SET_CONFIGURATION, and what goes before and after it
 
@@ -216,44 +218,43 @@ but_then address j s u v x y = record {
       (y.stays (ap (λ n. n == address) x.same ∙ apart));
 }
 
-pub sets_then : (address m n : ℕ) (old mid new : World) {q r s : Option (List ℕ)}
-    → OnlySets address old mid → StepRun m old q mid r → StepRun n mid r new s
-    → OnlySets address mid new → OnlySets address old new
-sets_then address m n old mid new a first went b = record {
+pub sets_then : (address : ℕ) (old mid new : World) → OnlySets address old mid → Went old mid
+    → Went mid new → OnlySets address mid new → OnlySets address old new
+sets_then address old mid new a first went b = record {
   addresses = keeps_then old mid new a.addresses b.addresses;
-  spent = λ fault before. devices_then n old mid new (a.spent fault before) went
-      (b.spent fault (traced_faulted first.traced fault before).1);
+  spent = λ fault before. devices_on (a.spent fault before) went
+      (b.spent fault (first.faulted fault before));
   devices = λ single. each_joined (StaysBut address) (StaysBut address) (StaysBut address)
-      (but_then address) old mid new (a.devices (went_unshared n mid new went single))
-      (b.devices single);
-  ports = rest_then address n old mid new a.addresses a.ports went b.ports;
-  backlog = found_at_then address n old mid new a.addresses a.backlog went b.backlog;
-  control = control_then n old mid new a.control went b.control;
+      (but_then address) old mid new (a.devices (went.unshared single)) (b.devices single);
+  ports = rest_then address a.addresses a.ports went b.ports;
+  backlog = found_at_then address a.addresses a.backlog went b.backlog;
+  control = control_then old a.control went b.control;
 }
 
-pub configuration_sets : (t : Target) (value : ℕ) (result : Result (Unit {0}) PipeFault)
-    (old new : World) → Commanded t (set_configuration value) old result new
+pub configuration_sets : {t : Target} (value : ℕ) {result : Result (Unit {0}) PipeFault}
+    {old new : World} → Commanded t (set_configuration value) old result new
     → (new.shared ≡ false → EachWas (ConfigurationAsked t value result new) old new)
     → KeepsAddresses old new → OnlySets t.addr old new
 unfolding set_configuration
-configuration_sets t value result old new ordered what keeps = record {
-  addresses = keeps;
-  spent = λ fault before. subst (λ w. KeepsDevices old w) (sym (write_nothing t
-      (set_configuration value) old new fault before result ordered.stages))
-      (keeps_devices_none old);
-  devices = λ single.
-      each_wider (ConfigurationAsked t value result new) (StaysBut t.addr)
-      (λ j s v x. record {
-        spec = ap (λ y. y.spec) x.frame.rest;
-        same = ap (λ y. y.registers.address) x.frame.rest;
-        stays = λ apart. stays_as_same j s v (x.others apart);
-      }) old new (what single);
-  ports = λ none. ordered.elsewhere refl (ends_without_fault 2 result old new ordered.ends none);
-  backlog = λ none f q held own. found_all q
-      (ordered.backlog refl (ends_without_fault 2 result old new ordered.ends none));
-  control = λ none. commanded_control t (set_configuration value) result old new ordered
-      (ends_without_fault 2 result old new ordered.ends none);
-}
+configuration_sets {t} value {result} {old} {new} ordered what keeps =
+    let sound : new.fault ≡ None → IsNoBusFault result =
+    ends_without_fault 2 result old new ordered.ends in
+    record {
+      addresses = keeps;
+      spent = λ fault before. subst (λ w. KeepsDevices old w) (sym (write_nothing t
+          (set_configuration value) old new fault before result ordered.stages))
+          (keeps_devices_none old);
+      devices = λ single.
+          each_wider (ConfigurationAsked t value result new) (StaysBut t.addr) (λ j s v x. record {
+            spec = ap (λ y. y.spec) x.frame.rest;
+            same = ap (λ y. y.registers.address) x.frame.rest;
+            stays = λ apart. stays_as_same j s v (x.others apart);
+          }) old new (what single);
+      ports = λ none. ordered.elsewhere refl (sound none);
+      backlog = λ none f q held own. found_all q (ordered.backlog refl (sound none));
+      control = λ none. commanded_control t (set_configuration value) result old new ordered
+          (sound none);
+    }
 
 -- Calls at a port
 
@@ -278,18 +279,17 @@ named_of : (p : List ℕ) (old new : World) → EachElsewhere p StaysAs old new
     → EachNamedElsewhere p StaysAs old new
 named_of p old new each j s apart on there has = each j s apart on there
 
-named_kept : (p : List ℕ) (old new : World) → KeepsDevices old new → new.shared ≡ false
+named_kept : (p : List ℕ) {old new : World} → KeepsDevices old new → new.shared ≡ false
     → EachNamedElsewhere p StaysAs old new
-named_kept p old new keeps single =
+named_kept p {old} {new} keeps single =
     named_of p old new (elsewhere_of p old new (keeps.stays single))
 
 named_then : (p : List ℕ) (old mid new : World) → EachNamedElsewhere p StaysAs old mid
     → EachNamedElsewhere p StaysAs mid new → EachNamedElsewhere p StaysAs old new
 named_then p old mid new a b j s apart on there has =
     let later : Was StaysAs mid j s = b j s apart on there has in
-    let same = stays-registers later.before s later.so in
     let sooner : Was StaysAs old j later.before = a j later.before apart later.on later.stands
-    (λ zero. has (ap (λ r. r.address) same ∙ zero)) in
+    (λ zero. has (ap (λ r. r.address) (stays-registers later.before s later.so) ∙ zero)) in
     record {
       before = sooner.before;
       on = sooner.on;
@@ -297,9 +297,9 @@ named_then p old mid new a b j s apart on there has =
       so = stays_joined j sooner.before later.before s sooner.so later.so;
     }
 
-only_at_then : (p : List ℕ) (old mid new : World) → OnlyAt p old mid → OnlyAt p mid new
+only_at_then : {p : List ℕ} {old mid new : World} → OnlyAt p old mid → OnlyAt p mid new
     → OnlyAt p old new
-only_at_then p old mid new a b = record {
+only_at_then {p} {old} {mid} {new} a b = record {
   others = λ x apart. course_joined (a.others x apart) (b.others x apart);
   spares = course_joined a.spares b.spares;
   devices = settings_elsewhere_then p old mid new a.devices b.devices;
@@ -308,9 +308,9 @@ only_at_then p old mid new a b = record {
 }
 
 -- where nothing was asked of any port
-only_at_rest : (p : List ℕ) (old new : World) → TouchesNoPort old new → KeepsAll old new
+only_at_rest : (p : List ℕ) {old new : World} → TouchesNoPort old new → KeepsAll old new
     → EachElsewhere p StaysAs old new → ControlCourse old new → OnlyAt p old new
-only_at_rest p old new rests backlog devices control =
+only_at_rest p rests backlog devices control =
     record {
       others = λ x apart. rests x;
       spares = course_wider (λ s w k. k.spares) (rests p);
@@ -322,9 +322,9 @@ only_at_rest p old new rests backlog devices control =
 pub calls_none : (port : HubPort) (address : ℕ) (w : World) → OnlyCalls port address w w
 calls_none port address w = record {
   at =
-      λ f p spare t none. only_at_rest p w w (λ x. here w) (all_none w)
+      λ f p spare t none. only_at_rest p (λ x. here w) (all_none w)
       (elsewhere_of p w w (each_none StaysAs stays_itself w)) (here w);
-  named = λ f p spare t. named_kept p w w (keeps_devices_none w) t.single;
+  named = λ f p spare t. named_kept p (keeps_devices_none w) t.single;
 }
 
 pub at_port_none : (port : HubPort) (address : ℕ) (w : World) → AtPort port address w w
@@ -333,23 +333,21 @@ at_port_none port address w = record {
   only = calls_none port address w;
 }
 
-pub calls_then : (port : HubPort) (address n : ℕ) (old mid new : World) {r s : Option (List ℕ)}
-    → AtPort port address old mid → StepRun n mid r new s → OnlyCalls port address mid new
-    → OnlyCalls port address old new
-calls_then port address n old mid new a went b = record {
-  at = λ f p spare t none. only_at_then p old mid new
-      (a.only.at f p spare t (went_sound n mid new went none))
+pub calls_then : {port : HubPort} {address : ℕ} {old mid new : World} → AtPort port address old mid
+    → Went mid new → OnlyCalls port address mid new → OnlyCalls port address old new
+calls_then {old} {mid} {new} a went b = record {
+  at = λ f p spare t none. only_at_then (a.only.at f p spare t (went.led.sound none))
       (b.at f p spare (a.within.stays f p spare t) none);
   named = λ f p spare t. named_then p old mid new (a.only.named f p spare t)
       (b.named f p spare (a.within.stays f p spare t));
 }
 
-pub at_port_then : (port : HubPort) (address n : ℕ) (old mid new : World) {r s : Option (List ℕ)}
-    → AtPort port address old mid → StepRun n mid r new s → AtPort port address mid new
+pub at_port_then : (port : HubPort) (address : ℕ) (old mid new : World)
+    → AtPort port address old mid → Went mid new → AtPort port address mid new
     → AtPort port address old new
-at_port_then port address n old mid new a went b = record {
-  within = within_then port address old mid new a.within b.within;
-  only = calls_then port address n old mid new a went b.only;
+at_port_then port address old mid new a went b = record {
+  within = within_then a.within b.within;
+  only = calls_then a went b.only;
 }
 
 -- a request for data at any time
@@ -359,20 +357,20 @@ at_asked port address old new asks = record {
   within = within_kept asks.addresses;
   only = record {
     at = λ f p spare t none.
-        only_at_rest p old new (asks.ports none) (asks.backlog none)
+        only_at_rest p (asks.ports none) (asks.backlog none)
         (elsewhere_of p old new (asks.devices.stays
         ((within_kept asks.addresses).stays f p spare t).single)) (asks.control none);
-    named = λ f p spare t. named_kept p old new asks.devices
+    named = λ f p spare t. named_kept p asks.devices
         ((within_kept asks.addresses).stays f p spare t).single;
   };
 }
 
 -- the call is one at the port of the path
-pub called_is : (f : AddressMap) (port : HubPort) (p : List ℕ) (address : ℕ) (w : World)
+pub called_is : {f : AddressMap} {port : HubPort} {p : List ℕ} {address : ℕ} {w : World}
     → IsSpare f port p address → (h : Having f p address w)
     → (call : Option PortCall) (c : PortCall) → call ≡ Some c
     → IsCall (after_taking f p h.has) port p call c w
-called_is f port p address w spare h call c is = record {
+called_is {f} {port} {p} spare h call c is = record {
   at = at_taking f port p h.has spare.at;
   is = is;
   alone = λ r. zero_there f p h.has spare.none;
@@ -380,19 +378,19 @@ called_is f port p address w spare h call c is = record {
 }
 
 -- a call that clears nothing that is pending at the port
-module _ (port : HubPort) (address : ℕ) (call : Option PortCall) (c : PortCall) (is : call ≡ Some c)
-    (spared : keeps_pending c [] ≡ true) (quiet : gives_power c ≡ false) (old : World)
-    (result : Result (Unit {0}) PipeFault) (new : World)
+module _ {port : HubPort} (address : ℕ) {call : Option PortCall} (c : PortCall) (is : call ≡ Some c)
+    (spared : keeps_pending c [] ≡ true) (quiet : gives_power c ≡ false)
+    {result : Result (Unit {0}) PipeFault} {old new : World}
     (ends : IfErr result (λ why. FaultAfter 1 old why new))
     (calls : CommandsPort port call old result new) where
-  called_at : (f : AddressMap) (p : List ℕ) → IsSpare f port p address
+  called_at : {f : AddressMap} {p : List ℕ} → IsSpare f port p address
       → WhileBusWorks (Enumerating f p address) old → new.fault ≡ None
       → ((h : Having f p address old) → EachElsewhere p StaysAs old new) → OnlyAt p old new
-  called_at f p spare t none devices =
-      let h = having f p address old t in
+  called_at {f} {p} spare t none devices =
+      let h = having f p address t in
       let g : AddressMap = after_taking f p h.has in
       let sound = fault_after-not_of_bus result old new ends none in
-      let call_is : IsCall g port p call c old = called_is f port p address old spare h call c is in
+      let call_is : IsCall g port p call c old = called_is spare h call c is in
       record {
         others = calls.rests g p c call_is sound;
         spares = calls.spares g p c call_is sound spared;
@@ -402,53 +400,48 @@ module _ (port : HubPort) (address : ℕ) (call : Option PortCall) (c : PortCall
       }
 
 -- the clearing of a change bit or of PORT_ENABLE
-pub clear_calls : (port : HubPort) (address : ℕ) (call : Option PortCall) (c : PortCall)
+pub clear_calls : {port : HubPort} (address : ℕ) {call : Option PortCall} (c : PortCall)
     → call ≡ Some c → keeps_pending c [] ≡ true → gives_power c ≡ false
-    → (feature : ℕ) (old : World) (result : Result (Unit {0}) PipeFault) (new : World)
+    → {feature : ℕ} {result : Result (Unit {0}) PipeFault} {old new : World}
     → IfErr result (λ why. FaultAfter 1 old why new) → CommandsPort port call old result new
     → KeepsCleared port feature old result new → OnlyCalls port address old new
-clear_calls port address call c is spared quiet feature old result new ends calls keeps = record {
+clear_calls address c is spared quiet {old} {new} ends calls keeps = record {
   at = λ f p spare t none.
-      called_at port address call c is spared quiet old result new ends calls f p spare t none
+      called_at address c is spared quiet ends calls spare t none
       (λ h. elsewhere_of p old new (keeps.devices.stays
       (keeps.keeps.kept (after_taking f p h.has) h.owned).single));
   named = λ f p spare t.
-      let h = having f p address old t in
-      named_kept p old new keeps.devices
-      (keeps.keeps.kept (after_taking f p h.has) h.owned).single;
+      let h = having f p address t in
+      named_kept p keeps.devices (keeps.keeps.kept (after_taking f p h.has) h.owned).single;
 }
 
 -- PORT_ENABLE
-pub disable_calls : (port : HubPort) (address : ℕ) (old : World)
-    (result : Result (Unit {0}) PipeFault) (new : World)
-    → IfErr result (λ why. FaultAfter 1 old why new)
+pub disable_calls : {port : HubPort} (address : ℕ) {result : Result (Unit {0}) PipeFault}
+    {old new : World} → IfErr result (λ why. FaultAfter 1 old why new)
     → CommandsPort port (clear_call PORT_ENABLE) old result new
     → KeepsCleared port PORT_ENABLE old result new → OnlyCalls port address old new
-disable_calls port address old result new ends calls keeps =
-    clear_calls port address (clear_call PORT_ENABLE) ClearEnable refl refl refl 1 old result new
-    ends calls keeps
+disable_calls address ends calls keeps =
+    clear_calls address ClearEnable refl refl refl ends calls keeps
 
 -- PORT_RESET
-pub reset_calls : (port : HubPort) (address : ℕ) (old : World)
-    (result : Result (Unit {0}) PipeFault) (new : World)
-    → IfErr result (λ why. FaultAfter 1 old why new)
+pub reset_calls : {port : HubPort} (address : ℕ) {result : Result (Unit {0}) PipeFault}
+    {old new : World} → IfErr result (λ why. FaultAfter 1 old why new)
     → CommandsPort port (set_call PORT_RESET) old result new → Resets port old new
     → OnlyCalls port address old new
-reset_calls port address old result new ends calls resets = record {
+reset_calls {port} address ends calls resets = record {
   at = λ f p spare t none.
-      called_at port address (set_call PORT_RESET) SetReset refl refl refl old result new ends calls
-      f p spare t none
+      called_at address SetReset refl refl refl ends calls spare t none
       (λ h. resets.others (after_taking f p h.has) p (at_taking f port p h.has spare.at)
       (zero_there f p h.has spare.none) h.owned none);
   named = λ f p spare t.
-      let h = having f p address old t in
+      let h = having f p address t in
       resets.named (after_taking f p h.has) p (at_taking f port p h.has spare.at)
       (zero_there f p h.has spare.none) h.owned;
 }
 
-pub at_reset : (port : HubPort) (address : ℕ) (old new : World) → Resets port old new
+pub at_reset : {port : HubPort} {address : ℕ} {old new : World} → Resets port old new
     → OnlyCalls port address old new → AtPort port address old new
-at_reset port address old new resets only =
+at_reset {port} {address} {old} {new} resets only =
     record { within = within_reset port address old new resets; only = only }
 
 -- What is claimed elsewhere than at the port
@@ -469,63 +462,53 @@ by_fault {P = P} w works given_up = split w.fault refl
     split None e = works e
     split (Some fault) e = given_up fault e
 
--- no device elsewhere has an address that is not claimed
-unheld : (f : AddressMap) (p : List ℕ) (has n : ℕ) (w : World) → MapHolds (after_taking f p has) w
-    → Unused f n
-    → (j : Location) (s : State) → is_way p (path_to j) ≡ false → reach_on w.roots j ≡ true
-    → state_on w.roots j ≡ Some s → (address_of s == n) ≡ false
-unheld f p has n w own unused j s apart on there = elim (decided (address_of s == n)) [
-  | inl e ↦ absurd (unused (path_to j) (sym (but_taken f p has (path_to j) apart)
-      ∙ sym (own.own (path_to j) on) ∙ ap (option_map address_of) there
-      ∙ ap (λ m. Some m) (equal_same (address_of s) n e)))
-  | inr e ↦ e
-]
-
--- so a call that changes only a device at such an address leaves those elsewhere as they were
-unheld_stays : (f : AddressMap) (p : List ℕ) (has n : ℕ) (old new : World)
+-- those elsewhere stay as they were, where a call changes only a device at an address of none
+unheld_stays : (f : AddressMap) (p : List ℕ) (has n : ℕ) {old : World} (new : World)
     → MapHolds (after_taking f p has) old → Unused f n → (R : Relation)
     → ((j : Location) (s v : State) → R j s v → (address_of s == n) ≡ false → StaysAs j s v)
     → EachWas R old new → EachElsewhere p StaysAs old new
-unheld_stays f p has n old new own unused R stays was j s apart on there =
+unheld_stays f p has n {old} new own unused R stays was j s apart on there =
     let w : Was R old j s = was j s on there in
-    let off = unheld f p has n old own unused j w.before apart w.on w.stands in
+    let off : (address_of w.before == n) ≡ false = elim (decided (address_of w.before == n)) [
+      | inl e ↦ absurd (unused (path_to j) (sym (but_taken f p has (path_to j) apart)
+          ∙ sym (own.own (path_to j) w.on) ∙ ap (option_map address_of) w.stands
+          ∙ ap (λ m. Some m) (equal_same (address_of w.before) n e)))
+      | inr e ↦ e
+    ] in
     record { before = w.before; on = w.on; stands = w.stands; so = stays j w.before s w.so off }
 
 -- SET_ADDRESS, at address 0
-pub at_addressed : (port : HubPort) (address m : ℕ) (target : Target)
-    (result : Result (Unit {0}) PipeFault) (old mid new : World) {r s : Option (List ℕ)}
-    → AtPort port address old mid → target.addr ≡ 0 → 1 ≤ address
-    → StepRun m mid r new s → Commanded target (set_address address) mid result new
+pub at_addressed : {port : HubPort} {address : ℕ} {target : Target}
+    {result : Result (Unit {0}) PipeFault} {old mid new : World} → AtPort port address old mid
+    → target.addr ≡ 0 → 1 ≤ address → Went mid new
+    → Commanded target (set_address address) mid result new
     → (new.shared ≡ false → EachWas (AddressAsked target address result mid new) mid new)
     → GivesAddress target.addr address mid new → AtPort port address old new
 unfolding set_address
-at_addressed port address m target result old mid new at zero_is least went ordered what gives =
-    let within = within_given port target.addr address mid new zero_is least gives in
-    at_port_then port address m old mid new at went (record {
+at_addressed {port} {address} {target} {result} {old} {mid} {new} at zero_is least went ordered what
+    gives =
+    let within = within_given port zero_is least gives in
+    at_port_then port address old mid new at went (record {
       within = within;
       only = record {
         at = λ f p spare t none.
-            let h = having f p address mid t in
+            let h = having f p address t in
             let sound = ends_without_fault 2 result mid new ordered.ends none in
-            only_at_rest p mid new (ordered.rests refl sound) (ordered.backlog refl sound)
-            (unheld_stays f p h.has 0 mid new (h.owned.so (went_sound m mid new went none))
+            only_at_rest p (ordered.rests refl sound) (ordered.backlog refl sound)
+            (unheld_stays f p h.has 0 new (h.owned.so (went.led.sound none))
             spare.none (AddressAsked target address result mid new)
             (λ j s v x apart. stays_as_same j s v (x.others (ap (λ a. address_of s == a) zero_is
-            ∙ apart)))
-            (what (within.stays f p spare t).single))
+            ∙ apart))) (what (within.stays f p spare t).single))
             (commanded_control target (set_address address) result mid new ordered sound);
-        named = λ f p spare t. by_fault mid
-            (λ none.
-            let h = having f p address mid t in
-            named_of p mid new (unheld_stays f p h.has 0 mid new (h.owned.so none) spare.none
+        named = λ f p spare t. by_fault mid (λ none.
+            let h = having f p address t in
+            named_of p mid new (unheld_stays f p h.has 0 new (h.owned.so none) spare.none
             (AddressAsked target address result mid new)
             (λ j s v x apart. stays_as_same j s v (x.others (ap (λ a. address_of s == a) zero_is
-            ∙ apart)))
-            (what (within.stays f p spare t).single)))
+            ∙ apart))) (what (within.stays f p spare t).single)))
             (λ fault before. subst (λ w. EachNamedElsewhere p StaysAs mid w)
             (sym (write_nothing target (set_address address) mid new fault before result
-            ordered.stages))
-            (named_kept p mid mid (keeps_devices_none mid) t.single));
+            ordered.stages)) (named_kept p (keeps_devices_none mid) t.single));
       };
     })
 
@@ -537,21 +520,21 @@ pub is_above-self : (p : List ℕ) → is_above p p ≡ false
 is_above-self p = ap (λ b. is_way p p && not b) (self_path p) ∙ and_false (is_way p p)
 
 -- what comes after the device has its address
-pub at_configured : (port : HubPort) (address n : ℕ) (old mid new : World) {r s : Option (List ℕ)}
-    → AtPort port address old mid → TakesAddress port address old mid → StepRun n mid r new s
+pub at_configured : {port : HubPort} {address : ℕ} {old mid new : World}
+    → AtPort port address old mid → TakesAddress port address old mid → Went mid new
     → OnlySets address mid new → AtPort port address old new
-at_configured port address n old mid new at takes went sets = record {
-  within = within-keeps_addresses port address old mid new at.within sets.addresses;
+at_configured {address} {old} {mid} {new} at takes went sets = record {
+  within = within-keeps_addresses at.within sets.addresses;
   only = record {
     at = λ f p spare t none.
-        let sound = went_sound n mid new went none in
+        let sound = went.led.sound none in
         let taken = takes.took f p spare t in
         let own = taken.so sound in
         let rests = sets.ports none (after_taking f p address) p (held_there f p address) own in
-        only_at_then p old mid new (at.only.at f p spare t sound) (record {
+        only_at_then (at.only.at f p spare t sound) (record {
           others = λ x apart. rests x (ap (λ b. b && not (same_path p x)) apart);
           spares = course_wider (λ s w k. k.spares) (rests p (is_above-self p));
-          devices = unheld_stays f p address address mid new own spare.spare (StaysBut address)
+          devices = unheld_stays f p address address new own spare.spare (StaysBut address)
               (λ j s v x apart. x.stays apart)
               (sets.devices (sets.addresses.kept (after_taking f p address) taken).single);
           backlog = sets.backlog none (after_taking f p address) p (held_there f p address) own;
@@ -561,8 +544,8 @@ at_configured port address n old mid new at takes went sets = record {
         let taken = takes.took f p spare t in
         let single = (sets.addresses.kept (after_taking f p address) taken).single in
         named_then p old mid new (at.only.named f p spare t) (by_fault mid
-        (λ none. named_of p mid new (unheld_stays f p address address mid new (taken.so none)
+        (λ none. named_of p mid new (unheld_stays f p address address new (taken.so none)
         spare.spare (StaysBut address) (λ j s v x apart. x.stays apart) (sets.devices single)))
-        (λ fault before. named_kept p mid new (sets.spent fault before) single));
+        (λ fault before. named_kept p (sets.spent fault before) single));
   };
 }

@@ -4,24 +4,23 @@ use Rattle.std.proofs.Common.{◌∷◌, Option, None, Some, option_map, Ok, if�
 use Rattle.std.proofs.Common.{subst, ◌∙◌}
 use Rattle.std.proofs.lemmas.Bool.{eq-eqb}
 use Rattle.std.proofs.lemmas.Option.{same_Some}
-use Rattle.usb_port.specs.{PortState, is_low, is_attached, speed_of, seen, PortStatus}
-use Rattle.usb_device.specs.{State, Spec, Ports, vacant, taken, reach, reach_at, state_at, port_at}
-use Rattle.usb_device.specs.{Location, path_to, reach_on, state_on, state_there, port_there}
-use Rattle.usb_world.specs.{after_taking, Relation, Was, EachWas, spec_of, IsSanePort, Consistent}
-use Rattle.usb_world.specs.{AnyStep, Course, World}
+use Rattle.usb_port.specs.{PortState, is_low, speed_of, seen, PortStatus}
+use Rattle.usb_device.specs.{State, Spec, Ports, vacant, taken, reach, state_at, port_at, Location}
+use Rattle.usb_device.specs.{path_to, reach_on, state_on, state_there, port_there}
+use Rattle.usb_world.specs.{after_taking, Relation, Was, EachWas, spec_of, Consistent, AnyStep}
+use Rattle.usb_world.specs.{Course, World}
 use Rattle.usb_tree.specs.{address_of}
-use Rattle.usb_world.proofs.Interface.{between_course, course_wider, each_wider, same_device}
-use Rattle.usb_world.proofs.Interface.{undisturbed_keeps}
-use Rattle.usb_tree.proofs.Interface.{both, false_true, self_path}
-use Rattle.usb_bus.specs.{StepRun}
+use Rattle.usb_address.proofs.Interface.{live_port}
+use Rattle.usb_world.proofs.Interface.{reach_live, between_course, course_wider, each_wider}
+use Rattle.usb_world.proofs.Interface.{same_device, undisturbed_keeps}
+use Rattle.usb_tree.proofs.Interface.{false_true, self_path}
 use Rattle.usb_transaction.specs.{Target}
 use Rattle.usb_address.specs.{AddressMap, MapHolds, KeepsAddresses}
 use Rattle.usb_hub.specs.{HubPort, Resets, StaysAs, KeepsDevices, PortStatusAt, AddressAsked}
 use Rattle.usb_hub.proofs.Interface.{stays-registers, stays-spec}
 use Rattle.usb_enum.specs.{Addressed, Within, StatusAt, Learned, AnswersSo, IsRegular, AtPath}
 use Rattle.usb_enum.specs.{Finds, HasDescriptor, HasHead, HasSpeed, IsAddressed, AwaitsAddress}
-use Rattle.usb_enum.specs.{AtMaximum}
-use Rattle.usb_enum.proofs.courses.Courses.{went_sound, went_regular}
+use Rattle.usb_enum.specs.{AtMaximum, Went, IsResponsive}
 use Rattle.usb_enum.proofs.devices.Enumerations.{answered_has, having, at_taking}
 use Rattle.usb_enum.proofs.devices.Enumerations.{within-keeps_addresses, within_reset}
 use Rattle.usb_enum.proofs.readings.Heads.{head_packet}
@@ -54,9 +53,9 @@ was_at R (suc j ∷ e) old new was v on there =
 was_at R _ old new was v on there = false_true on
 
 -- what is so of its place is so of its path
-pub at_place : (A : State → Type 0) (p : List ℕ) (w : World) (R : Location → State → Type 0)
+pub at_place : (A : State → Type 0) {p : List ℕ} {w : World} {R : Location → State → Type 0}
     → AtPath A p w → (s : StoodAt p w R) → A s.before
-at_place A p w R is s = subst (λ x. AtPath A x w) s.path is s.before s.on s.stands
+at_place A {w} is s = subst (λ x. AtPath A x w) s.path is s.before s.on s.stands
 
 -- what was so of it stays so, as the call tells
 pub path_on : (R : Relation) (A B : State → Type 0)
@@ -64,7 +63,7 @@ pub path_on : (R : Relation) (A B : State → Type 0)
     → EachWas R old new → AtPath A p old → AtPath B p new
 path_on R A B f p old new was a v on there =
     let s = was_at R p old new was v on there in
-    f s.spot s.before v s.so (at_place A p old (λ j s. R j s v) a s)
+    f s.spot s.before v s.so (at_place A a s)
 
 -- Its speed, as its port shows it
 
@@ -72,32 +71,29 @@ low_of : (b : Bool) → is_low (speed_of b) ≡ b
 low_of true = refl
 low_of false = refl
 
-port_speed : (b : PortState) (s : State) → IsSanePort b → b.attached ≡ speed_of s.spec.low
-    → b.enable ≡ true → (seen b).low_speed ≡ s.spec.low
-port_speed b s sane attached on =
-    ap (λ x. x && is_low b.attached) (both b.power (is_attached b.attached) (sane.enabled on)).0
-    ∙ ap is_low attached ∙ low_of s.spec.low
+-- a port of a sane row sees the speed of its device
+sane_attached : (k : Ports) (j : ℕ) (p : List ℕ) (b : PortState) (s : State) → Consistent k
+    → port_at k j p ≡ Some b → state_at k j p ≡ Some s → b.attached ≡ speed_of s.spec.low
+unfolding Consistent port_at state_at
+sane_attached (vacant c k) (suc j) p b s sane at there = sane_attached k j p b s sane.2 at there
+sane_attached (taken c z a k) zero [] b s sane at there =
+    ap (λ x. x.attached) (sym (same_Some c b at)) ∙ sane.1
+    ∙ ap (λ x. speed_of x.spec.low) (same_Some z s there)
+sane_attached (taken c z a k) zero (suc i ∷ p) b s sane at there =
+    sane_attached a i p b s sane.2 at there
+sane_attached (taken c z a k) (suc j) p b s sane at there = sane_attached k j p b s sane.3 at there
+sane_attached _ _ _ b s sane at there = absurd cc
 
 -- where a port stands and a reachable device on it
-seen_speed : (k : Ports) (i : ℕ) (p : List ℕ) (b : PortState) (s : State) → Consistent k
-    → reach_at k i p ≡ true → port_at k i p ≡ Some b → state_at k i p ≡ Some s
-    → (seen b).low_speed ≡ s.spec.low
-unfolding Consistent reach_at port_at state_at
-seen_speed (vacant b k) (suc i) p c s h on port stands = seen_speed k i p c s h.2 on port stands
-seen_speed (taken b z a k) zero [] c s h on port stands =
-    let same_port = same_Some b c port in
-    let same_state = same_Some z s stands in
-    ap (λ x. (seen x).low_speed) (sym same_port) ∙ port_speed b z h.0 h.1 on
-    ∙ ap (λ x. x.spec.low) same_state
-seen_speed (taken b z a k) zero (suc j ∷ p) c s h on port stands =
-    seen_speed a j p c s h.2 (both b.enable (reach_at a j p) on).1 port stands
-seen_speed (taken b z a k) (suc i) p c s h on port stands = seen_speed k i p c s h.3 on port stands
-seen_speed _ _ _ c s h on port stands = false_true on
-
 seen_there : (k : Ports) (p : List ℕ) (b : PortState) (s : State) → Consistent k → reach k p ≡ true
     → port_there k p ≡ Some b → state_there k p ≡ Some s → (seen b).low_speed ≡ s.spec.low
-seen_there k (suc i ∷ p) b s h on port stands = seen_speed k i p b s h on port stands
-seen_there k _ b s h on port stands = false_true on
+seen_there k (suc i ∷ p) b s sane on port stands =
+    let live = live_port k (suc i ∷ p) (reach_live k i p sane on) in
+    let power : b.power ≡ true = ap (λ (x : PortState). x.power)
+    (same_Some b live.0 (sym port ∙ live.1)) ∙ live.2 in
+    ap (λ x. x && is_low b.attached) power
+    ∙ ap is_low (sane_attached k i p b s sane port stands) ∙ low_of s.spec.low
+seen_there k _ b s sane on port stands = false_true on
 
 -- a state of the same description
 spec_of-some : (o : Option State) (spec : Spec) → option_map spec_of o ≡ Some spec → (s : State)
@@ -106,10 +102,10 @@ spec_of-some None spec e = absurd cc
 spec_of-some (Some s) spec e = (s, (refl, same_Some s.spec spec e))
 
 -- the status that was told is that of the port of the device that is reachable in the end
-pub told_speed : (p : List ℕ) (status : PortStatus) (old new : World)
+pub told_speed : {p : List ℕ} {status : PortStatus} {old new : World}
     → PortStatusAt p status old new → old.fault ≡ None → IsRegular old
     → AtPath (HasSpeed status.low_speed) p new
-told_speed p status old new told none order v on there =
+told_speed {p} {old} {new} told none order v on there =
     let to_now : Course AnyStep old told.now = course_wider (λ s w x. tt) (told.before p) in
     let since : Course AnyStep told.now new = course_wider (λ s w x. tt) (told.since p) in
     let same = same_device p (course_wider (λ s w x. x.rests) (told.since p)) on in
@@ -121,74 +117,68 @@ told_speed p status old new told none order v on there =
 
 -- PORT_RESET, its status and the clearing of C_PORT_RESET
 
-pub reset_finds : (port : HubPort) (address l m n : ℕ) (status : PortStatus)
-    {old set told new : World} {a b c d : Option (List ℕ)} → StepRun l old a set b
-    → StepRun m set b told c → StepRun n told c new d
-    → Resets port old set → StatusAt port set (Ok status) told → KeepsDevices told new
-    → Within port address old new → new.fault ≡ None
-    → Finds (HasSpeed status.low_speed) port address old new
-reset_finds port address l m n status {old} {set} {told} {new} first second third resets shown keeps
+pub reset_finds : {port : HubPort} {address : ℕ} {status : PortStatus} {old set told new : World}
+    → Went old set → Went set told → Went told new → Resets port old set
+    → StatusAt port set (Ok status) told → KeepsDevices told new → Within port address old new
+    → new.fault ≡ None → Finds (HasSpeed status.low_speed) port address old new
+reset_finds {port} {address} {status} {old} {set} {told} {new} first second third resets shown keeps
     within none = record {
       found = λ f p spare t order.
-          let none_set = went_sound m set told second (went_sound n told new third none) in
-          let h = having f p address set
+          let h = having f p address
           ((within_reset port address old set resets).stays f p spare t) in
           let port_told = shown.tells.tells (after_taking f p h.has) p
           (at_taking f port p h.has spare.at) h.owned status (done_at shown.told) in
           path_on StaysAs (HasSpeed status.low_speed) (HasSpeed status.low_speed)
           (λ j s v x low. ap (λ y. y.low) (stays-spec s v x) ∙ low) p told new
           (keeps.stays (within.stays f p spare t).single)
-          (told_speed p status set told port_told none_set (went_regular l old set first order));
+          (told_speed port_told (second.led.sound (third.led.sound none)) (first.order order));
     }
 
 -- Who holds which address
 
-pub held_at : (f : AddressMap) (p : List ℕ) (has : ℕ) (w : World)
+pub held_at : (f : AddressMap) (p : List ℕ) (has : ℕ) {w : World}
     → MapHolds (after_taking f p has) w → AtPath (λ s. address_of s ≡ has) p w
-held_at f p has w owned s on there =
+held_at f p has owned s on there =
     same_Some (address_of s) has (sym (ap (option_map address_of) there) ∙ owned.own p on
     ∙ ap (λ x. if x then Some has else f p) (self_path p))
 
 -- what was learned of whoever answered at the address is so of the device at the port, which has it
-pub answered_finds : (So : Spec → Type 0) (t : Target) (port : HubPort) (address n : ℕ)
-    {old mid new : World} {b c : Option (List ℕ)} → (t.addr ≡ 0) ⊎ (t.addr ≡ address)
-    → AnswersSo So t mid new → StepRun n mid b new c
-    → Within port address old mid → KeepsAddresses mid new
+pub answered_finds : {So : Spec → Type 0} {t : Target} {port : HubPort} {address : ℕ}
+    {old mid new : World} → (t.addr ≡ 0) ⊎ (t.addr ≡ address) → AnswersSo So t mid new
+    → Went mid new → Within port address old mid → KeepsAddresses mid new
     → Finds (λ s. So s.spec × (address_of s ≡ t.addr)) port address old new
-answered_finds So t port address n {mid} {new} is answered went within keeps =
+answered_finds {So} {t} {address} {mid} {new} is answered went within keeps =
     record {
       found = λ f p spare t0 order.
-          let h = having f p address mid (within.stays f p spare t0) in
+          let h = having f p address (within.stays f p spare t0) in
           let claims : AddressMap = after_taking f p h.has in
-          let has = answered_has f port p address h.has t.addr spare is
-          (answered.who.held claims h.owned) in
+          let has = answered_has h.has t.addr spare is (answered.who.held claims h.owned) in
           path_on (Learned So t) (λ s. address_of s ≡ h.has) (λ s. So s.spec
-          × (address_of s ≡ t.addr))
-          (λ j s v x at. (
+          × (address_of s ≡ t.addr)) (λ j s v x at. (
             subst So (sym (stays-spec s v x.frame)) (x.so (eq-eqb (address_of s) t.addr
                 (at ∙ has))),
             ap (λ r. r.address) (stays-registers s v x.frame) ∙ at ∙ has,
           ))
           p mid new (answered.learns (keeps.kept claims h.owned).single)
-          (held_at f p h.has mid (h.owned.so (went_sound n mid new went answered.still)));
+          (held_at f p h.has (h.owned.so (went.led.sound answered.still)));
     }
 
 -- Over calls that come later
 
 -- what was found stays so over a call that leaves a device as it was
-pub finds_on : (R : Relation) (A B : State → Type 0) (port : HubPort) (address : ℕ)
-    {old mid new : World} → ((j : Location) (s v : State) → R j s v → A s → B v)
+pub finds_on : (R : Relation) {A : State → Type 0} (B : State → Type 0) {port : HubPort}
+    {address : ℕ} {old mid new : World} → ((j : Location) (s v : State) → R j s v → A s → B v)
     → (new.shared ≡ false → EachWas R mid new) → Within port address old new
     → Finds A port address old mid → Finds B port address old new
-finds_on R A B port address {mid} {new} f was within finds = record {
+finds_on R {A} B {mid} {new} f was within finds = record {
   found = λ g p spare t order. path_on R A B f p mid new (was (within.stays g p spare t).single)
       (finds.found g p spare t order);
 }
 
-pub finds_both : (A B C : State → Type 0) (port : HubPort) (address : ℕ) (old new : World)
-    → ((s : State) → A s → B s → C s) → Finds A port address old new → Finds B port address old new
-    → Finds C port address old new
-finds_both A B C port address old new f a b = record {
+pub finds_both : {A B : State → Type 0} (C : State → Type 0) {port : HubPort} {address : ℕ}
+    {old new : World} → ((s : State) → A s → B s → C s) → Finds A port address old new
+    → Finds B port address old new → Finds C port address old new
+finds_both C f a b = record {
   found = λ g p spare t order s on there. f s (a.found g p spare t order s on there)
       (b.found g p spare t order s on there);
 }
@@ -200,28 +190,24 @@ unnamed : (target : Target) (s : State) → s.spec.low ≡ target.low
     → AwaitsAddress target s
 unnamed target s low head none = record { low = low; head = head.0; zero = head.1 ∙ none }
 
-pub unaddressed_finds : (port : HubPort) (address n : ℕ) (low pre : Bool) (max : ℕ)
-    {old mid new : World} {b c : Option (List ℕ)}
-    → (mid.fault ≡ None → Finds (HasSpeed low) port address old mid)
+pub unaddressed_finds : {port : HubPort} {address : ℕ} (low pre : Bool) (max : ℕ)
+    {old mid new : World} → (mid.fault ≡ None → Finds (HasSpeed low) port address old mid)
     → (let asked : Target = record { addr = 0; max = 8; low = low; pre = pre } in
-    AnswersSo (HasHead low max) asked mid new) → StepRun n mid b new c
+    AnswersSo (HasHead low max) asked mid new) → Went mid new
     → Within port address old mid → KeepsAddresses mid new
     → (let target : Target = record { addr = 0; max = max; low = low; pre = pre } in
     Finds (AwaitsAddress target) port address old new)
-unaddressed_finds port address n low pre max {old} {mid} {new} speed answered went within keeps =
+unaddressed_finds low pre max {mid} {new} speed answered went within keeps =
     let asked : Target = record { addr = 0; max = 8; low = low; pre = pre } in
     let target : Target = record { addr = 0; max = max; low = low; pre = pre } in
     let stays : new.shared ≡ false → EachWas StaysAs mid new =
     λ single. each_wider (Learned (HasHead low max) asked) StaysAs (λ j s v x. x.frame) mid new
     (answered.learns single) in
-    let later = finds_on StaysAs (HasSpeed low) (HasSpeed low) port address
+    let later = finds_on StaysAs (HasSpeed low)
     (λ j s v x is. ap (λ y. y.low) (stays-spec s v x) ∙ is) stays
-    (within-keeps_addresses port address old mid new within keeps)
-    (speed (went_sound n mid new went answered.still)) in
-    finds_both (HasSpeed low) (λ s. HasHead low max s.spec × (address_of s ≡ 0))
-    (AwaitsAddress target) port address old new (λ s is head. unnamed target s is head refl)
-    later (answered_finds (HasHead low max) asked port address n (inl refl) answered went within
-    keeps)
+    (within-keeps_addresses within keeps) (speed (went.led.sound answered.still)) in
+    finds_both (AwaitsAddress target) (λ s is head. unnamed target s is head refl)
+    later (answered_finds (inl refl) answered went within keeps)
 
 -- SET_ADDRESS
 
@@ -231,21 +217,27 @@ pub record Granted (low : Bool) (max : ℕ) (spec : Spec) : Type 0 where
   pub head : HasHead low max spec
   pub allowed : spec.stalls.address ≡ false
 
+-- what answered with that head is responsive
+pub responsive : {t : Target} {spec : Spec} → Granted t.low t.max spec → IsResponsive t spec
+responsive g = record {
+  loud = g.head.loud;
+  free = g.head.free;
+  max = head_packet g.speed g.head;
+}
+
 pub granted : (target : Target) (address : ℕ) (old new : World) → target.addr ≡ 0
     → (j : Location) (s v : State) → AddressAsked target address (Ok tt) old new j s v
     → AwaitsAddress target s → Granted target.low target.max v.spec
 granted target address old new none j s v x is =
-    subst (Granted target.low target.max) (sym (ap (λ y. y.spec) x.frame))
-    (record {
+    subst (Granted target.low target.max) (sym (ap (λ y. y.spec) x.frame)) (record {
       speed = is.low;
       head = is.head;
       allowed = (x.done (eq-eqb (address_of s) target.addr (is.zero ∙ sym none)) refl).0;
     })
 
-addressed_granted : (device : Addressed) (s : State)
-    → Granted device.target.low device.target.max s.spec
-    → AtMaximum device.target (HasDescriptor device.bytes) s.spec
-    × (address_of s ≡ device.target.addr) → IsAddressed device s
+pub addressed_granted : (device : Addressed) (s : State)
+    → Granted device.target.low device.target.max s.spec → AtMaximum device.target
+    (HasDescriptor device.bytes) s.spec × (address_of s ≡ device.target.addr) → IsAddressed device s
 addressed_granted device s is read = record {
   low = is.speed;
   head = is.head;
@@ -255,40 +247,25 @@ addressed_granted device s is read = record {
 }
 
 -- what is so of whoever answers at the address that was given
-pub spoken_finds : (So : Spec → Type 0) (C : State → Type 0) (target t : Target) (port : HubPort)
-    (address n : ℕ) {old mid given new : World} {c d : Option (List ℕ)} → target.addr ≡ 0
+pub spoken_finds : {So : Spec → Type 0} (C : State → Type 0) (target : Target) {t : Target}
+    {port : HubPort} {address : ℕ} {old mid given new : World} → target.addr ≡ 0
     → t ≡ record target { addr = address }
     → ((s : State) → Granted t.low t.max s.spec → So s.spec × (address_of s ≡ t.addr) → C s)
     → Finds (AwaitsAddress target) port address old mid
     → (given.shared ≡ false → EachWas (AddressAsked target address (Ok tt) mid given) mid given)
-    → Within port address old given → AnswersSo So t given new
-    → StepRun n given c new d → KeepsAddresses given new → Finds C port address old new
-spoken_finds So C target t port address n {old} {mid} {given} {new} none is gives unnamed asked
+    → Within port address old given → AnswersSo So t given new → Went given new
+    → KeepsAddresses given new → Finds C port address old new
+spoken_finds {So} C target {t} {port} {address} {old} {mid} {given} {new} none is gives unnamed
+    asked
     within answered went keeps =
     let Is : State → Type 0 = λ s. Granted t.low t.max s.spec in
     let allowed : Finds Is port address old given =
     subst (λ t. Finds (λ s. Granted t.low t.max s.spec) port address old given) (sym is)
-    (finds_on (AddressAsked target address (Ok tt) mid given) (AwaitsAddress target)
-    (λ s. Granted target.low target.max s.spec) port address
+    (finds_on (AddressAsked target address (Ok tt) mid given)
+    (λ s. Granted target.low target.max s.spec)
     (granted target address mid given none) asked within unnamed) in
     let later : Finds Is port address old new =
-    finds_on (Learned So t) Is Is port address
-    (λ j s v x g. subst (Granted t.low t.max)
+    finds_on (Learned So t) Is (λ j s v x g. subst (Granted t.low t.max)
     (sym (stays-spec s v x.frame)) g) answered.learns
-    (within-keeps_addresses port address old given new within keeps) allowed in
-    finds_both Is (λ s. So s.spec × (address_of s ≡ t.addr)) C port address old new gives
-    later (answered_finds So t port address n (inr (ap (λ t. t.addr) is)) answered went within
-    keeps)
-
-pub address_finds : (target : Target) (device : Addressed) (port : HubPort) (address n : ℕ)
-    {old mid given new : World} {c d : Option (List ℕ)} → target.addr ≡ 0
-    → device.target ≡ record target { addr = address }
-    → Finds (AwaitsAddress target) port address old mid
-    → (given.shared ≡ false → EachWas (AddressAsked target address (Ok tt) mid given) mid given)
-    → Within port address old given
-    → AnswersSo (AtMaximum device.target (HasDescriptor device.bytes)) device.target given new
-    → StepRun n given c new d → KeepsAddresses given new
-    → Finds (IsAddressed device) port address old new
-address_finds target device port address n none is =
-    spoken_finds (AtMaximum device.target (HasDescriptor device.bytes)) (IsAddressed device) target
-    device.target port address n none is (addressed_granted device)
+    (within-keeps_addresses within keeps) allowed in
+    finds_both C gives later (answered_finds (inr (ap (λ t. t.addr) is)) answered went within keeps)

@@ -6,14 +6,13 @@ use Rattle.std.proofs.Common.{IsSome}
 use Rattle.usb_request.specs.{PORT_ENABLE, C_PORT_RESET, set_address}
 use Rattle.usb_port.specs.{PortState, PortStatus, ClearEnable, ClearResetChange, clear_call}
 use Rattle.usb_port.specs.{called_port, PortCall}
-use Rattle.usb_device.specs.{State, Ports, vacant, taken, reach_at, state_at}
-use Rattle.usb_device.specs.{state_there, port_there}
+use Rattle.usb_device.specs.{State, Ports, vacant, taken, reach_at, state_at, state_there}
+use Rattle.usb_device.specs.{port_there}
 use Rattle.usb_world.specs.{after_taking, KeepsPendingAt, spec_of, LeavesPortAlone, Course, World}
 use Rattle.usb_tree.specs.{has_power, pending, keeps_pending}
 use Rattle.usb_world.proofs.Interface.{course_wider, pending_persists, rests_or_pends}
 use Rattle.usb_world.proofs.Interface.{stands_or_pends, step_pend}
 use Rattle.usb_tree.proofs.Interface.{both, decided, false_true}
-use Rattle.usb_bus.specs.{StepRun}
 use Rattle.usb_address.specs.{AddressMap, Enumerating, WhileBusWorks}
 use Rattle.usb_transaction.specs.{Target}
 use Rattle.usb_pipe.specs.{PipeFault}
@@ -22,9 +21,8 @@ use Rattle.usb_hub.specs.{TouchesNoPort, Commanded}
 use Rattle.usb_hub.proofs.Interface.{disabled_port, done_stands, enabled_reach, told_stands}
 use Rattle.usb_enum.specs.{Cause, EnumFault, IsSpare, TakesAddress, AtPort, CalledAt, StatusAt}
 use Rattle.usb_enum.specs.{SettlesReset, Disables, OnlyAsks, OnlySets, IsKnownAs, IsOccupied}
-use Rattle.usb_enum.specs.{IsReachedAt, ReachesDevice, at_port}
+use Rattle.usb_enum.specs.{IsReachedAt, ReachesDevice, at_port, Went}
 use Rattle.usb_enum.specs.declared.finding.Finding.TheVariants.{Refused}
-use Rattle.usb_enum.proofs.courses.Courses.{went_sound}
 use Rattle.usb_enum.proofs.devices.Enumerations.{having, at_taking}
 use Rattle.usb_enum.proofs.devices.Frames.{called_is, ends_without_fault, held_there, is_above-self}
 
@@ -78,26 +76,25 @@ reached_on p c (inr is) = elim (rests_or_pends p c is.0) [
 -- PORT_RESET, its status and the clearing of C_PORT_RESET
 
 -- an enabled port of a reached row, with a device on it
-enabled_at : (p : List ℕ) (w : World) (b : PortState) → has_power w.roots p ≡ true
+enabled_at : {p : List ℕ} {w : World} (b : PortState) → has_power w.roots p ≡ true
     → OnReachedRow w p → port_there w.roots p ≡ Some b → b.enable ≡ true
     → IsSome (state_there w.roots p) → IsReachedAt w p
-enabled_at p w b on row there enabled some =
+enabled_at {p} {w} b on row there enabled some =
     let s = is_some-value (state_there w.roots p) some in
     inr (on, enabled_reach w p row b there enabled s.0 s.1)
 
-pub reset_reaches : (port : HubPort) (address l m n : ℕ) (status : PortStatus)
-    {old set told new : World} {a b c d : Option (List ℕ)} → StepRun l old a set b
-    → StepRun m set b told c → StepRun n told c new d
-    → AtPort port address old set → OnlyAsks set told → AtPort port address old told
-    → AtPort port address told new → StatusAt port set (Ok status) told → status.enabled ≡ true
+pub reset_reaches : {port : HubPort} {address : ℕ} {status : PortStatus} {old set told new : World}
+    → Went old set → Went set told → Went told new → AtPort port address old set → OnlyAsks set told
+    → AtPort port address old told → AtPort port address told new
+    → StatusAt port set (Ok status) told → status.enabled ≡ true
     → SettlesReset port status.reset_changed told (Ok tt) new → ReachesDevice port address old new
-reset_reaches port address l m n status {set} {told} {new} first second third at_set asks
+reset_reaches {port} {address} {status} {set} {told} {new} first second third at_set asks
     at_told at_settle shown enabled settles = record {
       reached = λ f p spare t order occupied none.
-          let none_told = went_sound n told new third none in
-          let none_set = went_sound m set told second none_told in
+          let none_told = third.led.sound none in
+          let none_set = second.led.sound none_told in
           let later = at_told.within.stays f p spare t in
-          let h = having f p address set (at_set.within.stays f p spare t) in
+          let h = having f p address (at_set.within.stays f p spare t) in
           let seen : PortStatusAt p status set told = shown.tells.tells (after_taking f p h.has) p
           (at_taking f port p h.has spare.at) h.owned status (done_at shown.told) in
           let is_enabled : seen.port.enable ≡ true = sym (ap (λ x. x.enabled) seen.is) ∙ enabled in
@@ -114,7 +111,7 @@ reset_reaches port address l m n status {set} {told} {new} first second third at
                     | inl e ↦ by_clear f p spare later seen.port is_enabled (settles.set e) y.0 y.1
                         some
                     | inr e ↦ subst (λ w. IsReachedAt w p) (sym (settles.unset e).1)
-                        (enabled_at p told seen.port y.0 seen.row y.1 is_enabled some)
+                        (enabled_at seen.port y.0 seen.row y.1 is_enabled some)
                   ])
             ]
           ];
@@ -126,13 +123,13 @@ reset_reaches port address l m n status {set} {told} {new} first second third at
         → has_power told.roots p ≡ true → port_there told.roots p ≡ Some b
         → IsSome (state_there told.roots p) → IsReachedAt new p
     by_clear f p spare later b is_enabled cleared on there some =
-        let h = having f p address told later in
+        let h = having f p address later in
         let done : PortCallDone p ClearResetChange told new =
         cleared.calls.done (after_taking f p h.has) p ClearResetChange
-        (called_is f port p address told spare h (clear_call C_PORT_RESET)
+        (called_is spare h (clear_call C_PORT_RESET)
         ClearResetChange refl) (done_at cleared.told) in
         elim (done_stands p ClearResetChange refl told new done on) [
-          | inl y ↦ enabled_at p new (called_port ClearResetChange b) y.0 done.row
+          | inl y ↦ enabled_at (called_port ClearResetChange b) y.0 done.row
               (y.1 ∙ ap (option_map (called_port ClearResetChange)) there) is_enabled
               (some_of (state_there told.roots p) (state_there new.roots p) y.2 some)
           | inr y ↦ inl y
@@ -141,31 +138,31 @@ reset_reaches port address l m n status {set} {told} {new} first second third at
 -- Over calls that come later
 
 -- where nothing is asked of any port
-pub reaches_rest : (port : HubPort) (address n : ℕ) {old mid new : World} {b c : Option (List ℕ)}
-    → StepRun n mid b new c → (new.fault ≡ None → TouchesNoPort mid new)
-    → ReachesDevice port address old mid → ReachesDevice port address old new
-reaches_rest port address n {mid} {new} went rest reaches = record {
+pub reaches_rest : {port : HubPort} {address : ℕ} {old mid new : World} → Went mid new
+    → (new.fault ≡ None → TouchesNoPort mid new) → ReachesDevice port address old mid
+    → ReachesDevice port address old new
+reaches_rest went rest reaches = record {
   reached = λ f p spare t order occupied none. reached_on p (rest none p)
-      (reaches.reached f p spare t order occupied (went_sound n mid new went none));
+      (reaches.reached f p spare t order occupied (went.led.sound none));
 }
 
 -- SET_ADDRESS
-pub reaches_addressed : (port : HubPort) (address n given : ℕ) (target : Target)
-    (result : Result (Unit {0}) PipeFault) {old : World} (mid new : World) {b c : Option (List ℕ)}
-    → StepRun n mid b new c → Commanded target (set_address given) mid result new
-    → ReachesDevice port address old mid → ReachesDevice port address old new
+pub reaches_addressed : {port : HubPort} {address : ℕ} (given : ℕ) {target : Target}
+    {result : Result (Unit {0}) PipeFault} {old mid new : World} → Went mid new
+    → Commanded target (set_address given) mid result new → ReachesDevice port address old mid
+    → ReachesDevice port address old new
 unfolding set_address
-reaches_addressed port address n given target result mid new went ordered reaches =
-    reaches_rest port address n went (λ none. ordered.rests refl
+reaches_addressed given {result} {mid} {new} went ordered reaches =
+    reaches_rest went (λ none. ordered.rests refl
     (ends_without_fault 2 result mid new ordered.ends none)) reaches
 
 -- where the device that took the address is configured
-pub reaches_set : (port : HubPort) (address n : ℕ) {old mid new : World} {b c : Option (List ℕ)}
-    → StepRun n mid b new c → TakesAddress port address old mid → OnlySets address mid new
+pub reaches_set : {port : HubPort} {address : ℕ} {old mid new : World} → Went mid new
+    → TakesAddress port address old mid → OnlySets address mid new
     → ReachesDevice port address old mid → ReachesDevice port address old new
-reaches_set port address n {mid} {new} went takes sets reaches = record {
+reaches_set {address} went takes sets reaches = record {
   reached = λ f p spare t order occupied none.
-      let sound = went_sound n mid new went none in
+      let sound = went.led.sound none in
       let own = (takes.took f p spare t).so sound in
       reached_on p (sets.ports none (after_taking f p address) p (held_there f p address) own p
       (is_above-self p)) (reaches.reached f p spare t order occupied sound);
@@ -197,17 +194,16 @@ disabled_known p cause old new d (inr x) = elim (done_stands p ClearEnable refl 
   | inr y ↦ inl y
 ]
 
-pub clear_enable_disables : (port : HubPort) (address : ℕ) (cause : Cause) (old : World)
-    (result : Result (Unit {0}) PipeFault) (new : World)
+pub clear_enable_disables : {port : HubPort} (address : ℕ) (cause : Cause)
+    {result : Result (Unit {0}) PipeFault} {old new : World}
     → CommandsPort port (clear_call PORT_ENABLE) old result new → result ≡ Ok tt
     → Disables port address old (Ok (Refused cause)) new
-clear_enable_disables port address cause old result new calls ok = record {
+clear_enable_disables address cause {old} {new} calls ok = record {
   there = λ f p spare t occupied finding e.
-      let h = having f p address old t in
+      let h = having f p address t in
       subst (λ x. IsKnownAs new p (Some x)) (let same : Refused cause ≡ finding = cc in same)
       (disabled_known p cause old new (calls.done (after_taking f p h.has) p ClearEnable
-      (called_is f port p address old spare h (clear_call PORT_ENABLE) ClearEnable refl) ok)
-      occupied);
+      (called_is spare h (clear_call PORT_ENABLE) ClearEnable refl) ok) occupied);
 }
 
 -- where there is no finding

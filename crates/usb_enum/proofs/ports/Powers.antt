@@ -1,6 +1,6 @@
 -- The ports of a hub that was configured, while they are given power one by one: those that have
 -- none, and those that have it.
-use Rattle.std.proofs.Common.{◌≡◌, ◌≤◌, ◌<◌, ◌-◌, ◌==◌, ◌&&◌, ◌⊎◌, inl, inr, not, nat_le, ℕ, zero}
+use Rattle.std.proofs.Common.{◌≢◌, ◌≡◌, ◌≤◌, ◌<◌, ◌-◌, ◌==◌, ◌&&◌, inl, inr, not, nat_le, ℕ, zero}
 use Rattle.std.proofs.Common.{suc, Bool, true, false, List, [], ◌∷◌, ◌++◌, Option, None, Some}
 use Rattle.std.proofs.Common.{option_map, Result, Ok, if◌then◌else◌, refl, ap, sym, subst, ◌∙◌}
 use Rattle.std.proofs.Common.{arith}
@@ -17,9 +17,9 @@ use Rattle.usb_world.specs.{is_harmless, Was, EachWas, hub_ports, spec_of, Leave
 use Rattle.usb_world.specs.{Course, step, World}
 use Rattle.usb_tree.specs.{address_of, is_way, same_number}
 use Rattle.usb_world.proofs.Interface.{course_joined, course_wider, pending_persists, ports_stand}
-use Rattle.usb_world.proofs.Interface.{rests_or_pends}
-use Rattle.usb_tree.proofs.Interface.{and_false, equal_same, false_true}
-use Rattle.usb_bus.specs.{StepRun}
+use Rattle.usb_world.proofs.Interface.{rests_or_pends, same_number-is}
+use Rattle.std.proofs.lemmas.Bool.{cases_order}
+use Rattle.usb_tree.proofs.Interface.{decided, and_false, equal_same, false_true}
 use Rattle.usb_transaction.specs.{Target, Answerer, is_at}
 use Rattle.usb_pipe.specs.{PipeFault}
 use Rattle.usb_pipe.proofs.Interface.{who_writes}
@@ -31,31 +31,18 @@ use Rattle.usb_hub.specs.{WentOff}
 use Rattle.usb_hub.proofs.Interface.{AsksFor, hub_done, hub_named, hub_rests, spec_of-none}
 use Rattle.usb_hub.proofs.Interface.{place_below, port_of_place, powered_stands, set_asks}
 use Rattle.usb_hub.proofs.Interface.{set_keeps}
-use Rattle.usb_enum.specs.{HubFacts, EmptiesPorts, OnlyAsks, IsPowered, Powered, Started, IsKnownAs}
-use Rattle.usb_enum.specs.{HasEmptyPorts, IsInOrder, IsOrderly}
-use Rattle.usb_enum.proofs.courses.Courses.{orderly_on, went_in_order}
+use Rattle.usb_enum.specs.{HubFacts, OnlyAsks, IsPowered, Powered, Started, IsKnownAs}
+use Rattle.usb_enum.specs.{HasEmptyPorts, IsInOrder, IsOrderly, Went}
+use Rattle.usb_enum.proofs.courses.Courses.{orderly_on}
 use Rattle.usb_enum.proofs.devices.Frames.{ends_without_fault as sound_end}
 use Rattle.usb_enum.proofs.devices.ReachedDevices.{is_some-value}
 
 -- Numbers
 
-apart_less : (n i : ℕ) → i < n → same_number n i ≡ false
-apart_less zero i h = absurd (omega (arith, h))
-apart_less (suc n) zero h = refl
-apart_less (suc n) (suc i) h = apart_less n i (omega (arith, h))
-
-apart_more : (n i : ℕ) → n < i → same_number n i ≡ false
-apart_more n zero h = absurd (omega (arith, h))
-apart_more zero (suc i) h = refl
-apart_more (suc n) (suc i) h = apart_more n i (omega (arith, h))
-
-less_or : (i n : ℕ) → i < suc n → (i < n) ⊎ (n ≡ i)
-less_or zero zero h = inr refl
-less_or zero (suc n) h = inl (omega arith)
-less_or (suc i) zero h = absurd (omega (arith, h))
-less_or (suc i) (suc n) h = elim (less_or i n (omega (arith, h))) [
-  | inl x ↦ inl (omega (arith, x))
-  | inr x ↦ inr (ap suc x)
+apart_of : (n i : ℕ) → i ≢ n → same_number n i ≡ false
+apart_of n i differs = elim (decided (same_number n i)) [
+  | inl e ↦ absurd (differs (same_number-is n i e))
+  | inr e ↦ e
 ]
 
 -- two ports of one device
@@ -76,14 +63,13 @@ all_off_power (vacant c k) (suc i) b h = all_off_power k i b h
 all_off_power (taken c s a k) zero b h = ap (λ o. o.power) (sym (same_Some (powered_off c) b h))
 all_off_power (taken c s a k) (suc i) b h = all_off_power k i b h
 
-pub off_unpowered : (new : World) (j : Location) → WentOff new j → (i : ℕ)
+pub off_unpowered : {new : World} {j : Location} → WentOff new j → (i : ℕ)
     → NoPower (port_there new.roots (path_to j ++ (suc i ∷ [])))
-off_unpowered new j off i = let port = path_to j ++ (suc i ∷ []) in
+off_unpowered {j} off i = let port = path_to j ++ (suc i ∷ []) in
     stays_unpowered port (course_wider (λ s w k. k.leaves) (off.since port))
     (subst NoPower (sym (port_of_place off.now.roots port
     ∙ ap (option_map port_of) (place_below off.now.roots j.row j.rest i []
-    ∙ ap (λ o. place_at (place_ports o) i []) off.off)))
-    (all_off_power off.ports i))
+    ∙ ap (λ o. place_at (place_ports o) i []) off.off))) (all_off_power off.ports i))
 
 -- A port that the hub has stands there
 
@@ -95,9 +81,7 @@ port_within (Some hub) g i h = within (split (not (g.configuration == 0)) (nat_l
   where
     split : (x y z : Bool) → (if x && y && z then Some (suc i - 1) else None) ≡ Some i → z ≡ true
     split true true true e = refl
-    split true true false e = absurd (cc e)
-    split true false z e = absurd (cc e)
-    split false y z e = absurd (cc e)
+    split _ _ _ e = absurd (cc e)
 
     within : nat_le (suc i) hub.ports ≡ true → i < hub.ports
     within e = grind (arith, nat_tests, e)
@@ -130,75 +114,74 @@ module _ (t : Target) (f : AddressMap) (j : Location) (held : f (path_to j) ≡ 
     pub powered : (i : ℕ) → i < n → IsKnownAs w (port i) None
     pub off : (i : ℕ) → n ≤ i → NoPower (port_there w.roots (port i))
 
-  module _ (n : ℕ) (old new : World) (ordered : IsPowered t (suc n) old new) (was : Given n old)
-    where
-      asked : AsksFor (set_port_feature PORT_POWER (suc n)) SetPower (suc n)
-      asked = set_asks (suc n) SetPower PORT_POWER refl refl
+  module _ (n : ℕ) (old new : World) (ordered : IsPowered t (suc n) old new)
+      (was : Given n old) where
+    asked : AsksFor (set_port_feature PORT_POWER (suc n)) SetPower (suc n)
+    asked = set_asks (suc n) SetPower PORT_POWER refl refl
 
-      follows : KeepsClaim t (set_port_feature PORT_POWER (suc n)) (path_to j) (MapHolds f)
-      follows = quiet_follows t (set_port_feature PORT_POWER (suc n)) asked.same f (path_to j)
-          (asked.harmless refl) held
+    follows : KeepsClaim t (set_port_feature PORT_POWER (suc n)) (path_to j) (MapHolds f)
+    follows = quiet_follows t (set_port_feature PORT_POWER (suc n)) asked.same f (path_to j)
+        (asked.harmless refl) held
 
-      owned : MapHolds f new
-      owned = ((set_keeps t PORT_POWER (suc n) old (Ok tt) new (λ h. absurd cc) ordered).kept f
-          (record { so = λ h. was.owned; single = was.owned.single })).so ordered.ends.still
+    owned : MapHolds f new
+    owned = ((set_keeps t PORT_POWER (suc n) old (Ok tt) new (λ h. absurd cc) ordered).kept f
+        (record { so = λ h. was.owned; single = was.owned.single })).so ordered.ends.still
 
-      done : PortCallDone (port n) SetPower old new
-      done = hub_done t j n (set_port_feature PORT_POWER (suc n)) SetPower asked (MapHolds f)
-          follows
-          old new ordered was.owned owned (λ h. false_true (sym h ∙ asked.harmless refl))
+    done : PortCallDone (port n) SetPower old new
+    done = hub_done t j n (set_port_feature PORT_POWER (suc n)) SetPower asked (MapHolds f)
+        follows old new ordered was.owned owned (λ h. false_true (sym h ∙ asked.harmless refl))
 
-      has : (s : State) × ((state_on old.roots j ≡ Some s)
-          × (port_named s.spec.hub s.registers (suc n) ≡ Some n))
-      has = hub_named t j n (set_port_feature PORT_POWER (suc n)) SetPower asked (MapHolds f)
-          follows
-          old new ordered was.owned owned (λ h. false_true (sym h ∙ asked.harmless refl))
+    has : (s : State) × ((state_on old.roots j ≡ Some s)
+        × (port_named s.spec.hub s.registers (suc n) ≡ Some n))
+    has = hub_named t j n (set_port_feature PORT_POWER (suc n)) SetPower asked (MapHolds f)
+        follows old new ordered was.owned owned (λ h. false_true (sym h ∙ asked.harmless refl))
 
-      stood : (b : PortState) × (port_there old.roots (port n) ≡ Some b)
-      stood =
-          is_some-value (port_there old.roots (port n))
-          (ports_stand old.roots j.row j.rest has.0.spec n was.order.sane
-          (ap (option_map spec_of) has.1.0) (port_within has.0.spec.hub has.0.registers n
-          has.1.1))
+    stood : (b : PortState) × (port_there old.roots (port n) ≡ Some b)
+    stood =
+        is_some-value (port_there old.roots (port n))
+        (ports_stand old.roots j.row j.rest has.0.spec n was.order.sane
+        (ap (option_map spec_of) has.1.0) (port_within has.0.spec.hub has.0.registers n has.1.1))
 
-      now_powered : IsKnownAs new (port n) None
-      now_powered = powered_stands (port n) old new done was.order stood.0 stood.1
-          (was.off n (omega arith) stood.0 stood.1)
+    now_powered : IsKnownAs new (port n) None
+    now_powered = powered_stands (port n) old new done was.order stood.0 stood.1
+        (was.off n (omega arith) stood.0 stood.1)
 
-      rests : (i : ℕ) → same_number n i ≡ false → Course (LeavesPortAlone (port i)) old new
-      rests i apart =
-          hub_rests t j n (set_port_feature PORT_POWER (suc n)) SetPower asked (MapHolds f) follows
-          old (Ok tt) new tt ordered.stages was.owned (port i) (siblings (path_to j) n i apart)
+    rests : (i : ℕ) → same_number n i ≡ false → Course (LeavesPortAlone (port i)) old new
+    rests i apart =
+        hub_rests t j n (set_port_feature PORT_POWER (suc n)) SetPower asked (MapHolds f) follows
+        old (Ok tt) new tt ordered.stages was.owned (port i) (siblings (path_to j) n i apart)
 
-      one_more : Given (suc n) new
-      one_more = record {
-        sound = ordered.ends.still;
-        owned = owned;
-        order = orderly_on was.order (power_course done);
-        powered = λ i below. elim (less_or i n below) [
-          | inl less ↦ vacant_on (port i) (rests i (apart_less n i less)) (was.powered i less)
-          | inr same ↦ subst (λ i. IsKnownAs new (port i) None) same now_powered
-        ];
-        off = λ i above. stays_unpowered (port i)
-            (course_wider (λ s w k. k.leaves) (rests i (apart_more n i (omega (arith, above)))))
-            (was.off i (omega (arith, above)));
-      }
+    one_more : Given (suc n) new
+    one_more = record {
+      sound = ordered.ends.still;
+      owned = owned;
+      order = orderly_on was.order (power_course done);
+      powered = λ i below. elim (cases_order i n) [
+        | inl same ↦ subst (λ i. IsKnownAs new (port i) None) (sym same) now_powered
+        | inr (inl less) ↦ vacant_on (port i)
+            (rests i (apart_of n i (λ e. omega (arith, e, less)))) (was.powered i less)
+        | inr (inr more) ↦ absurd (omega (arith, below, more))
+      ];
+      off = λ i above. stays_unpowered (port i) (course_wider (λ s w k. k.leaves)
+          (rests i (apart_of n i (λ e. omega (arith, e, above)))))
+          (was.off i (omega (arith, above)));
+    }
 
-  pub all_given : (n : ℕ) (old new : World) → Powered t n old new → Given 0 old → Given n new
-  all_given zero old new same was = subst (Given 0) (sym same) was
-  all_given (suc n) old new x was = one_more n x.0 new x.1.1 (all_given n old x.0 x.1.0 was)
+  pub all_given : (n : ℕ) {old : World} (new : World) → Powered t n old new → Given 0 old
+      → Given n new
+  all_given zero new same was = subst (Given 0) (sym same) was
+  all_given (suc n) new x was = one_more n x.0 new x.1.1 (all_given n x.0 x.1.0 was)
 
 -- The reads of a hub's descriptor and status
 
 module _ (t : Target) (f : AddressMap) (j : Location) (held : f (path_to j) ≡ Some t.addr) where
-  asked_on : (request : Setup) (old : World) (answer : Result (Vec ℕ) PipeFault) (new : World)
+  asked_on : {request : Setup} {answer : Result (Vec ℕ) PipeFault} {old new : World}
       → is_harmless request ≡ true → Is request DEVICE_OUT SET_ADDRESS ≡ false → new.fault ≡ None
       → Queried t request old answer new → Given t f j held 0 old → Given t f j held 0 new
-  asked_on request old answer new harmless other none asked was = record {
+  asked_on {request} {answer} {old} {new} harmless other none asked was = record {
     sound = none;
     owned = ((read_keeps t request (same_setup request) harmless other 3 1 old new answer asked.ends
-        asked.stages).kept f
-        (record { so = λ h. was.owned; single = was.owned.single })).so none;
+        asked.stages).kept f (record { so = λ h. was.owned; single = was.owned.single })).so none;
     order = orderly_on was.order (rests []);
     powered = λ i below. absurd (omega (arith, below));
     off = λ i above. stays_unpowered (path_to j ++ (suc i ∷ []))
@@ -208,37 +191,32 @@ module _ (t : Target) (f : AddressMap) (j : Location) (held : f (path_to j) ≡ 
       rests : TouchesNoPort old new
       rests = asked.rests (sound_end 3 answer old new asked.ends none)
 
-  started_given : (old new : World) (facts : HubFacts) → Started t old new facts
+  started_given : {old new : World} {facts : HubFacts} → Started t old new facts
       → Given t f j held 0 old → Given t f j held facts.ports new
   unfolding get_hub_descriptor get_status
-  started_given old new facts s was =
-      let counted = asked_on get_hub_descriptor old (Ok s.count.bytes) s.counted refl refl
-      s.count.asked.ends.still s.count.asked was in
-      let told = asked_on get_status s.counted s.supply.told.answer s.asked refl refl
-      s.supply.told.ends.still s.supply.told.asked counted in
-      all_given t f j held facts.ports s.asked new s.powered told
+  started_given {new} {facts} s was =
+      let counted = asked_on refl refl s.count.asked.ends.still s.count.asked was in
+      let told = asked_on refl refl s.supply.told.ends.still s.supply.told.asked counted in
+      all_given t f j held facts.ports new s.powered told
 
   -- what is known in the end, also after the reading of strings
-  given_below : (started new : World) (facts : HubFacts) → Given t f j held facts.ports started
+  given_below : {started new : World} (facts : HubFacts) → Given t f j held facts.ports started
       → new.fault ≡ None → OnlyAsks started new → (number : ℕ) → 1 ≤ number → number ≤ facts.ports
       → IsKnownAs new ((path_to j) ++ (number ∷ [])) None
-  given_below started new facts given working asks zero least most = absurd (omega (arith, least))
-  given_below started new facts given working asks (suc i) least most =
+  given_below facts given working asks zero least most = absurd (omega (arith, least))
+  given_below facts given working asks (suc i) least most =
       vacant_on (path_to j ++ (suc i ∷ [])) (asks.ports working (path_to j ++ (suc i ∷ [])))
       (given.powered i (omega (arith, most)))
 
 -- The configuring of a hub
 
-module _ (t : Target) (value l m : ℕ) (told : Option HubFacts)
-    {before given set started new : World} {a b c d : Option (List ℕ)}
-    (went_given : StepRun l before a given b) (keeps_given : KeepsAddresses before given)
-    (went_set : StepRun m given c set d) (ordered : Commanded t (set_configuration value) given
-    (Ok tt) set) (what : set.shared ≡ false
-    → EachWas (ConfigurationAsked t value (Ok tt) set) given set)
+module _ {t : Target} (value : ℕ) (told : Option HubFacts) {before given set started new : World}
+    (went_given : Went before given) (keeps_given : KeepsAddresses before given)
+    (went_set : Went given set) (ordered : Commanded t (set_configuration value) given (Ok tt) set)
+    (what : set.shared ≡ false → EachWas (ConfigurationAsked t value (Ok tt) set) given set)
     (keeps_set : KeepsAddresses given set)
     (starts : (facts : HubFacts) → told ≡ Some facts → Started t set started facts)
-    (asks : OnlyAsks started new)
-    (f : AddressMap) (p : List ℕ) (held : f p ≡ Some t.addr)
+    (asks : OnlyAsks started new) (f : AddressMap) (p : List ℕ) (held : f p ≡ Some t.addr)
     (till : WhileBusWorks (MapHolds f) before) (order : IsInOrder before)
     (working : new.fault ≡ None) where
   own_given : WhileBusWorks (MapHolds f) given
@@ -258,8 +236,7 @@ module _ (t : Target) (value l m : ℕ) (told : Option HubFacts)
         claims = f;
         owned = own_given.so ordered.ends.sound;
         held = held;
-      }) who.spot who.before who.was_on who.stood
-      (equal_same (address_of who.before) t.addr who.at)
+      }) who.spot who.before who.was_on who.stood (equal_same (address_of who.before) t.addr who.at)
 
   was : Was (ConfigurationAsked t value (Ok tt) set) given who.spot who.now
   was = what own_set.single who.spot who.now who.on who.stands
@@ -275,34 +252,14 @@ module _ (t : Target) (value l m : ℕ) (told : Option HubFacts)
   all_off_set = record {
     sound = ordered.ends.still;
     owned = own_set.so ordered.ends.still;
-    order = went_in_order m given set went_set (went_in_order l before given went_given order)
-        ordered.ends.still;
+    order = went_set.order (went_given.order order) ordered.ends.still;
     powered = λ i below. absurd (omega (arith, below));
-    off = λ i above. off_unpowered set who.spot went_off i;
+    off = λ i above. off_unpowered went_off i;
   }
 
-  configured_below : HasEmptyPorts p told new
+  pub configured_below : HasEmptyPorts p told new
   configured_below facts number is least most =
       subst (λ q. IsKnownAs new (q ++ (number ∷ [])) None) path
-      (given_below t f who.spot held_there started new facts
-      (started_given t f who.spot held_there set started facts (starts facts is) all_off_set)
+      (given_below t f who.spot held_there facts
+      (started_given t f who.spot held_there (starts facts is) all_off_set)
       working asks number least most)
-
--- the same of what a call answered
-pub empties_ports : (t : Target) (value l m : ℕ) (told : Option HubFacts)
-    (outcome : Result (Unit {0}) PipeFault) {before given set started new : World}
-    {a b c d : Option (List ℕ)} → StepRun l before a given b → OnlyAsks before given
-    → StepRun m given c set d → outcome ≡ Ok tt
-    → Commanded t (set_configuration value) given outcome set
-    → (set.shared ≡ false → EachWas (ConfigurationAsked t value outcome set) given set)
-    → KeepsAddresses given set
-    → ((facts : HubFacts) → told ≡ Some facts → Started t set started facts) → OnlyAsks started new
-    → EmptiesPorts t.addr told before new
-empties_ports t value l m told outcome {given} {set} went_given asks_given
-    went_set done ordered what keeps starts asks = record {
-      empty = configured_below t value l m told went_given asks_given.addresses went_set
-          (subst (λ r. Commanded t (set_configuration value) given r set) done ordered)
-          (subst (λ r. set.shared ≡ false → EachWas (ConfigurationAsked t value r set) given set)
-          done
-          what) keeps starts asks;
-    }

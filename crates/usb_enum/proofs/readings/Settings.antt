@@ -1,22 +1,37 @@
--- How what is learned of a device joins where it is configured.
-use Rattle.usb_device.specs.{Location, Spec, OnlyStage, State, in_end, out_end}
-use Rattle.std.proofs.Common.{◌≡◌, ℕ, ◌==◌, List, Option, Result, Ok, false, refl, ap, subst, ◌∙◌}
+-- How what is learned of a device joins where it is configured, and why it is refused then.
+use Rattle.usb_device.specs.{Location, Spec, OnlyStage, State, in_end, out_end, is_value, IsSpec}
+use Rattle.std.proofs.Common.{◌≡◌, ℕ, ◌==◌, List, Result, Ok, false, refl, ap, subst, ◌∙◌, ◌≢◌, inl}
+use Rattle.std.proofs.Common.{inr, ◌<◌, ◌&&◌, not, true, [], Bool, length, slice_index_or}
+use Rattle.std.proofs.Common.{if◌then◌else◌, Option, None, Some, Err, sym}
 use Rattle.usb_descriptor.specs.{configuration_value, configuration_count}
 use Rattle.usb_world.specs.{EachWas, World}
 use Rattle.usb_world.proofs.Interface.{each_joined, each_wider}
-use Rattle.usb_bus.specs.{StepRun}
-use Rattle.usb_transaction.specs.{Target}
-use Rattle.usb_pipe.specs.{PipeFault}
-use Rattle.usb_hub.specs.{ConfigurationAsked, IsFresh}
+use Rattle.usb_transaction.specs.{Target, NoThreeDamaged}
+use Rattle.usb_pipe.specs.{PipeFault, WriteFailure}
+use Rattle.usb_hub.specs.{ConfigurationAsked, IsFresh, takes_value}
 use Rattle.usb_hub.proofs.Interface.{stays-registers, stays-spec}
-use Rattle.usb_enum.specs.{Accepted, StringIndexes, strings_by, string_indexes, configuration_of}
-use Rattle.usb_enum.specs.{Learned, DeviceFact, HasReadings, LearnedSet, LearnsSet, TellsPorts}
-use Rattle.usb_enum.specs.{AtMaximum, HasConfigurations, HostOptions}
-use Rattle.usb_enum.proofs.devices.SharedAddresses.{went_unshared}
+use Rattle.usb_enum.specs.{Learned, DeviceFact, LearnedSet, LearnsSet, AtMaximum, HasConfigurations}
+use Rattle.usb_enum.specs.{HostOptions, Went, Cause, Stalled, TooDeep, NoPower, Stop, texts_below}
+use Rattle.usb_enum.specs.{first_fault, is_hub_device, fits_tier, Hears, Explained, FailureReason}
+use Rattle.usb_enum.specs.{ExplainsSet, IsResponsive, IsRefusedFor, Refuses, no_fault}
+use Rattle.usb_enum.specs.{setting_fault, start_fault, chosen_fault, configured_fault, stop_of}
+use Rattle.usb_enum.specs.{answered_or, choice_of}
+use Rattle.std.specs.Prelude.{unwrap_or, ⊤}
+use Rattle.std.specs.Option.{option_or}
+use Rattle.usb_tree.specs.{address_of}
+use Rattle.usb_tree.proofs.Interface.{and_of, equal_same, false_true, unequal}
+use Rattle.usb_pipe.specs.declared.fault.PipeFault.TheVariants as pipe
+use Rattle.usb_enum.specs.declared.cause.Request.TheVariants as request
+use Rattle.usb_enum.specs.declared.stop.Stop.TheVariants.{Refused}
+use Rattle.usb_enum.proofs.refusals.Refusals.{answered_err, each_joint, hears_on, explained_none}
+use Rattle.usb_enum.proofs.refusals.Refusals.{explained_wider, explains_on, learned_explains}
+use Rattle.usb_enum.proofs.refusals.Refusals.{refused_as}
+use Rattle.usb_enum.proofs.readings.SettingValues.{chosen_value}
+use Rattle.usb_enum.proofs.stops.PlainStops.{deep_is, fits_tier-hub}
 
 -- where nothing changed but where its transfer stands
-fresh_on : (s v : State) → OnlyStage s v → IsFresh s → IsFresh v
-fresh_on s v frame fresh = record {
+fresh_on : {s : State} (v : State) → OnlyStage s v → IsFresh s → IsFresh v
+fresh_on v frame fresh = record {
   settings = ap (λ y. y.registers.settings) frame ∙ fresh.settings;
   outs = λ e. ap (λ (y : State). (out_end y e).state) frame ∙ fresh.outs e;
   ins = λ e. ap (λ (y : State). (in_end y e).state) frame ∙ fresh.ins e;
@@ -52,75 +67,243 @@ learned_after A B t value j s u v a b = record {
       let so = a.so at in (
         (so.0, subst B a.spec (b.so (ap (λ n. n == t.addr) a.address ∙ at))),
         ap (λ r. r.configuration) (stays-registers u v b.frame) ∙ so.1,
-        fresh_on u v b.frame so.2,
+        fresh_on v b.frame so.2,
       );
 }
 
 -- it was read, and then it was configured
-pub set_learned : {A : Spec → Type 0} {t : Target} {value l : ℕ}
-    {outcome : Result (Unit {0}) PipeFault} {before given set : World} {b c : Option (List ℕ)}
-    → DeviceFact A t before given → StepRun l given b set c → outcome ≡ Ok tt
-    → (set.shared ≡ false → EachWas (ConfigurationAsked t value outcome set) given set)
+pub set_learned : {A : Spec → Type 0} {t : Target} {value : ℕ} {before given set : World}
+    → DeviceFact A t before given → Went given set
+    → (set.shared ≡ false → EachWas (ConfigurationAsked t value (Ok tt) set) given set)
     → LearnsSet (Allowed A) t value before set
-set_learned {A} {t} {value} {l} {before} {given} {set} read went done asked single =
+set_learned {A} {t} {value} {before} {given} {set} read went asked single =
     each_joined (Learned A t) (ConfigurationAsked t value (Ok tt) set)
     (LearnedSet (Allowed A) t value) (set_after A t value set) before given set
-    (read (went_unshared l given set went single))
-    (subst (λ r. EachWas (ConfigurationAsked t value r set) given set) done (asked single))
+    (read (went.unshared single)) (asked single)
 
 -- and then more was learned
-pub set_then : {A B : Spec → Type 0} {t : Target} {value m : ℕ} {before set told : World}
-    {c d : Option (List ℕ)} → LearnsSet A t value before set → StepRun m set c told d
+pub set_then : {A B : Spec → Type 0} {t : Target} {value : ℕ} {before set told : World}
+    → LearnsSet A t value before set → Went set told
     → DeviceFact B t set told → LearnsSet (λ x. A x × B x) t value before told
-set_then {A} {B} {t} {value} {m} {before} {set} {told} a went b single =
+set_then {A} {B} {t} {value} {before} {set} {told} a went b single =
     each_joined (LearnedSet A t value) (Learned B t) (LearnedSet (λ x. A x × B x) t value)
-    (learned_after A B t value) before set told (a (went_unshared m set told went single))
-    (b single)
+    (learned_after A B t value) before set told (a (went.unshared single)) (b single)
 
--- its configurations were read, it was configured, and its ports and its strings were read
-pub listed_learns : (options : HostOptions) (t : Target) (bytes : List ℕ) (device : Accepted)
-    (count value l m n : ℕ)
-    (text : List ℕ) (indexes : StringIndexes) (outcome : Result (Unit {0}) PipeFault)
-    {before given set told new : World} {b c d e : Option (List ℕ)}
-    → count ≡ configuration_count bytes
-    → DeviceFact (AtMaximum t (HasConfigurations options.device_bytes count device.configs)) t
-    before given
-    → StepRun l given b set c → value ≡ configuration_value (configuration_of device)
-    → outcome ≡ Ok tt → (set.shared ≡ false
-    → EachWas (ConfigurationAsked t value outcome set) given set)
-    → StepRun m set c told d → text ≡ configuration_of device
-    → DeviceFact (AtMaximum t (TellsPorts options.wide_hubs text device.hub)) t set told
-    → StepRun n told d new e → indexes ≡ string_indexes bytes
-    → DeviceFact (AtMaximum t (λ spec. device.strings ≡ strings_by spec indexes)) t told new
-    → LearnsSet (AtMaximum t (HasReadings options bytes device)) t
-    (configuration_value (configuration_of device)) before new
-listed_learns options t bytes device count value l m n text indexes outcome {before}
-    {new} same_count configs went_set same_value done asked went_told same_text ports went
-    same_indexes strings single =
-    let Texts : Spec → Type 0 =
-    AtMaximum t (HasConfigurations options.device_bytes count device.configs) in
-    let Ports : Spec → Type 0 = AtMaximum t (TellsPorts options.wide_hubs text device.hub) in
-    let Named : Spec → Type 0 = AtMaximum t (λ spec. device.strings ≡ strings_by spec indexes) in
-    each_wider (LearnedSet (λ x. (Allowed Texts x × Ports x) × Named x) t value)
-    (LearnedSet (AtMaximum t (HasReadings options bytes device)) t
-    (configuration_value (configuration_of device)))
-    (λ j s v x. record {
+-- of what is so then, this is so
+pub set_wider : {A B : Spec → Type 0} {t : Target} {m n : ℕ} {old : World} (new : World)
+    → LearnsSet A t m old new → m ≡ n → ((spec : Spec) → A spec → B spec) → LearnsSet B t n old new
+set_wider {A} {B} {t} {m} {n} {old} new a same f single =
+    each_wider (LearnedSet A t m) (LearnedSet B t n) (λ j s v x. record {
       spec = x.spec;
       address = x.address;
-      so = λ at.
-          let so = x.so at in (
-            (λ most. record {
-              configs = subst (λ k. HasConfigurations options.device_bytes k device.configs s.spec)
-                  same_count
-                  (so.0.0.0.0 most);
-              allowed = so.0.0.0.1;
-              ports = subst (λ y. TellsPorts options.wide_hubs y device.hub s.spec) same_text
-                  (so.0.0.1 most);
-              strings = so.0.1 most ∙ ap (strings_by s.spec) same_indexes;
-            }),
-            so.1 ∙ same_value,
-            so.2,
-          );
-    }) before new (set_then
-    (set_then
-    (set_learned configs went_set done asked) went_told ports) went strings single)
+      so = λ at. let so = x.so at in (f s.spec so.0, so.1 ∙ same, so.2);
+    }) old new (a single)
+
+-- What is wrong with a description, row by row
+
+module _ (options : HostOptions) (tier supply : ℕ) (bytes : List ℕ) (spec : Spec) where
+  abbrev takes : Bool
+  takes = options.wide_hubs
+
+  abbrev budget : Option ℕ
+  budget = options.device_bytes
+
+  -- where it is not too deep
+  module _ (shallow : (is_hub_device bytes && tier == 7) ≡ false) where
+    pub fault_read : (cause : Cause)
+        → first_fault budget spec (configuration_count bytes) ≡ Some cause
+        → configured_fault options tier supply bytes spec ≡ Some cause
+    unfolding configured_fault
+    fault_read cause first = rw (shallow, first) refl
+
+    pub fault_chosen : {texts : List (List ℕ)}
+        → HasConfigurations budget (configuration_count bytes) texts spec
+        → configured_fault options tier supply bytes spec
+        ≡ chosen_fault takes (is_hub_device bytes) texts (choice_of supply texts) spec
+    unfolding configured_fault
+    fault_chosen has =
+        let hub = is_hub_device bytes in
+        let count = configuration_count bytes in
+        ap (λ b. if b then Some TooDeep else option_or (first_fault budget spec count)
+        (chosen_fault takes hub (texts_below spec count) (choice_of supply (texts_below spec count))
+        spec)) shallow
+        ∙ ap (λ o. option_or o (chosen_fault takes hub (texts_below spec count)
+        (choice_of supply (texts_below spec count)) spec)) has.good
+        ∙ ap (λ x. chosen_fault takes hub x (choice_of supply x) spec) (sym has.read)
+
+-- SET_CONFIGURATION
+
+-- a device that has an address takes the value of one of its configurations
+takes_value-true : (t : Target) (value : ℕ) (s : State) → t.addr ≢ 0
+    → (address_of s == t.addr) ≡ true → is_value s.spec.configs value ≡ true
+    → takes_value s value ≡ true
+takes_value-true t value s some at taken =
+    and_of (not (address_of s == 0)) (is_value s.spec.configs value)
+    (ap not (unequal (address_of s) 0 (λ z. some (sym (equal_same (address_of s) t.addr at)
+    ∙ z)))) taken
+
+module _ (t : Target) (value : ℕ) (last : World) (some : t.addr ≢ 0) where
+  -- what it is refused for
+  setting_stop : (fault : PipeFault) {j : Location} {s v : State}
+      → ConfigurationAsked t value (Err fault) last j s v → WriteFailure t (Err fault) j s v
+      → Hears t j s → IsSpec s.spec → is_value s.spec.configs value ≡ true → IsResponsive t s.spec
+      → IsRefusedFor setting_fault (unwrap_or (stop_of fault)
+      (Refused (Stalled request.SetConfig))) s.spec
+  setting_stop pipe.Stalled {s} x y h ruled taken r = elim (x.stalled h.at refl) [
+    | inl e ↦ ap (λ b. if b then Some (Stalled request.SetConfig) else None) e
+    | inr e ↦ false_true (sym e ∙ takes_value-true t value s some h.at taken)
+  ]
+  setting_stop pipe.Busy x y h ruled taken r =
+      absurd (y.waited (record { at = h.at; loud = r.loud; hears = h.hears }) r.free ruled.naks
+      refl)
+  setting_stop pipe.NoAnswer x y h ruled taken r =
+      absurd (y.answered (record { at = h.at; loud = r.loud; hears = h.hears }) refl)
+  setting_stop pipe.Broken x y h ruled taken r = absurd (x.could h.at)
+  setting_stop _ x y h ruled taken r = tt
+
+abbrev pub RefusesValue : Target → ℕ → Stop → Spec → Type 0
+RefusesValue t value stop spec = is_value spec.configs value ≡ true
+    → Refuses t setting_fault stop spec
+
+setting_refused : (t : Target) (value : ℕ) (outcome : Result (Unit {0}) PipeFault) (stop : Stop)
+    (old new : World) → t.addr ≢ 0 → Err stop ≡ answered_or (Stalled request.SetConfig) outcome
+    → (new.shared ≡ false → EachWas (ConfigurationAsked t value outcome new) old new)
+    → (NoThreeDamaged old → new.shared ≡ false → EachWas (WriteFailure t outcome) old new)
+    → FailureReason (RefusesValue t value stop) t old new
+setting_refused t value outcome stop old new some is what why three single =
+    let failed = answered_err (Stalled request.SetConfig) is in
+    each_joint (ConfigurationAsked t value (Err failed.0) new) (WriteFailure t (Err failed.0))
+    (Explained Hears (RefusesValue t value stop) t) (λ j s v x y. record {
+      spec = ap (λ z. z.spec) x.frame.rest;
+      address = ap (λ z. z.registers.address) x.frame.rest;
+      so = λ h ruled taken r. subst (λ z. IsRefusedFor setting_fault z s.spec) failed.2
+          (setting_stop t value new some failed.0 x y h ruled taken r);
+    })
+    old new (subst (λ r. EachWas (ConfigurationAsked t value r new) old new) failed.1 (what single))
+    (subst (λ r. EachWas (WriteFailure t r) old new) failed.1 (why three single))
+
+-- After it
+
+-- where a call behind it fails
+explains_later : {A B C : Spec → Type 0} {Heard : Target → Location → State → Type 0} {P : Type 0}
+    {t : Target} {value : ℕ} {old mid new : World} → ((j : Location) (s u : State) → u.spec ≡ s.spec
+    → address_of u ≡ address_of s → u.registers.configuration ≡ value → P → Hears t j s → Heard t j
+    u) → LearnsSet A t value old mid → Went old mid → Went mid new
+    → (NoThreeDamaged mid → new.shared ≡ false → EachWas (Explained Heard B t) mid new)
+    → ((spec : Spec) → A spec → (P → B spec) → C spec) → FailureReason C t old new
+explains_later {A} {B} {C} {Heard} {t} {value} {old} {mid} {new} hears a first next b f three
+    single =
+    each_joined (LearnedSet A t value) (Explained Heard B t) (Explained Hears C t)
+    (λ j s u v x y. record {
+      spec = y.spec ∙ x.spec;
+      address = y.address ∙ x.address;
+      so = λ h ruled.
+          let set = x.so h.at in
+          f s.spec set.0 (λ p. subst B x.spec (y.so (hears j s u x.spec x.address set.1 p h)
+          (subst IsSpec (sym x.spec) ruled)));
+    }) old mid new (a (next.unshared single)) (b (first.three three) single)
+
+-- A device that is read and configured
+
+module _ (t : Target) (options : HostOptions) (tier supply : ℕ) (bytes : List ℕ) where
+  abbrev wide : Bool
+  wide = options.wide_hubs
+
+  abbrev most : Option ℕ
+  most = options.device_bytes
+
+  abbrev wrong : Spec → Option Cause
+  wrong = configured_fault options tier supply bytes
+
+  -- it is too deep
+  pub deep_refused : (stop : Stop) (w : World) → fits_tier tier bytes ≡ Err stop
+      → FailureReason (Refuses t wrong stop) t w w
+  unfolding configured_fault
+  deep_refused stop w is =
+      let deep = deep_is tier bytes stop is in
+      explained_none (λ spec r. rw (deep.0, deep.1) refl)
+
+  module _ (fits : fits_tier tier bytes ≡ Ok tt) where
+    shallow : (is_hub_device bytes && tier == 7) ≡ false
+    shallow = fits_tier-hub tier bytes fits
+
+    -- a configuration is bad
+    pub read_refused : (count : ℕ) (stop : Stop) (old new : World)
+        → count ≡ configuration_count bytes
+        → FailureReason (Refuses t (λ spec. first_fault most spec count) stop) t old new
+        → FailureReason (Refuses t wrong stop) t old new
+    read_refused count stop old new same explains =
+        explained_wider {B = Refuses t wrong stop} new (λ j s h. h) explains (λ spec refused r.
+        refused_as (λ spec. first_fault most spec count) wrong stop spec
+        (λ cause bad. fault_read options tier supply bytes spec shallow cause
+        (ap (first_fault most spec) (sym same) ∙ bad)) (refused r))
+
+    module _ (texts : List (List ℕ)) where
+      abbrev Read : Spec → Type 0
+      Read = AtMaximum t (HasConfigurations most (configuration_count bytes) texts)
+
+      -- none is within the supply
+      pub power_refused : (old new : World) → choice_of supply texts ≡ None
+          → DeviceFact Read t old new → FailureReason (Refuses t wrong (Refused NoPower)) t old new
+      power_refused old new none read =
+          learned_explains new read (λ spec has r. fault_chosen options tier supply bytes spec
+          shallow (has r.max)
+          ∙ ap (λ o. chosen_fault wide (is_hub_device bytes) texts o spec) none)
+
+      module _ (chosen : ℕ) (within : choice_of supply texts ≡ Some chosen) where
+        fault_set : {spec : Spec} → HasConfigurations most (configuration_count bytes) texts spec
+            → wrong spec ≡ chosen_fault wide (is_hub_device bytes) texts (Some chosen) spec
+        fault_set {spec} has = fault_chosen options tier supply bytes spec shallow has
+            ∙ ap (λ o. chosen_fault wide (is_hub_device bytes) texts o spec) within
+
+        module _ (value : ℕ) (inside : chosen < length texts)
+            (is : value ≡ configuration_value (slice_index_or texts chosen []))
+            (byte : value < 256) (some : t.addr ≢ 0) where
+          -- it is not set to the one that was chosen
+          pub set_refused : (outcome : Result (Unit {0}) PipeFault) (stop : Stop)
+              {old mid new : World} → DeviceFact Read t old mid → Went old mid → Went mid new
+              → Err stop ≡ answered_or (Stalled request.SetConfig) outcome
+              → (new.shared ≡ false → EachWas (ConfigurationAsked t value outcome new) mid new)
+              → (NoThreeDamaged mid → new.shared ≡ false → EachWas (WriteFailure t outcome) mid new)
+              → FailureReason (Refuses t wrong stop) t old new
+          set_refused outcome stop {mid = mid} {new = new} read first next failed what why =
+              explains_on {C = Refuses t wrong stop} read first next
+              (setting_refused t value outcome stop mid new some failed what why)
+              (λ spec has refused r. refused_as setting_fault wrong stop spec
+              (λ cause bad. fault_set (has r.max)
+              ∙ ap (λ o. option_or o (if is_hub_device bytes then start_fault wide
+              (slice_index_or texts chosen []) spec else None)) bad)
+              (refused (chosen_value chosen value (has r.max) inside is byte).taken r))
+
+          -- it is a hub that cannot be used
+          pub hub_refused : (text : List ℕ) (stop : Stop) {old mid new : World}
+              → is_hub_device bytes ≡ true → LearnsSet (Allowed Read) t value old mid
+              → Went old mid → Went mid new → text ≡ slice_index_or texts chosen []
+              → ExplainsSet (Refuses t (start_fault wide text) stop) t mid new
+              → FailureReason (Refuses t wrong stop) t old new
+          hub_refused text stop {mid = mid} {new = new} hub set first next same explains =
+              explains_later {C = Refuses t wrong stop} {P = value ≢ 0}
+              (λ j s u spec address set least h. record {
+                hears = hears_on u spec address h;
+                addressed = some;
+                configured = λ z. least (sym set ∙ z);
+              }) set first next
+              (subst (λ x. ExplainsSet (Refuses t (start_fault wide x) stop) t mid new) same
+              explains) (λ spec has refused r.
+              let bad_start = start_fault wide (slice_index_or texts chosen []) in
+              refused_as bad_start wrong stop spec (λ cause bad. fault_set (has.0 r.max)
+              ∙ ap (λ b. option_or (if b then Some (Stalled request.SetConfig) else None)
+              (if is_hub_device bytes then bad_start spec else None)) has.1
+              ∙ ap (λ b. if b then bad_start spec else None) hub ∙ bad)
+              (refused (chosen_value chosen value (has.0 r.max) inside is byte).some r))
+
+  -- never for a string
+  pub strings_refused : {A : Spec → Type 0} {value : ℕ} (stop : Stop) {old mid new : World}
+      → LearnsSet A t value old mid → Went old mid → Went mid new
+      → FailureReason (Refuses t no_fault stop) t mid new
+      → FailureReason (Refuses t wrong stop) t old new
+  strings_refused stop set first next explains =
+      explains_later {C = Refuses t wrong stop} {P = ⊤}
+      (λ j s u spec address set some h. hears_on u spec address h) set first next explains
+      (λ spec a refused r. refused_as no_fault wrong stop spec (λ cause none. absurd cc)
+      (refused tt r))

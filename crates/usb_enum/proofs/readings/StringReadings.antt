@@ -1,22 +1,27 @@
--- What is learned of a device's strings.
-use Rattle.std.proofs.Common.{◌≡◌, inl, inr, ℕ, ◌==◌, ◌||◌, not, false, if◌then◌else◌, List, take}
-use Rattle.std.proofs.Common.{Option, None, Some, is_some, option_map, option_and_then, refl, ap}
-use Rattle.std.proofs.Common.{sym, ◌∙◌, arith}
+-- What is learned of a device's strings, for which it is never refused.
+use Rattle.std.proofs.Common.{◌≡◌, inl, inr, ℕ, ◌==◌, ◌||◌, not, if◌then◌else◌, List, take, Option}
+use Rattle.std.proofs.Common.{None, Some, is_some, option_map, option_and_then, refl, ap, sym, ◌∙◌}
+use Rattle.std.proofs.Common.{Result, Err, subst}
 use Rattle.std.specs.Global.{Vec}
 use Rattle.usb_device.specs.{Spec}
 use Rattle.usb_world.specs.{World}
-use Rattle.usb_tree.proofs.Interface.{decided}
+use Rattle.usb_tree.proofs.Interface.{decided, false_true}
 use Rattle.usb_transaction.specs.{Target}
-use Rattle.usb_bus.specs.{StepRun}
 use Rattle.usb_pipe.specs.{PipeFault}
 use Rattle.usb_pipe.specs.declared.fault.PipeFault.TheVariants as pipe
 use Rattle.usb_hub.specs.{string_given}
-use Rattle.usb_enum.specs.{StringIndexes, Strings, string_read, string_at, strings_by, DeviceFact}
-use Rattle.usb_enum.specs.{Answered, AtMaximum, HasString, bytes_given, language_of, string_in}
-use Rattle.usb_enum.specs.{no_strings, stop_of, AsksLanguage, AsksString, ReadsString, named}
-use Rattle.usb_enum.specs.{string_units, first_language_of}
-use Rattle.usb_enum.proofs.readings.LearnedFacts.{learns_wider}
-use Rattle.usb_enum.proofs.readings.Readings.{learns_none, learns_on}
+use Rattle.usb_enum.specs.{Strings, string_read, string_at, DeviceFact, Answered, HasString}
+use Rattle.usb_enum.specs.{bytes_given, language_of, string_in, stop_of, AsksLanguage, AsksString}
+use Rattle.usb_enum.specs.{ReadsString, named, string_units, first_language_of, Stop, OnlyAsks}
+use Rattle.usb_enum.specs.{KeepingSteps, StopsRead, Cause, IsResponsive, IsRefusedFor, answered_or}
+use Rattle.usb_enum.specs.{no_fault}
+use Rattle.usb_enum.proofs.readings.Readings.{learns_wider, learns_on}
+use Rattle.std.specs.Prelude.{unwrap_or, ⊤}
+use Rattle.std.proofs.lemmas.Bool.{ne_eqb}
+use Rattle.std.proofs.lemmas.Option.{same_Some}
+use Rattle.usb_enum.specs.declared.stop.Stop.TheVariants.{Refused}
+use Rattle.usb_enum.proofs.stops.Reasons.{told_after}
+use Rattle.usb_enum.proofs.refusals.Refusals.{FailsForSpec, explains_on}
 
 -- One string
 
@@ -30,9 +35,6 @@ pub stall_alone : (fault : PipeFault) → stop_of fault ≡ None → fault ≡ p
 stall_alone pipe.Stalled none = refl
 stall_alone _ none = absurd cc
 
-nonzero : (index : ℕ) → (index ≡ 0 → ⊥) → (index == 0) ≡ false
-nonzero index given = grind (arith, given)
-
 -- what is read of its bytes
 pub string_named : (t : Target) (index language : ℕ) (bytes : Option (Vec ℕ))
     (string : Option (List ℕ)) {old new : World} → (index ≡ 0 → ⊥)
@@ -44,12 +46,8 @@ string_named t index language bytes string {new} is_named is read = record {
   so = learns_wider new read.so (λ spec has max. is ∙ ap
       (option_and_then string_units) (has max) ∙ sym (ap
       (λ b. if b then None else option_and_then string_units (string_read spec index))
-      (nonzero index is_named)));
+      (ne_eqb index 0 is_named)));
 }
-
-pub unnamed_learned : (t : Target) (index : ℕ) (w : World) → index ≡ 0
-    → DeviceFact (AtMaximum t (λ spec. None ≡ string_in spec index)) t w w
-unnamed_learned t index w unnamed = learns_none (λ spec max. rw unnamed refl)
 
 pub language_asked : (t : Target) (bytes : Option (Vec ℕ)) (language : Option ℕ) {old new : World}
     → language ≡ option_and_then first_language_of (bytes_given bytes)
@@ -63,15 +61,15 @@ language_asked t bytes language {new} is read = record {
 
 -- The strings that a descriptor names
 
-at_language : (spec : Spec) (index language : ℕ) → Some language ≡ language_of spec
+pub at_language : (spec : Spec) (index : ℕ) {language : ℕ} → Some language ≡ language_of spec
     → string_at spec index ≡ string_in spec index
 unfolding string_at
-at_language spec index language is =
+at_language spec index is =
     ap (λ o. if index == 0 || not (is_some o) then None else option_and_then string_units
     (string_read spec index)) (sym is)
     ∙ elim (decided (index == 0)) [ inl e ↦ rw e refl | inr e ↦ rw e refl ]
 
-string_at-no_language : (spec : Spec) (index : ℕ) → None ≡ language_of spec
+pub string_at-no_language : (spec : Spec) (index : ℕ) → None ≡ language_of spec
     → string_at spec index ≡ None
 unfolding string_at
 string_at-no_language spec index is =
@@ -79,58 +77,47 @@ string_at-no_language spec index is =
     (string_read spec index)) (sym is)
     ∙ elim (decided (index == 0)) [ inl e ↦ rw e refl | inr e ↦ rw e refl ]
 
-string_at-zero : (spec : Spec) (index : ℕ) → index ≡ 0 → string_at spec index ≡ None
+pub string_at-zero : (spec : Spec) (index : ℕ) → index ≡ 0 → string_at spec index ≡ None
 unfolding string_at
 string_at-zero spec index is = rw is refl
 
-same_strings : (a b c x y z : Option (List ℕ)) → a ≡ x → b ≡ y → c ≡ z
+pub same_strings : {a b c x y z : Option (List ℕ)} → a ≡ x → b ≡ y → c ≡ z
     → record { manufacturer = a; product = b; serial_number = c }
     ≡ (let s : Strings = record { manufacturer = x; product = y; serial_number = z } in s)
-same_strings a b c x y z e f g = rw (e, f, g) refl
+same_strings e f g = rw (e, f, g) refl
 
--- where none is named
-pub unnamed_strings_learned : (t : Target) (indexes : StringIndexes) (w : World)
-    → indexes.manufacturer ≡ 0 → indexes.product ≡ 0 → indexes.serial_number ≡ 0
-    → DeviceFact (AtMaximum t (λ spec. no_strings ≡ strings_by spec indexes)) t w w
-unnamed_strings_learned t indexes w m p n =
-    learns_none (λ spec max. same_strings _ _ _ _ _ _
-    (sym (string_at-zero spec indexes.manufacturer m)) (sym (string_at-zero spec indexes.product p))
-    (sym (string_at-zero spec indexes.serial_number n)))
+-- Why none is read
 
--- where there is no language
-pub no_strings_learned : (t : Target) (indexes : StringIndexes) (old new : World)
-    → DeviceFact (AtMaximum t (λ spec. None ≡ language_of spec)) t old new
-    → DeviceFact (AtMaximum t (λ spec. no_strings ≡ strings_by spec indexes)) t old new
-no_strings_learned t indexes old new language =
-    learns_wider new language (λ spec none max. same_strings _ _ _ _ _ _
-    (sym (string_at-no_language spec indexes.manufacturer (none max)))
-    (sym (string_at-no_language spec indexes.product (none max)))
-    (sym (string_at-no_language spec indexes.serial_number (none max))))
+pub never_stop : {t : Target} (index : ℕ) {spec : Spec} → IsResponsive t spec
+    → (fault : PipeFault) (stop : Stop) → stop_of fault ≡ Some stop
+    → FailsForSpec (string_given index) fault spec → IsRefusedFor no_fault stop spec
+never_stop index r pipe.Stalled stop is why = absurd cc
+never_stop index r pipe.Busy stop is why = false_true (sym r.free ∙ why.1)
+never_stop index r pipe.NoAnswer stop is why = false_true (sym r.loud ∙ why)
+never_stop index r pipe.Broken stop is why = absurd why
+never_stop index {spec} r _ stop is why =
+    subst (λ s. IsRefusedFor no_fault s spec) (same_Some _ _ is) tt
 
--- each in the language
-pub strings_learned : (t : Target) (indexes : StringIndexes) (language : ℕ)
-    (manufacturer product serial_number : Option (List ℕ)) (k m n : ℕ) (old a b c new : World)
-    {q r s u v w : Option (List ℕ)}
-    → DeviceFact (AtMaximum t (λ spec. Some language ≡ language_of spec)) t old a
-    → StepRun k a q b r → DeviceFact (AtMaximum t
-    (λ spec. manufacturer ≡ string_in spec indexes.manufacturer)) t a b
-    → StepRun m b s c u → DeviceFact (AtMaximum t
-    (λ spec. product ≡ string_in spec indexes.product)) t b c → StepRun n c v new w → DeviceFact
-    (AtMaximum t (λ spec. serial_number ≡ string_in spec indexes.serial_number)) t c new
-    → DeviceFact (AtMaximum t (λ spec. record {
-      manufacturer = manufacturer;
-      product = product;
-      serial_number = serial_number;
-    } ≡ strings_by spec indexes)) t old new
-strings_learned t indexes language manufacturer product serial_number k m n old a b c new said wa la
-    wb lb wc lc =
-    let Said : Spec → Type 0 = AtMaximum t (λ spec. Some language ≡ language_of spec) in
-    let One : Spec → Type 0 = AtMaximum t (λ spec. manufacturer
-    ≡ string_in spec indexes.manufacturer) in
-    let Two : Spec → Type 0 = AtMaximum t (λ spec. product ≡ string_in spec indexes.product) in
-    let first = learns_on {C = λ x. Said x × One x} said wa la (λ x p q. (p, q)) in
-    let second = learns_on {C = λ x. Said x × One x × Two x} first wb lb (λ x p q. (p.0, p.1, q)) in
-    learns_on second wc lc (λ spec x y max. same_strings _ _ _ _ _ _
-    (x.1 max ∙ sym (at_language spec indexes.manufacturer language (x.0 max)))
-    (x.2 max ∙ sym (at_language spec indexes.product language (x.0 max)))
-    (y max ∙ sym (at_language spec indexes.serial_number language (x.0 max))))
+-- a fault that is a stop is told as that, whatever a STALL means
+pub stopped_read : {A : Type 0} (stalled : Cause) (outcome : Result A PipeFault) (fault : PipeFault)
+    (stop : Stop) → outcome ≡ Err fault → stop_of fault ≡ Some stop
+    → Err stop ≡ answered_or stalled outcome
+stopped_read stalled outcome fault stop is some =
+    sym (ap (answered_or stalled) is ∙ ap (λ o. Err (unwrap_or o (Refused stalled))) some)
+
+-- a read that stops behind others
+pub string_stops : (So : Spec → Type 0) {t : Target} {m n : ℕ} {old mid new : World}
+    {a b c : Option (List ℕ)} (stop : Stop) → KeepingSteps OnlyAsks m old a mid b
+    → DeviceFact So t old mid → KeepingSteps OnlyAsks n mid b new c
+    → StopsRead t no_fault mid new stop → StopsRead t no_fault old new stop
+string_stops So {t} {new} stop first fact next stops = record {
+  told = told_after stop t new first.went.led stops.told;
+  so = explains_on fact first.went next.went stops.so (λ spec a b. b);
+}
+
+-- that each was read
+pub strings_read : {A B : Spec → Type 0} (t : Target) {n : ℕ} {old mid new : World}
+    {a b : Option (List ℕ)} → DeviceFact A t old mid → KeepingSteps OnlyAsks n mid a new b
+    → DeviceFact B t mid new → DeviceFact (λ spec. ⊤) t old new
+strings_read t first steps next =
+    learns_on first steps.went next (λ spec a b. tt)

@@ -77,20 +77,20 @@ lengths_said (suc n) (x ∷ xs) goods =
     ∙ sym (sum_by-cons said_length x (take n xs))
 
 -- those that were read have as many bytes as their heads say
-pub kept_said : (budget : Option ℕ) (count : ℕ) (texts : List (List ℕ)) (spec : Spec)
+pub kept_said : {budget : Option ℕ} {count : ℕ} {texts : List (List ℕ)} {spec : Spec}
     → HasConfigurations budget count texts spec → texts_length texts ≡ said_below spec count
-kept_said budget count texts spec has =
+kept_said {budget} {count} {spec} has =
     ap texts_length has.read
     ∙ lengths_said count spec.configs
     (λ i text below e. (fresh_text (left_of budget (said_below spec i)) spec i text e
     (each_good budget spec count i below has.good)).good)
 
 -- and leave as much as what was said
-pub left_said : (budget room : Option ℕ) (count : ℕ) (texts : List (List ℕ)) (spec : Spec)
-    → room ≡ left_of budget (texts_length texts) → HasConfigurations budget count texts spec
-    → room ≡ left_of budget (said_below spec count)
-left_said budget room count texts spec same has =
-    same ∙ ap (left_of budget) (kept_said budget count texts spec has)
+pub left_said : {budget : Option ℕ} (room : Option ℕ) {count : ℕ} {texts : List (List ℕ)}
+    {spec : Spec} → room ≡ left_of budget (texts_length texts)
+    → HasConfigurations budget count texts spec → room ≡ left_of budget (said_below spec count)
+left_said {budget} room same has =
+    same ∙ ap (left_of budget) (kept_said has)
 
 -- Within a budget
 

@@ -3,39 +3,46 @@
 use Rattle.std.proofs.Common.{◌≡◌, ◌⊎◌, inl, inr, ◌≤◌, ◌<◌, ◌+◌, ◌*◌, ◌==◌, ℕ, true, false, List}
 use Rattle.std.proofs.Common.{length, take, get_or, slice_get, Option, None, Some, option_map}
 use Rattle.std.proofs.Common.{Result, Ok, Err, refl, ap, sym, subst, ◌∙◌, arith, IsErrAnd, OnOk}
+use Rattle.std.proofs.Common.{suc, Bool, cond, not, [], ◌∷◌, Ordering, Less, Equal, Greater, is_eq}
+use Rattle.std.proofs.Common.{IfSome, All, nat_eq}
 use Rattle.std.proofs.lemmas.List.Sums.{sum_by_more, sum_by-take-le}
 use Rattle.std.proofs.lemmas.Option.{get_or_from_slice_get, same_Some, slice_get_within}
 use Rattle.std.specs.Global.{Vec}
-use Rattle.std.specs.List.{sum_by}
+use Rattle.std.specs.List.{sum_by, starts_with, filter}
 use Rattle.usb_request.specs.{Setup, IsToHost, get_configuration_descriptor}
 use Rattle.usb_descriptor.specs.{total_in}
 use Rattle.usb_device.specs.{OnlyStage, State, said_length, said_lengths, Spec, IsSpec, Location}
-use Rattle.usb_device.specs.{path_to, reach_on, state_on}
-use Rattle.usb_world.specs.{after_taking, Was, EachWas, World}
+use Rattle.usb_device.specs.{path_to, reach_on, state_on, state_there}
+use Rattle.usb_world.specs.{after_taking, Was, EachWas, World, Action, Plug, Unplug, Event, spec_of}
+use Rattle.usb_world.specs.{PluggedMap, index_at, device_indexed, plugged_after, plugged_by}
+use Rattle.usb_world.specs.{plugged_without}
 use Rattle.usb_tree.specs.{address_of}
-use Rattle.usb_world.proofs.Interface.{same_is}
+use Rattle.usb_world.proofs.Interface.{same_is, course_joined, devices_left}
 use Rattle.usb_tree.proofs.Interface.{equal_same}
 use Rattle.usb_bus.specs.{StepRun}
 use Rattle.usb_transaction.specs.{Target, Answerer, HadOne, is_at}
-use Rattle.usb_pipe.specs.{PipeFault, control_bound, Reads}
-use Rattle.usb_pipe.proofs.Interface.{who_reads}
+use Rattle.usb_pipe.specs.{control_bound}
+use Rattle.usb_pipe.proofs.Interface.{who_reads, bound_wide}
 use Rattle.usb_address.specs.{AddressMap, MapHolds, Enumerating, WhileBusWorks, KeepsAddresses}
 use Rattle.usb_address.proofs.Interface.{same_setup}
 use Rattle.usb_hub.specs.{HubPort, KeepsDevices, config_given, TextAsked, ConfigAsked, Queried}
 use Rattle.usb_hub.proofs.Interface.{stays-registers, stays-spec}
-use Rattle.usb_enum.specs.{Addressed, Cause, Stop, IsSpare, read_bound, text_bound, texts_bound}
+use Rattle.usb_enum.specs.{Addressed, Stop, IsSpare, read_bound, text_bound, texts_bound}
 use Rattle.usb_enum.specs.{pass_bound, configured_by, Learned, DeviceFact, AtPath, HasTaken}
-use Rattle.usb_enum.specs.{IsAddressed, IsRegular, AtMaximum, HasTotal, answered_or, SaysWithin}
-use Rattle.usb_enum.specs.{HasPlanWithin, EachAt, SomeAt, IsAnswered, ReadsText, FewFor, FewFrom}
-use Rattle.usb_enum.proofs.courses.Counts.{read_went}
-use Rattle.usb_enum.proofs.courses.Courses.{went_regular, went_sound}
+use Rattle.usb_enum.specs.{IsAddressed, IsRegular, AtMaximum, HasTotal, SaysWithin, HasPlanWithin}
+use Rattle.usb_enum.specs.{EachAt, SomeAt, IsAnswered, ReadsText, FewFor, FewFrom, Went}
+use Rattle.usb_enum.specs.{PlugsWithin}
+use Rattle.usb_enum.proofs.courses.Courses.{went_steps, went_unshared}
 use Rattle.usb_enum.proofs.devices.Frames.{held_there}
 use Rattle.usb_enum.proofs.readings.Heads.{head_packet}
-use Rattle.usb_enum.proofs.refusals.Refusals.{answered_ok}
-use Rattle.usb_enum.proofs.readings.PlannedTexts.{plan_within_after, plugged_within}
 use Rattle.usb_enum.proofs.readings.Readings.{given_allows, learns_kept, learns_none, learns_on}
-use Rattle.usb_enum.proofs.devices.SharedAddresses.{went_unshared}
 use Rattle.usb_enum.proofs.readings.Truths.{ruled_there}
+use Rattle.std.specs.Prelude.{⊤}
+use Rattle.std.specs.BTreeMap.{insert_entry}
+use Rattle.std.specs.Ordering.{match_ordering}
+use Rattle.std.proofs.lemmas.List.Elements.{All-head, All-tail}
+use Rattle.usb_port.specs.{path_cmp}
+use Rattle.usb_world.specs.declared.event.Action.TheVariants.{Change, Ask}
 
 -- Whoever answered
 
@@ -43,14 +50,14 @@ use Rattle.usb_enum.proofs.readings.Truths.{ruled_there}
 is_at-only_stage : (t : Target) (s v : State) → OnlyStage s v → is_at v t ≡ is_at s t
 is_at-only_stage t s v x = ap (λ r. r.address == t.addr) (stays-registers s v x)
 
-pub text_there : (given : Spec → Option (List ℕ)) (t : Target) (request : Setup) (wanted : ℕ)
-    (outcome : Result (Vec ℕ) PipeFault) (bytes : Vec ℕ) (old new : World) → IsToHost request
-    → outcome ≡ Ok bytes → Queried t request old outcome new
-    → (new.shared ≡ false → EachWas (TextAsked given t wanted outcome) old new) → IsAnswered t new
-text_there given t request wanted outcome bytes old new host is asked what single =
+pub text_there : (given : Spec → Option (List ℕ)) {t : Target} {request : Setup} (wanted : ℕ)
+    (bytes : Vec ℕ) {old new : World} → IsToHost request → Queried t request old (Ok bytes) new
+    → (new.shared ≡ false → EachWas (TextAsked given t wanted (Ok bytes)) old new)
+    → IsAnswered t new
+text_there given {t} {request} wanted bytes {old} {new} host asked what single =
     let a : Answerer t old new = who_reads t request bytes old new host (same_setup request)
-    asked.settled (subst (λ r. Reads t request old r new) is asked.stages) single in
-    let was : Was (TextAsked given t wanted outcome) old a.spot a.now =
+    asked.settled asked.stages single in
+    let was : Was (TextAsked given t wanted (Ok bytes)) old a.spot a.now =
     what single a.spot a.now a.on a.stands in
     record {
       spot = a.spot;
@@ -62,20 +69,18 @@ text_there given t request wanted outcome bytes old new host is asked what singl
           a.at;
     }
 
-pub config_there : {t : Target} (stalled : Cause) (index wanted : ℕ)
-    {outcome : Result (Vec ℕ) PipeFault} {bytes : Vec ℕ} {old new : World}
-    → Ok bytes ≡ answered_or stalled outcome
-    → Queried t (get_configuration_descriptor index wanted) old outcome new
-    → (new.shared ≡ false → EachWas (ConfigAsked t index wanted outcome) old new) → IsAnswered t new
+pub config_there : {t : Target} (index wanted : ℕ) {bytes : Vec ℕ} {old new : World}
+    → Queried t (get_configuration_descriptor index wanted) old (Ok bytes) new
+    → (new.shared ≡ false → EachWas (ConfigAsked t index wanted (Ok bytes)) old new)
+    → IsAnswered t new
 unfolding get_configuration_descriptor
-config_there {t} stalled index wanted {outcome} {bytes} {old} {new} answered asked what =
-    text_there (config_given index) t (get_configuration_descriptor index wanted) wanted outcome
-    bytes old new (omega arith) (answered_ok stalled answered) asked what
+config_there index wanted {bytes} asked what =
+    text_there (config_given index) wanted bytes (omega arith) asked what
 
 -- what was learned is so of whoever answered
-some_learned : (So : Spec → Type 0) (t : Target) (old new : World) → DeviceFact So t old new
-    → new.shared ≡ false → HadOne t new → SomeAt So t old
-some_learned So t old new learns single one =
+some_learned : (So : Spec → Type 0) {t : Target} (old : World) {new : World}
+    → DeviceFact So t old new → new.shared ≡ false → HadOne t new → SomeAt So t old
+some_learned So {t} old learns single one =
     let was : Was (Learned So t) old one.spot one.state =
     learns single one.spot one.state one.on one.stands in
     let at : is_at was.before t ≡ true = sym (is_at-only_stage t was.before one.state was.so.frame)
@@ -112,40 +117,37 @@ head_unread {r} why same went =
 module _ {t : Target} {index total : ℕ} {old mid new : World} {a b c d : Option (List ℕ)}
     (wide : 8 ≤ t.max) (first : StepRun (read_bound 9) old a mid b)
     (second : StepRun (control_bound t.max total) mid c new d)
-    (learned : DeviceFact (AtMaximum t (HasTotal index total)) t old mid) (there : IsAnswered t mid)
-  where
-    counted : new.attempts ≤ old.attempts + (text_bound + 100 * total)
-    counted = omega (
-      arith,
-      first.spends.most,
-      (read_went t.max total mid new wide second).spends.most,
-    )
+    (learned : DeviceFact (AtMaximum t (HasTotal index total)) t old mid)
+    (there : IsAnswered t mid) where
+  counted : new.attempts ≤ old.attempts + (text_bound + 100 * total)
+  counted = omega (
+    arith,
+    first.spends.most,
+    (subst (λ n. StepRun n mid c new d) (bound_wide t.max total wide) second).spends.most,
+  )
 
-    head_said : new.shared ≡ false → SomeAt (AtMaximum t (HasTotal index total)) t old
-    head_said single =
-        let back = went_unshared (control_bound t.max total) mid new second single in
-        some_learned (AtMaximum t (HasTotal index total)) t old mid learned back (there back)
+  head_said : new.shared ≡ false → SomeAt (AtMaximum t (HasTotal index total)) t old
+  head_said single =
+      let back = (went_steps second).unshared single in
+      some_learned (AtMaximum t (HasTotal index total)) old learned back (there back)
 
-    pub text_unread : {r : Result (List ℕ) Stop} (why : Stop) → IsErrAnd r (λ e. e ≡ why)
-        → ReadsText t index old r new
-    text_unread {r} why same = record {
-      total = total;
-      count = counted;
-      said = inr head_said;
-      read = not_ok r _ why same;
-    }
+  pub text_unread : {r : Result (List ℕ) Stop} (why : Stop) → IsErrAnd r (λ e. e ≡ why)
+      → ReadsText t index old r new
+  text_unread {r} why same = record {
+    total = total;
+    count = counted;
+    said = inr head_said;
+    read = not_ok r _ why same;
+  }
 
-    pub text_was_read : (text : List ℕ) → KeepsDevices mid new → IsAnswered t new
-        → ReadsText t index old (Ok text) new
-    text_was_read text keeps answered = record {
-      total = total;
-      count = counted;
-      said = inr head_said;
-      read = (
-        learns_kept learned second keeps,
-        answered,
-      );
-    }
+  pub text_was_read : (text : List ℕ) → KeepsDevices mid new → IsAnswered t new
+      → ReadsText t index old (Ok text) new
+  text_was_read text keeps answered = record {
+    total = total;
+    count = counted;
+    said = inr head_said;
+    read = (learns_kept learned (went_steps second) keeps, answered);
+  }
 
 -- The texts so far
 
@@ -154,10 +156,10 @@ pub record HasTotals (n bytes : ℕ) (spec : Spec) : Type 0 where
   pub there : n ≤ length spec.configs
   pub sum : sum_by said_length (take n spec.configs) ≡ bytes
 
-totals_more : (n bytes total : ℕ) (spec : Spec) → HasTotals n bytes spec → HasTotal n total spec
+totals_more : {n bytes total : ℕ} {spec : Spec} → HasTotals n bytes spec → HasTotal n total spec
     → HasTotals (n + 1) (bytes + total) spec
 unfolding said_length
-totals_more n bytes total spec before now =
+totals_more {n} {total} {spec} before now =
     let given = (given_allows spec.stalls.config (slice_get spec.configs n) now.text now.given).1 in
     let less : n < length spec.configs = slice_get_within spec.configs n now.text given in
     let said : said_length (get_or spec.configs n now.text) ≡ total =
@@ -168,10 +170,10 @@ totals_more n bytes total spec before now =
       sum = sum_by_more said_length spec.configs n now.text less ∙ omega (arith, before.sum, said);
     }
 
-totals_within_said : (n bytes : ℕ) (spec : Spec) → HasTotals n bytes spec
+totals_within_said : {n bytes : ℕ} {spec : Spec} → HasTotals n bytes spec
     → bytes ≤ said_lengths spec
 unfolding said_lengths
-totals_within_said n bytes spec has =
+totals_within_said {n} {spec} has =
     omega (arith, has.sum, sum_by-take-le said_length spec.configs n)
 
 -- so many texts were read: how few attempts that took, and what they say
@@ -190,52 +192,51 @@ texts_none = record {
   said = inl (refl, refl);
 }
 
-pub texts_read_more : {t : Target} {n k : ℕ} {old mid new : World} {a b : Option (List ℕ)}
-    {text : List ℕ} → TextsRead t n old mid → StepRun k mid a new b
-    → ReadsText t n mid (Ok text) new → TextsRead t (n + 1) old new
-texts_read_more {t} {n} {old} {new} before went now =
+pub texts_read_more : {t : Target} {n : ℕ} {old mid new : World} {text : List ℕ}
+    → TextsRead t n old mid → Went mid new → ReadsText t n mid (Ok text) new
+    → TextsRead t (n + 1) old new
+texts_read_more {t} {n} {old} before went now =
     let bytes = before.bytes + now.total in
     let learned = learns_on {C = AtMaximum t (HasTotals (n + 1) bytes)} before.learned went
-    now.read.0 (λ spec x y max. totals_more n before.bytes now.total spec (x max) (y max)) in
+    now.read.0 (λ spec x y max. totals_more (x max) (y max)) in
     record {
       bytes = bytes;
       count = omega (arith, before.count, now.count);
       learned = learned;
-      said = inr (λ single. some_learned (AtMaximum t (HasTotals (n + 1) bytes)) t old new learned
+      said = inr (λ single. some_learned (AtMaximum t (HasTotals (n + 1) bytes)) old learned
           single (now.read.1 single));
     }
 
 -- how many and how long they are
-texts_within : (t : Target) (n : ℕ) (old new : World) (most : ℕ) (before : TextsRead t n old new)
+texts_within : {t : Target} {n : ℕ} {old new : World} (most : ℕ) (before : TextsRead t n old new)
     → new.shared ≡ false → EachAt (SaysWithin t most) t old → (n ≤ 8) × (before.bytes ≤ most)
-texts_within t n old new most before single each = elim before.said [
+texts_within {t} {n} most before single each = elim before.said [
   | inl none ↦ (omega (arith, none.0), omega (arith, none.1))
   | inr some ↦ (let s = some single in
       let says : SaysWithin t most s.state.spec = each s.spot s.state s.on s.stands s.at in
       let has : HasTotals n before.bytes s.state.spec = s.so says.max in (
         omega (arith, has.there, says.few),
-        omega (arith, totals_within_said n before.bytes s.state.spec has, says.within),
+        omega (arith, totals_within_said has, says.within),
       ))
 ]
 
 pub texts_ended : {t : Target} {n : ℕ} {old new : World} → TextsRead t n old new
     → FewFor texts_bound t old new
-texts_ended {t} {n} {old} {new} read = record {
+texts_ended read = record {
   few = λ most single each.
-      let within = texts_within t n old new most read single each in
+      let within = texts_within most read single each in
       omega (arith, read.count, within.0, within.1);
 }
 
 -- whether the next one was read or not
-pub texts_failed : {t : Target} {n k : ℕ} {old mid new : World} {a b : Option (List ℕ)}
-    {r : Result (List ℕ) Stop} → TextsRead t n old mid → StepRun k mid a new b
-    → ReadsText t n mid r new → FewFor texts_bound t old new
-texts_failed {t} {n} {k} {old} {mid} {new} before went now =
+pub texts_failed : {t : Target} {n : ℕ} {old mid new : World} {r : Result (List ℕ) Stop}
+    → TextsRead t n old mid → Went mid new → ReadsText t n mid r new → FewFor texts_bound t old new
+texts_failed {t} {n} {old} before went now =
     record {
       few = λ most single each.
-          let back = went_unshared k mid new went single in
+          let back = went.unshared single in
           elim now.said [
-            | inl none ↦ (let within = texts_within t n old mid most before back each in
+            | inl none ↦ (let within = texts_within most before back each in
                 omega (arith, before.count, now.count, none, within.0, within.1))
             | inr some ↦ (let s = some single in
                 let was : Was (Learned (AtMaximum t (HasTotals n before.bytes)) t) old s.spot
@@ -249,14 +250,14 @@ texts_failed {t} {n} {k} {old} {mid} {new} before went now =
                 subst (AtMaximum t (HasTotal n now.total))
                 (stays-spec was.before s.state was.so.frame) s.so says.max in
                 let all : HasTotals (n + 1) (before.bytes + now.total) was.before.spec =
-                totals_more n before.bytes now.total was.before.spec (was.so.so at says.max) next in
+                totals_more (was.so.so at says.max) next in
                 omega (
                   arith,
                   before.count,
                   now.count,
                   all.there,
                   says.few,
-                  totals_within_said (n + 1) (before.bytes + now.total) was.before.spec all,
+                  totals_within_said all,
                   says.within,
                 ))
           ];
@@ -264,31 +265,128 @@ texts_failed {t} {n} {k} {old} {mid} {new} before went now =
 
 -- More calls
 
-pub few_then : (f h : ℕ → ℕ) (t : Target) (n : ℕ) (old mid new : World) {a b : Option (List ℕ)}
-    → FewFor f t old mid → StepRun n mid a new b → ((most : ℕ) → f most + n ≤ h most)
-    → FewFor h t old new
-few_then f h t n old mid new begun went le =
+pub few_then : {f : ℕ → ℕ} (h : ℕ → ℕ) {t : Target} {n : ℕ} {old mid new : World}
+    {a b : Option (List ℕ)} → FewFor f t old mid → StepRun n mid a new b
+    → ((most : ℕ) → f most + n ≤ h most) → FewFor h t old new
+few_then h begun went le =
     record {
       few = λ most single each. omega (
         arith,
-        begun.few most (went_unshared n mid new went single) each,
+        begun.few most (went_unshared went single) each,
         went.spends.most,
         le most,
       );
     }
 
-pub few_wider : (f h : ℕ → ℕ) (t : Target) (old new : World) → FewFor f t old new
+pub few_wider : {f : ℕ → ℕ} (h : ℕ → ℕ) {t : Target} {old new : World} → FewFor f t old new
     → ((most : ℕ) → f most ≤ h most) → FewFor h t old new
-few_wider f h t old new made le = record {
+few_wider h made le = record {
   few = λ most single each. omega (arith, made.few most single each, le most);
+}
+
+-- What is plugged in
+
+-- each index that is plugged is so
+abbrev EachPlugged : (ℕ → Type 0) → PluggedMap → Type 0
+EachPlugged P [] = ⊤
+EachPlugged P (x ∷ tree) = P x.1 × EachPlugged P tree
+
+module _ (P : ℕ → Type 0) where
+  inserted : (tree : PluggedMap) (e : List ℕ) (d : ℕ) → P d → EachPlugged P tree
+      → EachPlugged P (insert_entry path_cmp tree e d)
+  inserted [] e d so each = (so, tt)
+  inserted (x ∷ tree) e d so each = split (path_cmp e x.0) (inserted tree e d so each.1)
+    where
+      split : (r : Ordering) → EachPlugged P (insert_entry path_cmp tree e d)
+          → EachPlugged P (match_ordering r ((e, d) ∷ x ∷ tree) ((x.0, d) ∷ tree)
+          (x ∷ insert_entry path_cmp tree e d))
+      split Less more = (so, each)
+      split Equal more = (so, each.1)
+      split Greater more = (each.0, more)
+
+  filtered : (test : List ℕ × ℕ → Bool) (tree : PluggedMap) → EachPlugged P tree
+      → EachPlugged P (filter test tree)
+  filtered test [] each = tt
+  filtered test (x ∷ tree) each = split (test x) (filtered test tree each.1)
+    where
+      split : (b : Bool) → EachPlugged P (filter test tree)
+          → EachPlugged P (cond b (x ∷ filter test tree) (filter test tree))
+      split true more = (each.0, more)
+      split false more = more
+
+  found : (tree : PluggedMap) (path : List ℕ) (i : ℕ) → EachPlugged P tree
+      → index_at tree path ≡ Some i → P i
+  found [] path i each e = absurd cc
+  found (x ∷ tree) path i each e = split (is_eq (path_cmp path x.0)) (found tree path i each.1) e
+    where
+      split : (b : Bool) → (index_at tree path ≡ Some i → P i)
+          → cond b (Some x.1) (index_at tree path) ≡ Some i → P i
+      split true more e = subst P (same_Some x.1 i e) each.0
+      split false more e = more e
+
+abbrev PluggedWithin : ℕ → List Spec → ℕ → Type 0
+PluggedWithin most devices index = IfSome (slice_get devices index)
+    (λ spec. said_lengths spec ≤ most)
+
+module _ (most : ℕ) (devices : List Spec) where
+  indexed_after : (action : Action) (tree : PluggedMap) → PlugsWithin most devices action
+      → EachPlugged (PluggedWithin most devices) tree
+      → EachPlugged (PluggedWithin most devices) (plugged_after action tree)
+  unfolding plugged_without
+  indexed_after (Change (Plug path device)) tree so each =
+      inserted (PluggedWithin most devices) tree path device so each
+  indexed_after (Change (Unplug path)) tree so each =
+      filtered (PluggedWithin most devices) (λ place. not (starts_with nat_eq place.0 path)) tree
+      each
+  indexed_after (Ask ask) tree so each = each
+
+  indexed_by : (n : ℕ) (events : List Event) (tree : PluggedMap)
+      → All (λ e. PlugsWithin most devices e.action) events
+      → EachPlugged (PluggedWithin most devices) tree
+      → EachPlugged (PluggedWithin most devices) (plugged_by tree (take n events))
+  unfolding plugged_by
+  indexed_by (suc n) (e ∷ events) tree all each =
+      let P : Event → Type 0 = λ x. PlugsWithin most devices x.action in
+      indexed_by n events (plugged_after e.action tree) (All-tail P e events all)
+      (indexed_after e.action tree (All-head P e events all) each)
+  indexed_by _ _ tree all each = each
+
+  described : (o : Option ℕ) (spec : Spec) → ((i : ℕ) → o ≡ Some i → PluggedWithin most devices i)
+      → device_indexed devices o ≡ Some spec → said_lengths spec ≤ most
+  described None spec each e = absurd cc
+  described (Some i) spec each e = subst (λ o. IfSome o (λ spec. said_lengths spec ≤ most)) e
+      (each i refl)
+
+-- the device at a path
+pub plugged_within : {most : ℕ} {w : World} → HasPlanWithin most w → (path : List ℕ) (s : State)
+    → state_there w.roots path ≡ Some s → said_lengths s.spec ≤ most
+plugged_within {most} {w} has path s there =
+    let plan = has.planned.plan in
+    let tree = plugged_by [] (take w.taken plan.events) in
+    described most plan.devices (index_at tree path) s.spec
+    (λ i e. found (PluggedWithin most plan.devices) tree path i
+    (indexed_by most plan.devices w.taken plan.events [] has.plugs tt) e)
+    (sym (devices_left plan has.planned.is has.planned.paths w has.planned.course path)
+    ∙ ap (option_map spec_of) there)
+
+-- from one call to the next
+pub plan_within_after : {most : ℕ} {old new : World} → Went old new → new.fault ≡ None
+    → HasPlanWithin most old → HasPlanWithin most new
+plan_within_after went none has = record {
+  planned = record {
+    plan = has.planned.plan;
+    is = has.planned.is;
+    paths = has.planned.paths;
+    course = course_joined has.planned.course (went.led.course none);
+  };
+  plugs = has.plugs;
 }
 
 -- The device that took the address
 
-module _ (port : HubPort) (address m : ℕ) (device : Addressed) (old mid new : World)
-    {a b : Option (List ℕ)} (went : StepRun m old a mid b)
-    (taken : HasTaken port address old mid device)
-    (f : AddressMap) (p : List ℕ) (spare : IsSpare f port p address)
+module _ {port : HubPort} {address : ℕ} {device : Addressed} {old mid : World}
+    (went : Went old mid) (taken : HasTaken port address old mid device) {f : AddressMap}
+    {p : List ℕ} (spare : IsSpare f port p address)
     (till : WhileBusWorks (Enumerating f p address) old) (regular : IsRegular old) where
   owned : WhileBusWorks (MapHolds (after_taking f p address)) mid
   owned = taken.takes.took f p spare till
@@ -297,8 +395,7 @@ module _ (port : HubPort) (address m : ℕ) (device : Addressed) (old mid new : 
       → is_at s device.target ≡ true → path_to x ≡ p
   there x s on stands at =
       let own = owned.so taken.still in
-      same_is p (path_to x)
-      (own.distinct p (path_to x) address (held_there f p address)
+      same_is p (path_to x) (own.distinct p (path_to x) address (held_there f p address)
       (sym (own.own (path_to x) on) ∙ ap (option_map address_of) stands
       ∙ ap Some (equal_same (address_of s) device.target.addr at ∙ taken.address)))
 
@@ -310,28 +407,26 @@ module _ (port : HubPort) (address m : ℕ) (device : Addressed) (old mid new : 
       (taken.found.found f p spare till regular) in
       let is : IsAddressed device s = found s on stands in
       let ruled : IsSpec s.spec = ruled_there mid.roots (path_to x) s
-      (went_regular m old mid went regular taken.still).sane stands in
+      (went.order regular taken.still).sane stands in
       record {
         max = head_packet is.low is.head;
         few = ruled.configs;
-        within = plugged_within most mid (plan_within_after most m old mid went taken.still
-            (plan (went_sound m old mid went taken.still))) (path_to x) s stands;
+        within = plugged_within (plan_within_after went taken.still
+            (plan (went.led.sound taken.still))) (path_to x) s stands;
       }
 
-pub examined_few : (port : HubPort) (address : ℕ) (device : Addressed) (old mid new : World)
+pub examined_few : {port : HubPort} {address : ℕ} {device : Addressed} {old mid new : World}
     {a b : Option (List ℕ)} → StepRun (3 * pass_bound port) old a mid b
-    → HasTaken port address old mid device
-    → FewFor configured_by device.target mid new → KeepsAddresses mid new
-    → FewFrom port address old new
-examined_few port address device old mid new went taken configured keeps = record {
+    → HasTaken port address old mid device → FewFor configured_by device.target mid new
+    → KeepsAddresses mid new → FewFrom port address old new
+examined_few {address} {new} went taken configured keeps = record {
   few = λ f p spare till regular most plan.
       let single = (keeps.kept (after_taking f p address) (taken.takes.took f p spare till)).single
       in
       omega (
         arith,
         went.spends.most,
-        configured.few most single
-            (says_within port address (3 * pass_bound port) device old mid new went taken f p spare
+        configured.few most single (says_within (went_steps went) taken spare
             till regular most plan),
       );
 }

@@ -1,31 +1,26 @@
 -- That a refusal has its cause: what is wrong with a device is the verdict on it.
-use Rattle.std.proofs.Common.{◌≡◌, inl, inr, ◌&&◌, not, ℕ, Bool, true, false, if◌then◌else◌, List}
-use Rattle.std.proofs.Common.{take, Option, None, Some, Result, Ok, Err, is_ok, refl, ap, sym, ◌∙◌}
-use Rattle.std.proofs.Common.{IfErr, IfOk, MatchResult}
+use Rattle.std.proofs.Common.{◌≡◌, inl, inr, ◌&&◌, not, ℕ, Bool, true, false, if◌then◌else◌, take}
+use Rattle.std.proofs.Common.{Option, None, Some, Result, Ok, Err, is_ok, refl, ap, sym, ◌∙◌}
 use Rattle.std.specs.Option.{option_or}
 use Rattle.std.proofs.lemmas.Option.{same_Some}
 use Rattle.usb_descriptor.specs.{device_head_of}
 use Rattle.usb_device.specs.{Spec}
 use Rattle.usb_world.specs.{after_taking, World}
-use Rattle.usb_bus.specs.{StepRun}
 use Rattle.usb_transaction.specs.{Target}
 use Rattle.usb_hub.specs.{HubPort}
 use Rattle.usb_enum.specs.{Addressed, Cause, Silent, Busy, Stalled, BadDevice, NoAddress, Stop}
 use Rattle.usb_enum.specs.{AtPort, verdict, gives_head, IsRight, is_device, StopsFairly, OnlySets}
 use Rattle.usb_enum.specs.{FailureReason, Awaits, HasTaken, Refuses, head_fault, early_fault}
 use Rattle.usb_enum.specs.{device_fault, addressed_fault, unaddressed_fault, cause_in, whole_fault}
-use Rattle.usb_enum.specs.{configured_fault, CauseAllowedOfDevice, HostOptions}
+use Rattle.usb_enum.specs.{configured_fault, CauseAllowedOfDevice, HostOptions, Went}
 use Rattle.usb_enum.specs.declared.cause.Request.TheVariants as request
 use Rattle.usb_enum.specs.declared.finding.Finding.TheVariants.{Refused as RefusedFinding}
 use Rattle.usb_enum.specs.declared.stop.Stop.TheVariants.{Refused, Fault}
-use Rattle.usb_enum.proofs.courses.Courses.{regular_order, went_sound}
 use Rattle.usb_enum.proofs.courses.Fairness.{fair_then, faults_for_told, pends_reached}
-use Rattle.usb_enum.proofs.readings.Heads.{head_packet}
-use Rattle.usb_enum.proofs.devices.Presence.{Granted}
+use Rattle.usb_enum.proofs.devices.Presence.{responsive, Granted}
 use Rattle.usb_enum.proofs.devices.ReachedDevices.{reaches_set}
 use Rattle.usb_enum.proofs.stops.StopReasons.{explained_at, early_none, addressed_early}
-use Rattle.usb_enum.proofs.verdicts.VerdictCauses.{verdict_refused}
-use Rattle.usb_enum.proofs.verdicts.VerdictRows.{gave_head}
+use Rattle.usb_enum.proofs.verdicts.VerdictRows.{verdict_refused, gave_head}
 
 -- The rows up to the device descriptor
 
@@ -34,14 +29,12 @@ early_row silent busy stalls good = if silent then Some Silent else if busy then
     else if stalls then Some (Stalled request.Device) else if good then None else Some BadDevice
 
 addressed_rows : (silent busy stalls good address whole : Bool) (rest : Result ℕ Cause)
-    (cause : Cause) → option_or (early_row silent busy stalls good)
-    (option_or (if address then Some (Stalled request.Address) else None)
-    (if stalls then Some (Stalled request.Device) else if whole then None else Some
-    BadDevice)) ≡ Some cause
-    → cause_in (if silent then Err Silent else if busy then Err Busy else if stalls then Err
-    (Stalled request.Device) else if not good then Err BadDevice
-    else if address then Err (Stalled request.Address) else if not whole then Err BadDevice
-    else rest) ≡ Some cause
+    (cause : Cause) → option_or (early_row silent busy stalls good) (option_or
+    (if address then Some (Stalled request.Address) else None)
+    (if stalls then Some (Stalled request.Device) else if whole then None else Some BadDevice))
+    ≡ Some cause → cause_in (if silent then Err Silent else if busy then Err Busy else if stalls
+    then Err (Stalled request.Device) else if not good then Err BadDevice else if address then Err
+    (Stalled request.Address) else if not whole then Err BadDevice else rest) ≡ Some cause
 addressed_rows false false false true false true rest cause h = absurd cc
 addressed_rows _ _ _ _ _ _ rest cause h = h
 
@@ -102,16 +95,15 @@ pub unaddressed_early : (spec : Spec) (cause : Cause) → early_fault spec ≡ S
     → unaddressed_fault spec ≡ Some cause
 unaddressed_early spec cause e = ap (λ o. option_or o (Some NoAddress)) e
 
-pub none_free : (port : HubPort) (target : Target) (old new : World) → Awaits target port 0 old new
+pub none_free : {port : HubPort} {target : Target} {old new : World} → Awaits target port 0 old new
     → StopsFairly unaddressed_fault port 0 (Refused NoAddress) old new
-none_free port target old new awaits = record {
+none_free {new} awaits = record {
   why = λ f p fair held.
       pends_reached (λ spec. unaddressed_fault spec ≡ Some NoAddress) p new
       (awaits.reaches.reached f p fair.spare held fair.order fair.occupied fair.working)
       (λ s on there.
-      let is = awaits.found.found f p fair.spare held (regular_order fair.order) s on there in
-      ap (λ o. option_or o (Some NoAddress))
-      (early_none target.low target.max s.spec is.low is.head));
+      let is = awaits.found.found f p fair.spare held fair.order s on there in
+      ap (λ o. option_or o (Some NoAddress)) (early_none is.low is.head));
 }
 
 -- A device that is configured
@@ -120,30 +112,22 @@ record Described (device : Addressed) (spec : Spec) : Type 0 where
   granted : Granted device.target.low device.target.max spec
   bytes : device.bytes ≡ take 18 spec.descriptor
 
-module _ (port : HubPort) (address : ℕ) (options : HostOptions) (tier supply m n : ℕ)
-    (device : Addressed)
-    {old mid new : World}
-    {a b c d : Option (List ℕ)} (first : StepRun m old a mid b) (second : StepRun n mid c new d)
-    (at : AtPort port address old mid)
-    (taken : HasTaken port address old mid device) (sets : OnlySets address mid new)
+module _ {port : HubPort} {address : ℕ} (options : HostOptions) (tier supply : ℕ)
+    {device : Addressed} {old mid new : World} (first : Went old mid) (second : Went mid new)
+    (at : AtPort port address old mid) (taken : HasTaken port address old mid device)
+    (sets : OnlySets address mid new)
     (whole : is_device device.target.low device.bytes ≡ true) where
   abbrev wrong : Spec → Option Cause
   wrong = configured_fault options tier supply device.bytes
 
-  is_whole : (spec : Spec) (cause : Cause) → Refuses device.target wrong (Refused cause) spec
+  is_whole : {spec : Spec} (cause : Cause) → Refuses device.target wrong (Refused cause) spec
       × Described device spec → whole_fault options tier supply spec ≡ Some cause
-  is_whole spec cause so =
+  is_whole {spec} cause so =
       let g = so.1.granted in
-      let fault = so.0 (record {
-        loud = g.head.loud;
-        free = g.head.free;
-        max = head_packet g.speed g.head;
-      }) in
       let front = ap (λ x. is_device x (take 18 spec.descriptor)) g.speed
       ∙ ap (is_device device.target.low) (sym so.1.bytes) ∙ whole in
       ap cause_in (verdict_refused spec options tier supply device.bytes cause
-      (gave_head device.target.low device.target.max spec g.speed g.head) g.allowed front
-      so.1.bytes fault)
+      (gave_head g.speed g.head) g.allowed front so.1.bytes (so.0 (responsive g)))
 
   pub configured_stops : (stop : Stop) → CauseAllowedOfDevice tier stop new
       → FailureReason (Refuses device.target wrong stop) device.target mid new
@@ -152,18 +136,17 @@ module _ (port : HubPort) (address : ℕ) (options : HostOptions) (tier supply m
       record { why = λ f p fair. faults_for_told p why new told }
   configured_stops (Refused cause) told explains = record {
     why = λ f p fair held.
-        let here = fair_then f port p address m n first second fair at in
+        let here = fair_then first second fair at in
         let single = (sets.addresses.kept (after_taking f p address)
         (taken.takes.took f p fair.spare fair.held)).single in
         pends_reached (λ spec. whole_fault options tier supply spec ≡ Some cause) p new
-        ((reaches_set port address n second taken.takes sets taken.reaches).reached f p fair.spare
-        fair.held fair.order fair.occupied fair.working)
-        (λ s on there. is_whole s.spec cause
+        ((reaches_set second taken.takes sets taken.reaches).reached f p fair.spare
+        fair.held fair.order fair.occupied fair.working) (λ s on there. is_whole cause
         (explained_at (Refuses device.target wrong (Refused cause)) (Described device) device.target
         f port p mid new fair.spare.at taken.pre here.few single
-        (here.order (went_sound n mid new second fair.working)).sane explains
-        (λ s on there.
-        let is = taken.found.found f p fair.spare fair.held (regular_order fair.order) s on there in
+        (here.order (second.led.sound fair.working)).sane explains (λ s on there.
+        let is = taken.found.found f p fair.spare fair.held fair.order s on there
+        in
         record {
           low = is.low;
           address = is.address;
@@ -173,8 +156,3 @@ module _ (port : HubPort) (address : ℕ) (options : HostOptions) (tier supply m
           };
         }) s on there));
   }
-
-pub matched : {A E : Type 0} (r : Result A E) (P : A → Type 0) (Q : E → Type 0) → IfOk r P
-    → IfErr r Q → MatchResult r P Q
-matched (Ok x) P Q ok err = ok
-matched (Err e) P Q ok err = err

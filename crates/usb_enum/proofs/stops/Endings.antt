@@ -1,33 +1,39 @@
+-- How an enumeration ends: who holds which address then, and what it leaves.
 use Rattle.usb_enum.specs.{Cause, EnumFault, Accepted, Finding, Stop, IsSpare, Within, TakesAddress}
 use Rattle.usb_enum.specs.{EnumWorks, HostOptions, OnlyCalls, AtPort, EndsOwned, EndsEnumeration}
 use Rattle.usb_enum.specs.{KeepsEnumerated, IsRight, FaultsFor, HubPends, IsFairAt, StopsFairly}
 use Rattle.usb_enum.specs.{StopsFor, OnlyAt, unaddressed_bound, Closes, Disables, GivesUp, IsFair}
-use Rattle.usb_enum.specs.{IsLeft, IsOwn, FindingIsTrue, FewAttempts, FindingStands}
-use Rattle.usb_enum.specs.{JustifiesRefusal, HasEmptyPorts, IsOccupied, IsPlaced, AtPath, Finds}
-use Rattle.usb_enum.specs.{IsInOrder, ReachesDevice, FewFrom, EndsFor, Enumerates}
--- How an enumeration ends: who holds which address then.
+use Rattle.usb_enum.specs.{IsLeft, IsOwn, FindingIsTrue, FewAttempts, FindingStands, HasEmptyPorts}
+use Rattle.usb_enum.specs.{IsOccupied, IsPlaced, AtPath, Finds, IsInOrder, ReachesDevice, FewFrom}
+use Rattle.usb_enum.specs.{EndsFor, Enumerates, Went, Faulted, NoNewStretch, at_port}
+use Rattle.usb_enum.specs.{FaultAllowedAt, IsDisabled}
 use Rattle.std.proofs.Common.{◌≡◌, ◌⊎◌, ◌≤◌, ◌+◌, inl, inr, ℕ, true, List, Option, None, Some}
-use Rattle.std.proofs.Common.{Result, Ok, Err, refl, ap, sym, subst, ◌∙◌, arith}
-use Rattle.usb_world.specs.{after_taking, World}
+use Rattle.std.proofs.Common.{Result, Ok, Err, refl, ap, sym, subst, ◌∙◌, arith, IfErr}
+use Rattle.std.proofs.Common.{get_or-set_same, ◌-◌, false, slice_index_or}
+use Rattle.usb_world.specs.{after_taking, World, root_row, root_port_at}
 use Rattle.usb_device.specs.{State, Spec, state_there}
 use Rattle.usb_tree.specs.{is_way, pending}
 use Rattle.usb_tree.proofs.Interface.{decided, false_true}
 use Rattle.usb_bus.specs.{StepRun}
 use Rattle.usb_resources.specs.Pool as pool
 use Rattle.usb_resources.specs.{Addresses, IsFull, IsTaken, HasAddresses}
-use Rattle.usb_address.specs.{AddressMap, Free, map_without, MapHolds, Enumerating}
-use Rattle.usb_address.specs.{WhileBusWorks}
+use Rattle.usb_address.specs.{AddressMap, Free, map_without, MapHolds, Enumerating, WhileBusWorks}
 use Rattle.usb_address.proofs.Interface.{enumerating_begins, owned_as}
 use Rattle.usb_hub.specs.{EachNamedElsewhere, HubPort, IsAt, Isolates, StaysAs, order_bound}
+use Rattle.usb_hub.specs.{KeepsCleared, CommandsPort, Root, External, IsPort, PortCleared}
 use Rattle.usb_enum.specs.declared.fault.EnumFault.TheVariants as fault
 use Rattle.usb_enum.specs.declared.finding.Finding.TheVariants.{Device, Refused}
 use Rattle.usb_enum.specs.declared.stop.Stop.TheVariants as stop
-use Rattle.usb_enum.proofs.devices.Enumerations.{till_weaker, having, at_taking}
-use Rattle.usb_enum.proofs.courses.Courses.{regular_order, went_sound}
-use Rattle.usb_enum.proofs.courses.Fairness.{fair_before, fair_then, pends_on}
-use Rattle.usb_enum.proofs.devices.Frames.{but_taken, calls_then}
-use Rattle.usb_enum.proofs.devices.ReachedDevices.{occupied_on}
+use Rattle.usb_enum.proofs.devices.Enumerations.{till_weaker, having, at_taking, within_none}
+use Rattle.usb_enum.proofs.devices.Enumerations.{within_kept}
+use Rattle.usb_enum.proofs.courses.Fairness.{fair_before, fair_then, pends_on, called_faulted}
+use Rattle.usb_enum.proofs.devices.Frames.{but_taken, calls_then, calls_none, disable_calls}
+use Rattle.usb_enum.proofs.devices.ReachedDevices.{occupied_on, disables_none}
+use Rattle.usb_enum.proofs.devices.ReachedDevices.{clear_enable_disables}
 use Rattle.usb_enum.proofs.Targets.{examined_most}
+use Rattle.usb_port.specs.{clear_call, PortState, off}
+use Rattle.usb_request.specs.{PORT_ENABLE}
+use Rattle.usb_pipe.specs.{PipeFault, FaultAfter}
 
 -- Claims at the port
 
@@ -41,20 +47,20 @@ cleared_taken f p a free x = elim (decided (is_way p x)) [
 -- Given up
 
 -- the port is disabled
-pub ends_refused : (port : HubPort) (address : ℕ) (old new : World) (cause : Cause)
+pub ends_refused : {port : HubPort} (address : ℕ) {old new : World} (cause : Cause)
     → Isolates port old new → EndsEnumeration port address old (Ok (Refused cause)) new
-ends_refused port address old new cause bares = record {
+ends_refused {port} address {new} cause bares = record {
   ends = λ f p spare t.
-      let h = having f p address old t in
+      let h = having f p address t in
       let g : AddressMap = after_taking f p h.has in
       till_weaker (bares.bares g p (at_taking f port p h.has spare.at) h.owned) (owned_as
       (map_without g p) f new (cleared_taken f p h.has spare.free));
 }
 
 -- there is no finding
-pub ends_fault : (port : HubPort) (address : ℕ) (old new : World) (why : EnumFault)
+pub ends_fault : {port : HubPort} {address : ℕ} {old new : World} (why : EnumFault)
     → Within port address old new → EndsEnumeration port address old (Err why) new
-ends_fault port address old new why within =
+ends_fault {address} {new} why within =
     record { ends = λ f p spare t. by_fault f p why (within.stays f p spare t) }
   where
     by_fault : (f : AddressMap) (p : List ℕ) (why : EnumFault)
@@ -103,10 +109,10 @@ free_untaken old new a takes taken = false_true (sym takes.free.1 ∙ taken)
 
 -- How few attempts are made where no address is free
 
-pub few_unaddressed : (port : HubPort) (addresses : Addresses) (old mid new : World)
+pub few_unaddressed : (port : HubPort) (addresses : Addresses) {old mid new : World}
     {a b c d : Option (List ℕ)} → StepRun (unaddressed_bound port) old a mid b
     → StepRun (order_bound port) mid c new d → FewAttempts port addresses old new
-few_unaddressed port addresses old mid new sooner later =
+few_unaddressed port addresses sooner later =
     record {
       few = λ f p wide start most plan. omega (
         arith,
@@ -127,66 +133,65 @@ module _ (port : HubPort) (addresses : Addresses) (address : ℕ) (zero_is : IsT
     spare = λ x e. free (claimed x address e);
   }
 
-  first : (f : AddressMap) (p : List ℕ) (w : World) → IsSpare f port p address
+  first : {f : AddressMap} {p : List ℕ} {w : World} → IsSpare f port p address
       → WhileBusWorks (MapHolds f) w → WhileBusWorks (Enumerating f p address) w
-  first f p w is t = till_weaker t (enumerating_begins f p address w is.free is.none)
+  first {f} {p} {w} is t = till_weaker t (enumerating_begins f p address w is.free is.none)
 
-  only_calls : (old new : World) → OnlyCalls port address old new → (f : AddressMap) (p : List ℕ)
+  only_calls : {old new : World} → OnlyCalls port address old new → (f : AddressMap) (p : List ℕ)
       → IsAt f port p → Free f p → ((x : List ℕ) (a : ℕ) → f x ≡ Some a → IsTaken addresses a)
       → WhileBusWorks (MapHolds f) old → new.fault ≡ None → OnlyAt p old new
-  only_calls old new calls f p at bare claimed t =
-      let is = spare f p at bare claimed in calls.at f p is (first f p old is t)
+  only_calls calls f p at bare claimed t =
+      let is = spare f p at bare claimed in calls.at f p is (first is t)
 
-  named_calls : (old new : World) → OnlyCalls port address old new → (f : AddressMap) (p : List ℕ)
+  named_calls : {old new : World} → OnlyCalls port address old new → (f : AddressMap) (p : List ℕ)
       → IsAt f port p → Free f p → ((x : List ℕ) (a : ℕ) → f x ≡ Some a → IsTaken addresses a)
       → WhileBusWorks (MapHolds f) old → EachNamedElsewhere p StaysAs old new
-  named_calls old new calls f p at bare claimed t =
-      let is = spare f p at bare claimed in calls.named f p is (first f p old is t)
+  named_calls calls f p at bare claimed t =
+      let is = spare f p at bare claimed in calls.named f p is (first is t)
 
-  pub enumerated : (old new : World) (device : Accepted) → device.address ≡ address
+  pub enumerated : {old new : World} (device : Accepted) → device.address ≡ address
       → TakesAddress port address old new → OnlyCalls port address old new
       → KeepsEnumerated port addresses old (Ok (Device device)) new
-  enumerated old new device same takes calls = record {
+  enumerated device same takes calls = record {
     ends = λ f p at bare claimed t.
         let is = spare f p at bare claimed in
-        rw same (takes.took f p is (first f p old is t));
-    only = only_calls old new calls;
-    named = named_calls old new calls;
+        rw same (takes.took f p is (first is t));
+    only = only_calls calls;
+    named = named_calls calls;
   }
 
-  given_up : (old mid new : World) (result : Result Finding EnumFault)
+  given_up : {old mid new : World} {result : Result Finding EnumFault}
       → Within port address old mid → EndsEnumeration port address mid result new
       → OnlyCalls port address old new → KeepsEnumerated port addresses old result new
-  given_up old mid new result within ended calls = record {
+  given_up within ended calls = record {
     ends = λ f p at bare claimed t.
         let is = spare f p at bare claimed in
-        ended.ends f p is (within.stays f p is (first f p old is t));
-    only = only_calls old new calls;
-    named = named_calls old new calls;
+        ended.ends f p is (within.stays f p is (first is t));
+    only = only_calls calls;
+    named = named_calls calls;
   }
 
-  pub found_true : (options : HostOptions) (tier supply : ℕ) (old new : World) (device : Accepted)
+  pub found_true : (options : HostOptions) (tier supply : ℕ) {old new : World} (device : Accepted)
       → Finds (IsOwn options tier supply device) port address old new
       → FindingIsTrue port addresses options tier supply old (Ok (Device device)) new
-  found_true options tier supply old new device finds = record {
+  found_true options tier supply {new} device finds = record {
     truth = λ f p at bare claimed t order other e.
         let is = spare f p at bare claimed in
         subst (λ x. AtPath (IsOwn options tier supply x) p new)
-        (let same : device ≡ other = cc in same)
-        (finds.found f p is (first f p old is t) order);
+        (let same : device ≡ other = cc in same) (finds.found f p is (first is t) order);
   }
 
   -- What is found is there
 
-  pub device_placed : (old new : World) (device : Accepted) → ReachesDevice port address old new
+  pub device_placed : {old new : World} (device : Accepted) → ReachesDevice port address old new
       → ((f : AddressMap) (p : List ℕ) → IsSpare f port p address
       → WhileBusWorks (Enumerating f p address) old → IsInOrder old → IsOccupied old p
       → new.fault ≡ None → HasEmptyPorts p device.hub new)
       → FindingStands port addresses old (Ok (Device device)) new
-  device_placed old new device reaches ports = record {
+  device_placed {new} device reaches ports = record {
     placed = λ f p start occupied none finding e.
         let is = spare f p start.at start.free start.taken in
-        let t = first f p old is start.owned in
+        let t = first is start.owned in
         subst (λ x. IsPlaced p x new) (let same : Device device ≡ finding = cc in same) (record {
           there = reaches.reached f p is t start.order occupied none;
           below = λ other found. subst (λ (d : Accepted). HasEmptyPorts p d.hub new)
@@ -194,18 +199,16 @@ module _ (port : HubPort) (addresses : Addresses) (address : ℕ) (zero_is : IsT
         });
   }
 
-  refused_placed : (last : Stop) (n : ℕ) (old mid new : World)
-      (result : Result Finding EnumFault) {a b : Option (List ℕ)} → AtPort port address old mid
-      → StepRun n mid a new b → Disables port address mid result new
+  refused_placed : (last : Stop) {old mid new : World} {result : Result Finding EnumFault}
+      → AtPort port address old mid → Went mid new → Disables port address mid result new
       → GivesUp port last mid result new → FindingStands port addresses old result new
-  refused_placed last n old mid new result at went disables gives = record {
+  refused_placed last {mid} {new} {result} at went disables gives = record {
     placed = λ f p start occupied none finding e.
         let is = spare f p start.at start.free start.taken in
-        let t = first f p old is start.owned in
+        let t = first is start.owned in
         record {
           there = disables.there f p is (at.within.stays f p is t)
-              (occupied_on p (at.only.at f p is t (went_sound n mid new went none)).spares
-              occupied) finding e;
+              (occupied_on p (at.only.at f p is t (went.led.sound none)).spares occupied) finding e;
           below = λ device found. elim (gives_up_no_device port last mid new result device gives
               (e ∙ ap Ok found)) [ ];
         };
@@ -213,14 +216,14 @@ module _ (port : HubPort) (addresses : Addresses) (address : ℕ) (zero_is : IsT
 
   -- How few attempts are made
 
-  pub few_made : (old mid new : World) → FewFrom port address old mid
+  pub few_made : {old mid : World} (new : World) → FewFrom port address old mid
       → new.attempts ≤ mid.attempts + order_bound port → FewAttempts port addresses old new
-  few_made old mid new from closing = record {
+  few_made new from closing = record {
     few = λ f p wide start most plan.
         let is = spare f p start.at start.free start.taken in
         omega (
           arith,
-          from.few f p is (first f p old is start.owned) (regular_order start.order) most plan,
+          from.few f p is (first is start.owned) start.order most plan,
           closing,
           examined_most port most wide,
         );
@@ -228,13 +231,13 @@ module _ (port : HubPort) (addresses : Addresses) (address : ℕ) (zero_is : IsT
 
   -- What is found is warranted
 
-  fair_begun : (f : AddressMap) (p : List ℕ) (old new : World) → IsFair f port p addresses old new
+  fair_begun : {f : AddressMap} {p : List ℕ} {old new : World} → IsFair f port p addresses old new
       → IsFairAt f port p address old new
-  fair_begun f p old new fair =
+  fair_begun {f} {p} fair =
       let is = spare f p fair.begins.at fair.begins.free fair.begins.taken in
       record {
         spare = is;
-        held = first f p old is fair.begins.owned;
+        held = first is fair.begins.owned;
         order = fair.begins.order;
         occupied = fair.occupied;
         server = fair.server;
@@ -243,45 +246,35 @@ module _ (port : HubPort) (addresses : Addresses) (address : ℕ) (zero_is : IsT
         working = fair.working;
       }
 
-  zero_begun : (f : AddressMap) (p : List ℕ) (old new : World) → IsFair f port p addresses old new
+  zero_begun : {f : AddressMap} {p : List ℕ} {old new : World} → IsFair f port p addresses old new
       → WhileBusWorks (Enumerating f p 0) old
-  zero_begun f p old new fair =
+  zero_begun {f} {p} {old} fair =
       let is = spare f p fair.begins.at fair.begins.free fair.begins.taken in
       till_weaker fair.begins.owned (enumerating_begins f p 0 old is.free is.none)
 
-  pub device_warranted : (options : HostOptions) (tier supply : ℕ) (old new : World)
-      (device : Accepted)
-      → JustifiesRefusal port addresses options tier supply old (Ok (Device device)) new
-  device_warranted options tier supply old new device = record {
-    cause = λ f p fair cause s e. absurd cc;
-    parent = λ f p fair e. absurd cc;
-  }
-
-  module _ (wrong : Spec → Option Cause) (options : HostOptions) (tier supply m n : ℕ) (last : Stop)
-      (old mid new : World)
-      (result : Result Finding EnumFault) {a b c d : Option (List ℕ)}
-      (sooner : StepRun m old a mid b) (later : StepRun n mid c new d)
-      (at : AtPort port address old mid) (stops : StopsFairly wrong port address last old mid)
-      (closes : Closes port address last mid result new)
-      (gives : GivesUp port last mid result new)
-      (right : (spec : Spec) (cause : Cause) → wrong spec ≡ Some cause
-      → IsRight (IsFull addresses) spec options tier supply (Refused cause)) where
-    module _ (f : AddressMap) (p : List ℕ) (fair : IsFair f port p addresses old new) where
+  module _ (wrong : Spec → Option Cause) (options : HostOptions) (tier supply : ℕ) (last : Stop)
+      (old mid new : World) (result : Result Finding EnumFault) (sooner : Went old mid)
+      (later : Went mid new) (at : AtPort port address old mid)
+      (stops : StopsFairly wrong port address last old mid)
+      (closes : Closes port address last mid result new) (gives : GivesUp port last mid result new)
+      (right : (spec : Spec) (cause : Cause) → wrong spec ≡ Some cause → IsRight (IsFull addresses)
+      spec options tier supply (Refused cause)) where
+    module _ {f : AddressMap} {p : List ℕ} (fair : IsFair f port p addresses old new) where
       whole : IsFairAt f port p address old new
-      whole = fair_begun f p old new fair
+      whole = fair_begun fair
 
       here : IsFairAt f port p address mid new
-      here = fair_then f port p address m n sooner later whole at
+      here = fair_then sooner later whole at
 
       why_stopped : StopsFor wrong f p old last mid
-      why_stopped = stops.why f p (fair_before f port p address m n sooner later whole)
+      why_stopped = stops.why f p (fair_before sooner later whole)
 
       caused : (why : Cause) → StopsFor wrong f p old (stop.Refused why) mid → (s : State)
           → state_there new.roots p ≡ Some s → (pending new.roots p ≡ true)
           ⊎ IsRight (IsFull addresses) s.spec options tier supply (Refused why)
       caused why so s there = elim (pends_on (λ spec. wrong spec ≡ Some why) p
           (closes.only.at f p here.spare here.held here.working).spares here.occupied
-          (so (zero_begun f p old new fair))) [
+          (so (zero_begun fair))) [
             | inl h ↦ inl h
             | inr is ↦ inr (right s.spec why (is s there))
           ]
@@ -299,32 +292,30 @@ module _ (port : HubPort) (addresses : Addresses) (address : ℕ) (zero_is : IsT
         (subst (λ x. GivesUp port x mid result new) is gives) in
         subst (λ y. (pending new.roots p ≡ true)
         ⊎ IsRight (IsFull addresses) s.spec options tier supply y)
-        (sym g.0) (caused f p fair why (subst (λ x. StopsFor wrong f p old x mid) is
-        (why_stopped f p fair)) s there)
+        (sym g.0) (caused fair why (subst (λ x. StopsFor wrong f p old x mid) is
+        (why_stopped fair)) s there)
 
     parent_of_stop : (x : Stop) → last ≡ x → (f : AddressMap) (p : List ℕ)
         → IsFair f port p addresses old new → result ≡ Err fault.ParentLost → HubPends p new
     parent_of_stop (stop.Fault why) is f p fair e =
         let g = subst (λ x. GivesUp port x mid result new) is gives in
         let lost : why ≡ fault.ParentLost = cc (sym g.0 ∙ e) in
-        subst (λ w. HubPends p w) (sym g.1)
-        (subst (λ y. FaultsFor p y mid) lost
-        (subst (λ x. StopsFor wrong f p old x mid) is (why_stopped f p fair)))
+        subst (λ w. HubPends p w) (sym g.1) (subst (λ y. FaultsFor p y mid) lost
+        (subst (λ x. StopsFor wrong f p old x mid) is (why_stopped fair)))
     parent_of_stop (stop.Refused why) is f p fair e =
-        (closes.lost why fault.ParentLost is e).why f p (here f p fair)
+        (closes.lost why fault.ParentLost is e).why f p (here fair)
 
     -- all that is so in the end
     pub stopped_ends : EndsFor port addresses options tier supply old result new
         → FewAttempts port addresses old new → EnumWorks result old new
         → Enumerates port addresses options tier supply old result new
     stopped_ends ended few works = record {
-      addresses = given_up old mid new result at.within closes.ends
-          (calls_then port address n old mid new at later closes.only);
+      addresses = given_up at.within closes.ends (calls_then at later closes.only);
       own = record {
         truth = λ f p there bare claimed t order device e.
             absurd (gives_up_no_device port last mid new result device gives e);
       };
-      places = refused_placed last n old mid new result at later closes.there gives;
+      places = refused_placed last at later closes.there gives;
       warrants = record { cause = cause_of last refl; parent = parent_of_stop last refl };
       ended = ended;
       few = few;
@@ -332,3 +323,58 @@ module _ (port : HubPort) (addresses : Addresses) (address : ℕ) (zero_is : IsT
       left = λ finding is. gives_left port last mid new result finding gives is;
       works = works;
     }
+
+-- The port of a device that is given up
+
+-- nothing was called
+pub closed_fault : (port : HubPort) (address : ℕ) (why : EnumFault) (w : World)
+    → Closes port address (stop.Fault why) w (Err why) w
+closed_fault port address why w = record {
+  ends = ends_fault why (within_none port address w);
+  only = calls_none port address w;
+  there = disables_none port address w why w;
+  lost = λ cause other is e. absurd cc;
+}
+
+module _ {port : HubPort} (address : ℕ) (cause : Cause) {outcome : Result (Unit {0}) PipeFault}
+    {old new : World} (ends : IfErr outcome (λ why. FaultAfter 1 old why new))
+    (calls : CommandsPort port (clear_call PORT_ENABLE) old outcome new)
+    (keeps : KeepsCleared port PORT_ENABLE old outcome new) where
+  pub closed_refused : outcome ≡ Ok tt → Closes port address (stop.Refused cause) old
+      (Ok (Refused cause)) new
+  closed_refused done = record {
+    ends = ends_refused address cause (keeps.bare refl done);
+    only = disable_calls address ends calls keeps;
+    there = clear_enable_disables address cause calls done;
+    lost = λ other why is e. absurd cc;
+  }
+
+  pub closed_lost : (why : EnumFault) → Went old new → Err why ≡ at_port outcome
+      → FaultAllowedAt port why new → (new.fault ≡ None → NoNewStretch old new)
+      → Closes port address (stop.Refused cause) old (Err why) new
+  closed_lost why went told fault goes =
+      let at : AtPort port address old new = record {
+        within = within_kept keeps.keeps;
+        only = disable_calls address ends calls keeps;
+      } in record {
+        ends = ends_fault why at.within;
+        only = at.only;
+        there = disables_none port address old why new;
+        lost = λ other given is e. subst (λ x. Faulted port address x old new)
+            (let same : why ≡ given = cc in same) (called_faulted went at fault
+            (record { outcome = outcome; told = told; calls = calls; goes = goes }));
+      }
+
+-- where the call worked
+pub disabled : (port : HubPort) (old new : World) (result : Result (Unit {0}) PipeFault)
+    (done : Unit {0}) → Ok done ≡ at_port result → IsPort old port
+    → PortCleared port PORT_ENABLE old result new → IsDisabled port new
+unfolding root_port_at
+disabled (Root number) old new result done worked is cleared =
+    let P : List PortState → Type 0 = λ row. (slice_index_or row (number - 1) off).enable ≡ false in
+    let Q : PortState → Type 0 = λ p. p.enable ≡ false in
+    subst P (sym cleared.row.row) (subst Q
+    (sym (get_or-set_same (root_row old) (number - 1) _ off (omega (arith, is.0, is.1)))) refl)
+disabled (External hub port) old new (Ok tt) done worked is cleared =
+    record { before = old; ordered = cleared }
+disabled (External hub port) old new (Err fault) done worked is cleared = absurd cc

@@ -12,21 +12,21 @@ use Rattle.usb_pipe.specs.declared.fault.PipeFault.TheVariants as pipe
 use Rattle.usb_hub.specs.{HubPort, DeviceStatus, PortCleared, PortRead, PortSet, Queried, EndsAfter}
 use Rattle.usb_hub.specs.{Commanded, ReadAs, device_status, said_in}
 use Rattle.usb_enum.specs.{Cause, Request, EnumFault, Stop, Leads, FailsAs, EndsFailing}
-use Rattle.usb_enum.specs.{EndsReading, IsAny, IsNamed, DescriptorRead, TextRead, BadDescriptor}
-use Rattle.usb_enum.specs.{bad_head, bad_front, BadText, bad_total, bad_text, repeated, Because}
-use Rattle.usb_enum.specs.{CauseAllowed, HubFails, no_descriptor, bad_descriptor, no_status}
-use Rattle.usb_enum.specs.{no_power, CauseAllowedOfHub, CauseAllowedAtStart, PortFails, FaultBy}
-use Rattle.usb_enum.specs.{IsSpokenTo, RefusedEarly, answered, not_enabled, CauseAllowedAt}
-use Rattle.usb_enum.specs.{NoAnswerTold, CanFail, FaultAllowedAt, FaultAllowed, IsPlain, StopFaults}
+use Rattle.usb_enum.specs.{EndsReading, IsAny, IsNamed, DescriptorRead, BadDescriptor, bad_head}
+use Rattle.usb_enum.specs.{bad_front, BadText, bad_total, bad_text, repeated, Because, CauseAllowed}
+use Rattle.usb_enum.specs.{HubFails, no_descriptor, bad_descriptor, no_status, no_power}
+use Rattle.usb_enum.specs.{CauseAllowedOfHub, CauseAllowedAtStart, PortFails, FaultBy, IsSpokenTo}
+use Rattle.usb_enum.specs.{RefusedEarly, answered, not_enabled, CauseAllowedAt, NoAnswerTold}
+use Rattle.usb_enum.specs.{CanFail, FaultAllowedAt, FaultAllowed, IsPlain, StopFaults}
 use Rattle.usb_enum.specs.{CauseAllowedIn, CauseAllowedWithout, answered_or, at_port, fault_at_port}
 use Rattle.usb_enum.specs.{stop_of, left_of, texts_length, CauseAllowedOfText, CauseAllowedOfTexts}
 use Rattle.usb_enum.specs.{TextsAsked, TooLong}
 use Rattle.usb_enum.specs.declared.cause.Cause.TheVariants as cause
 use Rattle.usb_enum.specs.declared.fault.EnumFault.TheVariants as fault
 use Rattle.usb_enum.specs.declared.stop.Stop.TheVariants.{Refused, Fault}
-use Rattle.usb_enum.proofs.courses.LastRequests.{leads_none, leads_then}
-use Rattle.usb_enum.proofs.refusals.Refusals.{answered_err, answered_ok}
-use Rattle.usb_enum.proofs.stops.ToldFailures.{plain_fits, port_can_fail}
+use Rattle.usb_enum.proofs.courses.Courses.{leads_none, leads_then}
+use Rattle.usb_enum.proofs.refusals.Refusals.{answered_err}
+use Rattle.usb_enum.proofs.stops.PlainStops.{plain_fits, port_can_fail}
 
 -- Requests
 
@@ -74,17 +74,6 @@ descriptor_after led got = record {
   front = got.front;
 }
 
-pub text_after : {t : Target} {index : ℕ} {text : List ℕ} {old mid new : World} → Leads old mid
-    → TextRead t index text mid new → TextRead t index text old new
-text_after led got = record { size = got.size; read = reading_after led got.read }
-
--- a request that was answered
-pub was_read : {t : Target} {setup : Setup} {outcome : Result (Vec ℕ) PipeFault} {old new : World}
-    (stalled : Cause) {bytes : Vec ℕ} → Ok bytes ≡ answered_or stalled outcome
-    → Queried t setup old outcome new → EndsReading t setup bytes.items old new
-was_read {t} {setup} {old} {new} stalled is asked =
-    reading (subst (λ r. Reads t setup old r new) (answered_ok stalled is) asked.stages)
-
 -- What an answer is told as
 
 -- by each fault
@@ -126,14 +115,14 @@ stop_told t setup named outcome stop m n old new is names failed ends =
     (failing IsAny pipe.NoAnswer tt) (λ why told. told)
 
 -- of a request to a hub
-pub bad_hub_told : {A : Type 0} (wide : Bool) (t : Target) (setup : Setup)
+pub bad_hub_told : {A : Type 0} (wide : Bool) {t : Target} (setup : Setup)
     (outcome : Result A PipeFault)
-    (stop : Stop) (m n : ℕ) (old new : World) → Err stop ≡ answered_or cause.BadHub outcome
+    (stop : Stop) (m n : ℕ) {old new : World} → Err stop ≡ answered_or cause.BadHub outcome
     → ((why : PipeFault) → outcome ≡ Err why → FailsAs t setup why old new)
     → MatchResult outcome (λ _. AttemptsMade m old new) (λ why. FaultAfter n old why new)
     → (EndsFailing t (λ x. x ≡ setup) pipe.Stalled old new → HubFails wide t old new)
     → CauseAllowedOfHub wide t stop old new
-bad_hub_told wide t setup outcome stop m n old new is failed ends bad =
+bad_hub_told wide {t} setup outcome stop m n {old} {new} is failed ends bad =
     stop_by (λ s. CauseAllowedOfHub wide t s old new) (λ why. FailsAs t setup why old new)
     cause.BadHub m n old new is failed ends
     (λ f. inl (refl, bad (failing (λ x. x ≡ setup) pipe.Stalled refl f)))
@@ -154,8 +143,7 @@ writes_failed t setup outcome old new stages why is =
 
 -- so it is of one for data, and of one without
 pub read_stop_told : {t : Target} {setup : Setup} {outcome : Result (Vec ℕ) PipeFault}
-    {old new : World}
-    (named : Request) (stop : Stop) → IsNamed named setup
+    {old new : World} (named : Request) (stop : Stop) → IsNamed named setup
     → Err stop ≡ answered_or (cause.Stalled named) outcome → Queried t setup old outcome new
     → CauseAllowed t stop old new
 read_stop_told {t} {setup} {outcome} {old} {new} named stop names is asked =
@@ -199,13 +187,11 @@ pub status_told : (wide : Bool) {t : Target} {outcome : Result DeviceStatus Pipe
     → ReadAs device_status t get_status old outcome new → CauseAllowedOfHub wide t stop old new
 status_told wide {t} {old} {new} is told =
     stop_by (λ s. CauseAllowedOfHub wide t s old new) (StatusFails t old new) cause.BadHub 3
-    1 old new is
-    (λ why e. (told.answer, (told.asked.stages, sym told.told ∙ e))) told.ends
+    1 old new is (λ why e. (told.answer, (told.asked.stages, sym told.told ∙ e))) told.ends
     (λ f. inl (refl, no_status old f.0 (leads_none old) f.1.0 f.1.1))
     (λ f. inr (failing IsAny pipe.Busy tt (status_failed t pipe.Busy old new (λ e. absurd cc) f)))
     (λ f. inr (failing IsAny pipe.NoAnswer tt
-    (status_failed t pipe.NoAnswer old new (λ e. absurd cc) f)))
-    (λ why told_so. told_so)
+    (status_failed t pipe.NoAnswer old new (λ e. absurd cc) f))) (λ why told_so. told_so)
 
 -- of a string, whose STALL is no stop
 pub string_told : (t : Target) (setup : Setup) (outcome : Result (Vec ℕ) PipeFault)
@@ -246,7 +232,8 @@ descriptor_bad_after led (bad_front bytes read bad) =
 text_bad_after : {t : Target} {index : ℕ} {old mid new : World} → Leads old mid
     → BadText t index mid new → BadText t index old new
 text_bad_after led (bad_total bytes why read bad) = bad_total bytes why (reading_after led read) bad
-text_bad_after led (bad_text text read bad) = bad_text text (text_after led read) bad
+text_bad_after led (bad_text text read bad) = bad_text text
+    (record { size = read.size; read = reading_after led read.read }) bad
 text_bad_after led (repeated begun mid texts text first asked same read again) =
     repeated begun mid texts text (leads_then led first) asked same read again
 
@@ -272,11 +259,11 @@ text_told room t index (Refused why) old new told = inr told
 text_told room t index (Fault why) old new told = told
 
 -- after those that were read
-pub texts_told : (budget room : Option ℕ) (t : Target) (texts : List (List ℕ)) (index : ℕ)
-    (stop : Stop) (old mid new : World) → room ≡ left_of budget (texts_length texts)
+pub texts_told : (budget room : Option ℕ) {t : Target} {texts : List (List ℕ)} (index : ℕ)
+    (stop : Stop) {old mid : World} (new : World) → room ≡ left_of budget (texts_length texts)
     → length texts ≡ index → TextsAsked t old texts mid → Leads old mid
     → CauseAllowedOfText room t index stop mid new → CauseAllowedOfTexts budget t stop old new
-texts_told budget room t texts index (Refused why) old mid new left count asked led (inl long) =
+texts_told budget room {t} {texts} index (Refused why) {mid} new left count asked led (inl long) =
     inl (
       long.0,
       record {
@@ -287,9 +274,9 @@ texts_told budget room t texts index (Refused why) old mid new left count asked 
             (subst (λ i. TooLong room t i mid new) (sym count) long.1);
       },
     )
-texts_told budget room t texts index (Refused why) old mid new left count asked led (inr told) =
+texts_told budget room {t} index (Refused why) new left count asked led (inr told) =
     inr (because_after why t new led told)
-texts_told budget room t texts index (Fault why) old mid new left count asked led told = told
+texts_told budget room index (Fault why) new left count asked led told = told
 
 -- Of a hub, after other steps
 
@@ -303,8 +290,7 @@ fails_after led (no_status before answer first stages said) =
 fails_after led (no_power port ends) = no_power port (failing_after led ends)
 
 pub hub_after : (wide : Bool) (stop : Stop) (t : Target) {old mid : World} (new : World)
-    → Leads old mid
-    → CauseAllowedOfHub wide t stop mid new → CauseAllowedOfHub wide t stop old new
+    → Leads old mid → CauseAllowedOfHub wide t stop mid new → CauseAllowedOfHub wide t stop old new
 hub_after wide (Refused why) t new led (inl bad) = inl (bad.0, fails_after led bad.1)
 hub_after wide (Refused why) t new led (inr b) = inr (because_after why t new led b)
 hub_after wide (Fault why) t new led told = told
@@ -395,14 +381,13 @@ early_after : {port : HubPort} {address : ℕ} {why : Cause} {old mid new : Worl
     → RefusedEarly port address mid new why → RefusedEarly port address old new why
 early_after {why} {new} led (answered t is b) =
     answered t is (because_after why t new led b)
-early_after led (not_enabled n) = not_enabled
-    (record {
-      before = n.before;
-      led = leads_then led n.led;
-      status = n.status;
-      read = n.read;
-      off = n.off;
-    })
+early_after led (not_enabled n) = not_enabled (record {
+  before = n.before;
+  led = leads_then led n.led;
+  status = n.status;
+  read = n.read;
+  off = n.off;
+})
 
 pub at_after : (stop : Stop) (port : HubPort) (address : ℕ) {old mid : World} (new : World)
     → Leads old mid
@@ -411,11 +396,11 @@ at_after (Refused why) port address new led told = early_after led told
 at_after (Fault why) port address new led told = fault_after port why new led told
 
 -- of the device at the port
-pub stop_told_at : (stop : Stop) (port : HubPort) (address : ℕ) (t : Target) (old new : World)
+pub stop_told_at : (stop : Stop) {port : HubPort} {address : ℕ} {t : Target} (old new : World)
     → IsSpokenTo port address t → CauseAllowed t stop old new
     → CauseAllowedAt port address stop old new
-stop_told_at (Refused why) port address t old new is told = answered t is told
-stop_told_at (Fault why) port address t old new is told = fault_told_by port why old new told
+stop_told_at (Refused why) {t} old new is told = answered t is told
+stop_told_at (Fault why) {port} old new is told = fault_told_by port why old new told
 
 pub silent_after : {port : HubPort} {address : ℕ} {old mid new : World} → Leads old mid
     → NoAnswerTold port address mid new → NoAnswerTold port address old new
@@ -425,17 +410,17 @@ silent_after led told = record {
   failed = failing_after led told.failed;
 }
 
-early_plain : {port : HubPort} {address : ℕ} {old new : World} (why : Cause)
+early_plain : {port : HubPort} {address : ℕ} {old new : World} {why : Cause}
     → RefusedEarly port address old new why → IsPlain why
-early_plain {old} {new} why (answered t is b) = because_plain why t old new b
-early_plain why (not_enabled n) = tt
+early_plain {old} {new} {why} (answered t is b) = because_plain why t old new b
+early_plain (not_enabled n) = tt
 
 pub told_in : (tier : ℕ) (stop : Stop) (port : HubPort) (address : ℕ) (old new : World)
     → CauseAllowedAt port address stop old new → CauseAllowedIn port tier stop new
-told_in tier (Refused why) port address old new told = plain_fits tier why (early_plain why told)
+told_in tier (Refused why) port address old new told = plain_fits tier why (early_plain told)
 told_in tier (Fault why) port address old new told = fault_by port why old new told
 
 pub told_without : (stop : Stop) (port : HubPort) (address : ℕ) (old new : World)
     → CauseAllowedAt port address stop old new → CauseAllowedWithout port stop new
-told_without (Refused why) port address old new told = inr (early_plain why told)
+told_without (Refused why) port address old new told = inr (early_plain told)
 told_without (Fault why) port address old new told = fault_by port why old new told

@@ -1,27 +1,25 @@
 -- Why an enumeration stops, where all is fair.
 use Rattle.std.proofs.Common.{◌≡◌, ◌⊎◌, inl, inr, ◌+◌, ◌≤◌, ◌&&◌, ◌||◌, not, max, ℕ, zero, suc}
 use Rattle.std.proofs.Common.{Bool, true, false, if◌then◌else◌, List, [], ◌∷◌, ◌++◌, length, take}
-use Rattle.std.proofs.Common.{Option, None, Some, option_map, Result, Ok, Err, is_ok, refl, ap, sym}
-use Rattle.std.proofs.Common.{subst, ◌∙◌, arith}
+use Rattle.std.proofs.Common.{Option, None, Some, option_map, Result, Ok, Err, is_ok, is_some, refl}
+use Rattle.std.proofs.Common.{ap, sym, subst, ◌∙◌, arith}
 use Rattle.std.specs.Option.{option_or}
 use Rattle.std.specs.Prelude.{unwrap_or}
 use Rattle.std.proofs.lemmas.Bool.{eq-eqb}
 use Rattle.std.proofs.lemmas.Option.{same_Some}
 use Rattle.usb_request.specs.{PORT_RESET, C_PORT_RESET, set_address}
-use Rattle.usb_port.specs.{PortState, is_attached, speed_of, reset, PortStatus, SetReset, set_call}
-use Rattle.usb_port.specs.{clear_call, called_port}
+use Rattle.usb_port.specs.{PortState, reset, PortStatus, SetReset, set_call, clear_call}
+use Rattle.usb_port.specs.{called_port}
 use Rattle.usb_descriptor.specs.{device_head_of}
-use Rattle.usb_device.specs.{State, Spec, IsSpec, Ports, vacant, taken, reach, state_at, port_at}
-use Rattle.usb_device.specs.{Location, path_to, reach_on, state_on, state_there, port_there}
+use Rattle.usb_device.specs.{State, Spec, IsSpec, Ports, reach, state_at, Location, path_to}
+use Rattle.usb_device.specs.{reach_on, state_on, state_there, port_there}
 use Rattle.usb_world.specs.{after_taking, Relation, Was, EachWas, one_more, Consistent, World}
-use Rattle.usb_tree.specs.{address_of, has_power, has_power_at, pending, deep_at}
+use Rattle.usb_tree.specs.{address_of, pending, deep_at}
 use Rattle.usb_world.proofs.Interface.{course_wider, pending_persists, rests_or_pends, sane_spec}
-use Rattle.usb_tree.proofs.Interface.{both, decided, false_true}
-use Rattle.usb_bus.specs.{StepRun}
-use Rattle.usb_bus.proofs.Interface.{went_then}
+use Rattle.usb_tree.proofs.Interface.{decided, false_true}
 use Rattle.usb_transaction.specs.{Target, Listens, NoThreeDamaged}
 use Rattle.usb_address.specs.{AddressMap, Enumerating, WhileBusWorks}
-use Rattle.usb_address.proofs.Interface.{speed_attached}
+use Rattle.usb_address.proofs.Interface.{attached_there, live_port}
 use Rattle.usb_pipe.specs.{PipeFault, WriteFailure, CanEnd, TookItOrLost, took, lost}
 use Rattle.usb_pipe.specs.declared.fault.PipeFault.TheVariants as pipe
 use Rattle.usb_hub.specs.{HubPort, Root, External, IsAt, PortCallDone, PortStatusAt, Commanded}
@@ -33,73 +31,42 @@ use Rattle.usb_enum.specs.{StopsFor, StopsFairly, Missed, Misses, OnlyAsks, Hear
 use Rattle.usb_enum.specs.{FailureReason, NoNewStretch, IsReachedAt, AtPath, HasHead, AwaitsAddress}
 use Rattle.usb_enum.specs.{Awaits, WasReset, IsResponsive, IsRefusedFor, Refuses, no_fault}
 use Rattle.usb_enum.specs.{head_fault, early_fault, address_fault, device_fault, addressed_fault}
-use Rattle.usb_enum.specs.{NoDescriptor, RefusesDescriptor, stop_of, answered_or, StopFaults}
+use Rattle.usb_enum.specs.{NoDescriptor, RefusesDescriptor, stop_of, answered_or, StopFaults, Went}
 use Rattle.usb_enum.specs.declared.cause.Request.TheVariants as request
 use Rattle.usb_enum.specs.declared.stop.Stop.TheVariants.{Refused, Fault}
-use Rattle.usb_enum.proofs.courses.Courses.{regular_order, went_course, went_sound}
+use Rattle.usb_enum.proofs.courses.Courses.{went_on}
 use Rattle.usb_enum.proofs.devices.Enumerations.{answered_has, having, at_taking, within_kept}
 use Rattle.usb_enum.proofs.courses.Fairness.{fair_before, fair_then, fair_single, faults_for_told}
-use Rattle.usb_enum.proofs.courses.Fairness.{pends_reached, state_there-port, held_spare}
+use Rattle.usb_enum.proofs.courses.Fairness.{pends_reached, held_spare}
 use Rattle.usb_enum.proofs.devices.Frames.{called_is, ends_without_fault as ended_call}
-use Rattle.usb_enum.proofs.readings.Heads.{head_packet}
-use Rattle.usb_enum.proofs.courses.Losses.{course_later}
-use Rattle.usb_enum.proofs.devices.Presence.{Granted, StoodAt, granted, held_at, path_on, was_at}
-use Rattle.usb_enum.proofs.devices.Presence.{at_place}
+use Rattle.usb_enum.proofs.courses.Losses.{course_later, no_stretch_none, no_stretch_then}
+use Rattle.usb_enum.proofs.devices.Presence.{responsive, Granted, StoodAt, granted, held_at}
+use Rattle.usb_enum.proofs.devices.Presence.{path_on, was_at, at_place}
 use Rattle.usb_enum.proofs.devices.ReachedDevices.{done_at, reached_on, reach-state, is_some-value}
-use Rattle.usb_enum.proofs.courses.Stretches.{no_stretch_none, no_stretch_then}
 use Rattle.usb_enum.proofs.refusals.Refusals.{answered_err, each_joint}
 
 -- A reset enables the port of a device
 
-live_powered : (k : Ports) (j : ℕ) (p : List ℕ) (b : PortState) → has_power_at k j p ≡ true
-    → port_at k j p ≡ Some b → b.power ≡ true
-unfolding has_power_at port_at
-live_powered (vacant c k) zero [] b on at = ap (λ x. x.power) (sym (same_Some c b at)) ∙ on
-live_powered (vacant c k) (suc j) p b on at = live_powered k j p b on at
-live_powered (taken c s a k) zero [] b on at = ap (λ x. x.power) (sym (same_Some c b at)) ∙ on
-live_powered (taken c s a k) zero (suc i ∷ p) b on at =
-    live_powered a i p b (both c.power (has_power_at a i p) on).1 at
-live_powered (taken c s a k) (suc j) p b on at = live_powered k j p b on at
-live_powered _ _ _ b on at = false_true on
-
-sane_attached : (k : Ports) (j : ℕ) (p : List ℕ) (b : PortState) (s : State) → Consistent k
-    → port_at k j p ≡ Some b → state_at k j p ≡ Some s → b.attached ≡ speed_of s.spec.low
-unfolding Consistent port_at state_at
-sane_attached (vacant c k) (suc j) p b s sane at there = sane_attached k j p b s sane.2 at there
-sane_attached (taken c z a k) zero [] b s sane at there =
-    ap (λ x. x.attached) (sym (same_Some c b at)) ∙ sane.1
-    ∙ ap (λ x. speed_of x.spec.low) (same_Some z s there)
-sane_attached (taken c z a k) zero (suc i ∷ p) b s sane at there =
-    sane_attached a i p b s sane.2 at there
-sane_attached (taken c z a k) (suc j) p b s sane at there = sane_attached k j p b s sane.3 at there
-sane_attached _ _ _ b s sane at there = absurd cc
-
 reset_enables : (k : Ports) (p : List ℕ) (b : PortState) (s : State) → Consistent k
-    → has_power k p ≡ true → port_there k p ≡ Some b → state_there k p ≡ Some s
-    → (reset b).enable ≡ true
-reset_enables k (suc j ∷ p) b s sane on at there =
-    let power = live_powered k j p b on at in
-    let attached = ap is_attached (sane_attached k j p b s sane at there)
-    ∙ speed_attached s.spec.low in
-    rw (power, attached) refl
-reset_enables k _ b s sane on at there = false_true on
+    → b.power ≡ true → port_there k p ≡ Some b → state_there k p ≡ Some s → (reset b).enable ≡ true
+reset_enables k p b s sane power at there =
+    rw (power, attached_there k p b sane at ∙ ap is_some there) refl
 
-pub reset_lost : (port : HubPort) (address m n : ℕ) (status : PortStatus) {old set told : World}
-    {a b c d : Option (List ℕ)} → StepRun m old a set b → StepRun n set c told d
-    → AtPort port address old set → OnlyAsks set told
+pub reset_lost : {port : HubPort} {address : ℕ} {status : PortStatus} {old set told : World}
+    → Went old set → Went set told → AtPort port address old set → OnlyAsks set told
     → CalledAt port (set_call PORT_RESET) old (Ok tt) set → StatusAt port set (Ok status) told
     → status.enabled ≡ false → StopsFairly no_fault port address (Refused Lost) old told
-reset_lost port address m n status {old} {set} {told} first second at_set asks called shown off =
+reset_lost {port} {address} {status} {old} {set} {told} first second at_set asks called shown off =
     record {
       why = λ f p fair held.
-          let none_set = went_sound n set told second fair.working in
+          let none_set = second.led.sound fair.working in
           let later : pending set.roots p ≡ true → pending told.roots p ≡ true = λ x.
           pending_persists p (course_wider (λ s w k. k.spares) (asks.ports fair.working p)) x in
-          let h = having f p address old fair.held in
+          let h = having f p address fair.held in
           let done : PortCallDone p SetReset old set = called.calls.done (after_taking f p h.has) p
-          SetReset (called_is f port p address old fair.spare h (set_call PORT_RESET) SetReset refl)
+          SetReset (called_is fair.spare h (set_call PORT_RESET) SetReset refl)
           (done_at called.told) in
-          let k = having f p address set (at_set.within.stays f p fair.spare fair.held) in
+          let k = having f p address (at_set.within.stays f p fair.spare fair.held) in
           let seen : PortStatusAt p status set told = shown.tells.tells (after_taking f p k.has) p
           (at_taking f port p k.has fair.spare.at) k.owned status (done_at shown.told) in
           inl (elim fair.occupied [
@@ -108,7 +75,7 @@ reset_lost port address m n status {old} {set} {told} first second at_set asks c
             | inr is ↦ elim (done_stands p SetReset refl old set done is.0) [
               | inr x ↦ later x
               | inl y ↦ (let s = is_some-value (state_there old.roots p) is.1 in
-                  let b = state_there-port old.roots p is.1 in
+                  let b = live_port old.roots p is.0 in
                   elim (rests_or_pends p (seen.before p) y.0) [
                     | inr x ↦ pending_persists p (course_wider (λ s w k. k.spares) (seen.since p)) x
                     | inl z ↦ (let same = same_Some (reset b.0) seen.port
@@ -116,31 +83,29 @@ reset_lost port address m n status {old} {set} {told} first second at_set asks c
                         ∙ seen.stood) in
                         false_true (sym off ∙ ap (λ x. x.enabled) seen.is
                         ∙ ap (λ x. x.enable) (sym same) ∙ reset_enables old.roots p b.0 s.0
-                        (fair.order (went_sound m old set first none_set)).sane is.0 b.1 s.1))
+                        (fair.order (first.led.sound none_set)).sane b.2 b.1 s.1))
                   ])
             ]
           ]);
     }
 
-pub settle_failed : (port : HubPort) (changed : Bool) (why : EnumFault) (old new : World)
+pub settle_failed : {port : HubPort} {changed : Bool} {why : EnumFault} {old new : World}
     → SettlesReset port changed old (Err why) new
     → CalledAt port (clear_call C_PORT_RESET) old (Err why) new
-settle_failed port changed why old new settles = elim (decided changed) [
+settle_failed {changed} settles = elim (decided changed) [
   | inl e ↦ settles.set e
   | inr e ↦ (let done = (settles.unset e).0 in absurd cc)
 ]
 
-pub reset_goes : (port : HubPort) (l m n : ℕ) (status : PortStatus) (old set : World)
-    {told new : World} {a b c d e h : Option (List ℕ)} → StepRun l old a set b
-    → StepRun m set c told d → StepRun n told e new h
+pub reset_goes : {port : HubPort} {status : PortStatus} {old set : World} {told new : World}
+    → Went old set → Went set told → Went told new
     → CalledAt port (set_call PORT_RESET) old (Ok tt) set → StatusAt port set (Ok status) told
     → SettlesReset port status.reset_changed told (Ok tt) new → new.fault ≡ None
     → NoNewStretch old new
-reset_goes port l m n status old set {told} {new} first second third called shown settles none =
-    let none_told = went_sound n told new third none in
-    let none_set = went_sound m set told second none_told in
-    no_stretch_then old set new (called.goes none_set)
-    (no_stretch_then set told new (shown.goes none_told) (elim (decided status.reset_changed) [
+reset_goes {status} {told} first second third called shown settles none =
+    let none_told = third.led.sound none in
+    no_stretch_then (called.goes (second.led.sound none_told))
+    (no_stretch_then (shown.goes none_told) (elim (decided status.reset_changed) [
       | inl e ↦ (settles.set e).goes none
       | inr e ↦ subst (NoNewStretch told) (sym (settles.unset e).1) (no_stretch_none told)
     ]))
@@ -191,7 +156,7 @@ pub explained_at : (So A : Spec → Type 0) (t : Target) (f : AddressMap) (port 
 explained_at So A t f port p mid new at pre three single sane explains is v on there =
     let s : StoodAt p mid (λ j s. Explained Hears So t j s v) =
     was_at (Explained Hears So t) p mid new (explains three single) v on there in
-    let has = at_place (IsTargeted A t) p mid (λ j s. Explained Hears So t j s v) is s in (
+    let has = at_place (IsTargeted A t) is s in (
       subst So (sym s.so.spec) (s.so.so (hears_there f port s.spot t s.before
           (subst (IsAt f port) s.path at) pre has.low has.address)
           (sane_spec mid.roots s.spot.row s.spot.rest s.before sane s.stands)),
@@ -200,39 +165,37 @@ explained_at So A t f port p mid new at pre three single sane explains is v on t
 
 -- The device that awaits its address has address 0
 
-zero_held : (f : AddressMap) (p : List ℕ) (w : World) → w.fault ≡ None
+zero_held : (f : AddressMap) (p : List ℕ) {w : World} → w.fault ≡ None
     → WhileBusWorks (Enumerating f p 0) w → AtPath (λ s. address_of s ≡ 0) p w
-zero_held f p w none t s on there = let e = t.so none in held_at f p e.has w e.owned s on there
+zero_held f p none t s on there = let e = t.so none in held_at f p e.has e.owned s on there
     ∙ elim e.is [ inl none_yet ↦ none_yet | inr none_yet ↦ none_yet ]
 
 -- Its head
 
-pub head_stops : (port : HubPort) (address m n : ℕ) (low pre : Bool) (stop : Stop)
-    {old mid new : World} {a b c d : Option (List ℕ)} → StepRun m old a mid b
-    → StepRun n mid c new d → AtPort port address old mid → AtPort port 0 old mid → OnlyAsks mid new
+pub head_stops : {port : HubPort} {address : ℕ} {low : Bool} (pre : Bool) (stop : Stop)
+    {old mid new : World} → Went old mid
+    → Went mid new → AtPort port address old mid → AtPort port 0 old mid → OnlyAsks mid new
     → WasReset low port 0 old mid → pre ≡ (low && needs_pre port) → StopFaults stop new
     → (let t : Target = record { addr = 0; max = 8; low = low; pre = pre } in
     FailureReason (IsRefusedFor (head_fault low) stop) t mid new)
     → StopsFairly early_fault port address stop old new
-head_stops port address m n low pre (Fault why) first second at at_zero asks was is told explains =
+head_stops pre (Fault why) first second at at_zero asks was is told explains =
     record { why = λ f p fair. faults_for_told p why _ told }
-head_stops port address m n low pre (Refused cause) {mid} {new} first second at at_zero asks
+head_stops {port} {address} {low} pre (Refused cause) {mid} {new} first second at at_zero asks
     was is told explains = record {
       why = λ f p fair held.
-          let spare = held_spare f port p address fair.spare in
-          let sound = went_sound n mid new second fair.working in
-          let here = fair_then f port p address m n first second fair at in
-          let zero = zero_held f p mid sound (at_zero.within.stays f p spare held) in
-          let speed = (was.speed sound).found f p spare held (regular_order fair.order) in
+          let spare = held_spare fair.spare in
+          let sound = second.led.sound fair.working in
+          let here = fair_then first second fair at in
+          let zero = zero_held f p sound (at_zero.within.stays f p spare held) in
+          let speed = (was.speed sound).found f p spare held fair.order in
           let single = ((within_kept asks.addresses).stays f p fair.spare here.held).single in
           pends_reached (λ spec. early_fault spec ≡ Some cause) p new
           (reached_on p (asks.ports fair.working p)
-          (was.reaches.reached f p spare held fair.order fair.occupied sound))
-          (λ s on there.
+          (was.reaches.reached f p spare held fair.order fair.occupied sound)) (λ s on there.
           let so = explained_at (λ spec. head_fault low spec ≡ Some cause) (λ spec. spec.low ≡ low)
           (record { addr = 0; max = 8; low = low; pre = pre }) f port p mid new fair.spare.at is
-          here.few single (here.order sound).sane explains
-          (λ z up at_z. record {
+          here.few single (here.order sound).sane explains (λ z up at_z. record {
             low = speed z up at_z;
             address = zero z up at_z;
             so = speed z up at_z;
@@ -242,10 +205,10 @@ head_stops port address m n low pre (Refused cause) {mid} {new} first second at 
 
 -- What is wrong up to the whole device descriptor
 
-pub early_none : (low : Bool) (max : ℕ) (spec : Spec) → spec.low ≡ low → HasHead low max spec
+pub early_none : {low : Bool} {max : ℕ} {spec : Spec} → spec.low ≡ low → HasHead low max spec
     → early_fault spec ≡ None
 unfolding head_fault
-early_none low max spec same head =
+early_none {spec} same head =
     let good : is_ok (device_head_of spec.low (take 8 spec.descriptor)) ≡ true =
     ap (λ b. is_ok (device_head_of b (take 8 spec.descriptor))) same ∙ ap is_ok head.head in
     rw (head.loud, head.free, head.device, good) refl
@@ -278,20 +241,18 @@ addressed_device spec cause e stalls fault = addressed_rest spec e
 -- SET_ADDRESS
 
 -- of a device that awaits its address, at the end of the call
-module _ (port : HubPort) (address m n : ℕ) (target : Target)
-    (outcome : Result (Unit {0}) PipeFault) {old mid new : World} {a b c d : Option (List ℕ)}
-    (first : StepRun m old a mid b) (second : StepRun n mid c new d)
-    (at : AtPort port address old mid) (at_zero : AtPort port 0 old mid)
-    (at_new : AtPort port address old new) (is : IsUnaddressed port target)
-    (awaits : Awaits target port 0 old mid) (ordered : Commanded target (set_address address)
-    mid outcome new) where
+module _ (port : HubPort) (address : ℕ) (target : Target) (outcome : Result (Unit {0}) PipeFault)
+    {old mid new : World} (first : Went old mid) (second : Went mid new)
+    (at : AtPort port address old mid) (at_new : AtPort port address old new)
+    (is : IsUnaddressed port target) (awaits : Awaits target port 0 old mid)
+    (ordered : Commanded target (set_address address) mid outcome new) where
   pub address_reached : (f : AddressMap) (p : List ℕ) → IsFairAt f port p address old new
       → WhileBusWorks (Enumerating f p 0) old → IsReachedAt new p
   unfolding set_address
   address_reached f p fair held =
       reached_on p (ordered.rests refl (ended_call 2 outcome mid new ordered.ends fair.working) p)
-      (awaits.reaches.reached f p (held_spare f port p address fair.spare) held fair.order
-      fair.occupied (went_sound n mid new second fair.working))
+      (awaits.reaches.reached f p (held_spare fair.spare) held fair.order
+      fair.occupied (second.led.sound fair.working))
 
   module _ (what : new.shared ≡ false → EachWas (AddressAsked target address outcome mid new) mid
       new) (why : NoThreeDamaged mid → new.shared ≡ false
@@ -300,31 +261,29 @@ module _ (port : HubPort) (address m n : ℕ) (target : Target)
     Both j s v = AddressAsked target address outcome mid new j s v
         × WriteFailure target outcome j s v
 
-    address_refused : (f : AddressMap) (p : List ℕ) → IsFairAt f port p address old new
-        → (cause : Cause)
-        → ((j : Location) (s v : State) → Both j s v → Listens target j s → IsSpec s.spec
-        → AwaitsAddress target s → addressed_fault s.spec ≡ Some cause)
+    address_refused : {f : AddressMap} {p : List ℕ} → IsFairAt f port p address old new
+        → (cause : Cause) → ((j : Location) (s v : State) → Both j s v → Listens target j s
+        → IsSpec s.spec → AwaitsAddress target s → addressed_fault s.spec ≡ Some cause)
         → WhileBusWorks (Enumerating f p 0) old
         → PendingOr (λ spec. addressed_fault spec ≡ Some cause) p new
-    address_refused f p fair cause so held =
-        let here = fair_then f port p address m n first second fair at in
-        let single = fair_single f port p address fair at_new in
+    address_refused {f} {p} fair cause so held =
+        let here = fair_then first second fair at in
+        let single = fair_single fair at_new in
         let each : EachWas Both mid new = each_joint (AddressAsked target address outcome mid new)
         (WriteFailure target outcome) Both (λ j s v x y. (x, y)) mid new (what single)
         (why here.few single) in
         pends_reached (λ spec. addressed_fault spec ≡ Some cause) p new
         (address_reached f p fair held) (λ v on there.
         let s : StoodAt p mid (λ j s. Both j s v) = was_at Both p mid new each v on there in
-        let waits = at_place (AwaitsAddress target) p mid (λ j s. Both j s v)
-        (awaits.found.found f p (held_spare f port p address fair.spare) held
-        (regular_order fair.order)) s in
+        let waits = at_place (AwaitsAddress target)
+        (awaits.found.found f p (held_spare fair.spare) held fair.order) s in
         let heard = hears_there f port s.spot target s.before
         (subst (IsAt f port) s.path fair.spare.at) is.pre waits.low (waits.zero ∙ sym is.zero) in
         subst (λ x. addressed_fault x ≡ Some cause) (sym (ap (λ y. y.spec) s.so.0.frame))
         (so s.spot s.before v s.so
         (record { at = heard.at; loud = waits.head.loud; hears = heard.hears })
         (sane_spec mid.roots s.spot.row s.spot.rest s.before
-        (here.order (went_sound n mid new second fair.working)).sane s.stands) waits))
+        (here.order (second.led.sound fair.working)).sane s.stands) waits))
 
     pub address_stops : (stop : Stop) → Err stop ≡ answered_or (Stalled request.Address) outcome
         → StopsFairly addressed_fault port address stop old new
@@ -339,44 +298,39 @@ module _ (port : HubPort) (address m n : ℕ) (target : Target)
             → (fault : PipeFault) → outcome ≡ Err fault → StopsFor addressed_fault f p old
             (unwrap_or (stop_of fault) (Refused (Stalled request.Address))) new
         by_fault f p fair pipe.Stalled e =
-            address_refused f p fair (Stalled request.Address)
-            (λ j s v x heard ruled waits. addressed_stalled s.spec
-            (early_none target.low target.max s.spec waits.low waits.head)
+            address_refused fair (Stalled request.Address)
+            (λ j s v x heard ruled waits. addressed_stalled s.spec (early_none waits.low waits.head)
             (x.0.stalled heard.at e))
-        by_fault f p fair pipe.Busy e = address_refused f p fair _
+        by_fault f p fair pipe.Busy e = address_refused fair _
             (λ j s v x heard ruled waits. absurd (x.1.waited heard waits.head.free ruled.naks e))
         by_fault f p fair pipe.NoAnswer e =
-            address_refused f p fair _ (λ j s v x heard ruled waits. absurd (x.1.answered heard e))
-        by_fault f p fair pipe.Broken e = address_refused f p fair _
+            address_refused fair _ (λ j s v x heard ruled waits. absurd (x.1.answered heard e))
+        by_fault f p fair pipe.Broken e = address_refused fair _
             (λ j s v x heard ruled waits. absurd (subst (CanEnd s.spec) e (x.0.could heard.at)))
-        by_fault f p fair (pipe.Bus why) e = tt
-        by_fault f p fair pipe.Memory e = tt
+        by_fault f p fair _ e = tt
 
 -- The descriptor of a device that was told its address
 
-module _ (port : HubPort) (address l m n : ℕ) (target : Target) {old mid given new : World}
-    {a b d e h : Option (List ℕ)} (first : StepRun l old a mid b) (second : StepRun m mid b given d)
-    (third : StepRun n given e new h)
-    (at : AtPort port address old mid) (at_zero : AtPort port 0 old mid)
+module _ {port : HubPort} {address : ℕ} {target : Target} {old mid given new : World}
+    (first : Went old mid) (second : Went mid given) (third : Went given new)
+    (at : AtPort port address old mid)
     (at_given : AtPort port address old given) (asks : OnlyAsks given new)
     (is : IsUnaddressed port target) (awaits : Awaits target port 0 old mid)
-    (ordered : Commanded target (set_address address) mid (Ok tt) given)
-    (what : given.shared ≡ false → EachWas (AddressAsked target address (Ok tt) mid given) mid
-    given) where
+    (ordered : Commanded target (set_address address) mid (Ok tt) given) (what : given.shared
+    ≡ false → EachWas (AddressAsked target address (Ok tt) mid given) mid given) where
   abbrev named : Target
   named = record target { addr = address }
 
-  module _ (f : AddressMap) (p : List ℕ) (fair : IsFairAt f port p address old new)
+  module _ {f : AddressMap} {p : List ℕ} (fair : IsFairAt f port p address old new)
       (held : WhileBusWorks (Enumerating f p 0) old) where
     sound_given : given.fault ≡ None
-    sound_given = went_sound n given new third fair.working
+    sound_given = third.led.sound fair.working
 
     spare_zero : IsSpare f port p 0
-    spare_zero = held_spare f port p address fair.spare
+    spare_zero = held_spare fair.spare
 
     fair_given : IsFairAt f port p address given new
-    fair_given = fair_then f port p address (l + m) n (went_then l m first second) third fair
-        at_given
+    fair_given = fair_then (went_on first second) third fair at_given
 
     single_given : given.shared ≡ false
     single_given = (at_given.within.stays f p fair.spare fair.held).single
@@ -385,7 +339,7 @@ module _ (port : HubPort) (address l m n : ℕ) (target : Target) {old mid given
     single_new = ((within_kept asks.addresses).stays f p fair.spare fair_given.held).single
 
     waiting : AtPath (AwaitsAddress target) p mid
-    waiting = awaits.found.found f p spare_zero held (regular_order fair.order)
+    waiting = awaits.found.found f p spare_zero held fair.order
 
     granted_there : AtPath (λ s. Granted target.low target.max s.spec) p given
     granted_there = path_on (AddressAsked target address (Ok tt) mid given) (AwaitsAddress target)
@@ -395,16 +349,8 @@ module _ (port : HubPort) (address l m n : ℕ) (target : Target) {old mid given
     named_reached : IsReachedAt new p
     named_reached =
         reached_on p (asks.ports fair.working p)
-        (address_reached port address l m target (Ok tt) first second at at_zero at_given is awaits
-        ordered f p (fair_before f port p address (l + m) n (went_then l m first second) third
-        fair) held)
-
-    responsive : (spec : Spec) → Granted target.low target.max spec → IsResponsive named spec
-    responsive spec g = record {
-      loud = g.head.loud;
-      free = g.head.free;
-      max = head_packet g.speed g.head;
-    }
+        (address_reached port address target (Ok tt) first second at at_given is awaits
+        ordered f p (fair_before (went_on first second) third fair) held)
 
   pub descriptor_stops : (stop : Stop) → StopFaults stop new
       → RefusesDescriptor named stop given new
@@ -413,43 +359,41 @@ module _ (port : HubPort) (address l m n : ℕ) (target : Target) {old mid given
       record { why = λ f p fair. faults_for_told p why new told }
   descriptor_stops (Refused cause) told refuses = record {
     why = λ f p fair held.
-        let have = having f p address given (at_given.within.stays f p fair.spare fair.held) in
+        let have = having f p address (at_given.within.stays f p fair.spare fair.held) in
         let who = (refuses.who cause refl).held (after_taking f p have.has) have.owned in
-        pends_reached (λ spec. addressed_fault spec ≡ Some cause) p new (named_reached f p fair
+        pends_reached (λ spec. addressed_fault spec ≡ Some cause) p new (named_reached fair
         held) (λ s on there.
         let so = explained_at (Refuses named (device_fault target.low) (Refused cause))
         (Granted target.low target.max) named f port p given new fair.spare.at is.pre
-        (fair_given f p fair held).few (single_new f p fair held)
-        ((fair_given f p fair held).order (sound_given f p fair held)).sane refuses.why
-        (λ z up at_z.
-        let g = granted_there f p fair held z up at_z in
+        (fair_given fair held).few (single_new fair held)
+        ((fair_given fair held).order (sound_given fair held)).sane refuses.why (λ z up at_z.
+        let g = granted_there fair held z up at_z in
         record {
           low = g.speed;
-          address = held_at f p have.has given (have.owned.so (sound_given f p fair held)) z up at_z
-              ∙ answered_has f port p address have.has address fair.spare (inr refl) who;
+          address = held_at f p have.has (have.owned.so (sound_given fair held)) z up at_z
+              ∙ answered_has have.has address fair.spare (inr refl) who;
           so = g;
         }) s on there in
-        addressed_device s.spec cause (early_none target.low target.max s.spec so.1.speed so.1.head)
-        so.1.allowed
-        (ap (λ x. device_fault x s.spec) so.1.speed ∙ so.0 (responsive f p fair held s.spec so.1)));
+        addressed_device s.spec cause (early_none so.1.speed so.1.head) so.1.allowed
+        (ap (λ x. device_fault x s.spec) so.1.speed ∙ so.0 (responsive {t = named} so.1)));
   }
 
   -- where it gives none, it missed its address
 
   module _ (none : NoDescriptor named given new) where
-    still_held : (f : AddressMap) (p : List ℕ) → IsFairAt f port p address old new
+    still_held : {f : AddressMap} {p : List ℕ} → IsFairAt f port p address old new
         → WhileBusWorks (Enumerating f p 0) old → (j : Location) → p ≡ path_to j → (v : State)
         → reach_on new.roots j ≡ true → state_on new.roots j ≡ Some v
         → WhileBusWorks (Enumerating f p 0) new × (given.losses ≡ one_more mid.losses)
-    still_held f p fair held j path v on there =
+    still_held {f} {p} fair held j path v on there =
         let w : Was (Explained Hears (λ spec. IsResponsive named spec → ⊥) named) given j v =
-        none.why (fair_given f p fair held).few (single_new f p fair held) j v on there in
+        none.why (fair_given fair held).few (single_new fair held) j v on there in
         let u : Was (AddressAsked target address (Ok tt) mid given) mid j w.before =
-        what (single_given f p fair held) j w.before w.on w.stands in
-        let waits = subst (λ x. AtPath (AwaitsAddress target) x mid) path (waiting f p fair held)
+        what (single_given fair held) j w.before w.on w.stands in
+        let waits = subst (λ x. AtPath (AwaitsAddress target) x mid) path (waiting fair held)
         u.before u.on u.stands in
         let g = subst (λ x. AtPath (λ s. Granted target.low target.max s.spec) x given) path
-        (granted_there f p fair held) w.before w.on w.stands in
+        (granted_there fair held) w.before w.on w.stands in
         by_end w g u.before waits.zero (u.so.done
         (eq-eqb (address_of u.before) target.addr (waits.zero ∙ sym is.zero)) refl).1
       where
@@ -459,26 +403,21 @@ module _ (port : HubPort) (address l m n : ℕ) (target : Target) {old mid given
             → WhileBusWorks (Enumerating f p 0) new × (given.losses ≡ one_more mid.losses)
         by_end w g s none_yet (took registers losses) =
             absurd (w.so.so (hears_there f port j named w.before
-            (subst (IsAt f port) path fair.spare.at) is.pre g.speed
-            (ap (λ r. r.address) registers))
+            (subst (IsAt f port) path fair.spare.at) is.pre g.speed (ap (λ r. r.address) registers))
             (sane_spec given.roots j.row j.rest w.before
-            ((fair_given f p fair held).order (sound_given f p fair held)).sane w.stands)
-            (responsive f p fair held w.before.spec g))
+            ((fair_given fair held).order (sound_given fair held)).sane w.stands)
+            (responsive {t = named} g))
         by_end w g s none_yet (lost registers losses) =
             let t = at_given.within.stays f p fair.spare fair.held in
-            let own = t.so (sound_given f p fair held) in
+            let own = t.so (sound_given fair held) in
             let has : own.has ≡ 0 = sym (subst (λ x. AtPath (λ z. address_of z ≡ own.has) x given)
-            path (held_at f p own.has given own.owned) w.before w.on w.stands)
+            path (held_at f p own.has own.owned) w.before w.on w.stands)
             ∙ ap (λ r. r.address) registers ∙ none_yet in
             let at_zero : WhileBusWorks (Enumerating f p 0) given =
             record {
               so = λ x. record { has = own.has; is = inl has; owned = own.owned };
               single = t.single;
-            } in (
-              (within_kept asks.addresses).stays f p
-                  (held_spare f port p address fair.spare) at_zero,
-              losses,
-            )
+            } in ((within_kept asks.addresses).stays f p (held_spare fair.spare) at_zero, losses)
 
     counted_more : given.losses ≡ one_more mid.losses → NoNewStretch old mid
         → NoNewStretch given new → given.losses.worst ≤ new.losses.worst → Missed 1 old new
@@ -500,7 +439,7 @@ module _ (port : HubPort) (address l m n : ℕ) (target : Target) {old mid given
         missed : (f : AddressMap) (p : List ℕ) → IsFairAt f port p address old new
             → WhileBusWorks (Enumerating f p 0) old → (pending new.roots p ≡ true)
             ⊎ (WhileBusWorks (Enumerating f p 0) new × Missed 1 old new)
-        missed f p fair held = elim (named_reached f p fair held) [
+        missed f p fair held = elim (named_reached fair held) [
           | inl pending ↦ inl pending
           | inr on ↦ inr (by_path p refl on.1)
         ]
@@ -511,11 +450,11 @@ module _ (port : HubPort) (address l m n : ℕ) (target : Target) {old mid given
             by_path (zero ∷ q) path on = false_true on
             by_path (suc j ∷ q) path on =
                 let v = is_some-value (state_at new.roots j q) (reach-state new.roots j q on) in
-                let x = still_held f p fair held (record { row = j; rest = q }) path v.0 on v.1 in (
+                let x = still_held fair held (record { row = j; rest = q }) path v.0 on v.1 in (
                   x.0,
-                  counted_more x.1 (awaits.goes (went_sound m mid given second
-                      (sound_given f p fair held))) (none.goes fair.working)
-                      (course_later (went_course n given new third fair.working)).worst,
+                  counted_more x.1 (awaits.goes (second.led.sound
+                      (sound_given fair held))) (none.goes fair.working)
+                      (course_later (third.led.course fair.working)).worst,
                 )
 
 -- Pass after pass
@@ -529,56 +468,54 @@ misses_none port address w = record {
       );
 }
 
-missed_then : (k : ℕ) (old mid new : World) → Missed k old mid → Missed 1 mid new
+missed_then : {k : ℕ} {old mid new : World} → Missed k old mid → Missed 1 mid new
     → Missed (k + 1) old new
-missed_then k old mid new x y =
+missed_then x y =
     let a = x.run in
     let b = y.run in
     let c = y.worst (omega arith) in
     record { run = omega (arith, a, b); worst = λ some. omega (arith, a, c) }
 
-module _ (port : HubPort) (address k m n : ℕ) {old mid new : World} {a b c d : Option (List ℕ)}
-    (first : StepRun m old a mid b) (second : StepRun n mid c new d)
-    (at : AtPort port address old mid) (later : AtPort port address mid new)
+module _ {port : HubPort} {address k : ℕ} {old mid new : World} (first : Went old mid)
+    (second : Went mid new) (at : AtPort port address old mid) (later : AtPort port address mid new)
     (before : Misses port address k old mid) where
-  pends_later : (f : AddressMap) (p : List ℕ) → IsFairAt f port p address old new
+  pends_later : {f : AddressMap} {p : List ℕ} → IsFairAt f port p address old new
       → pending mid.roots p ≡ true → pending new.roots p ≡ true
-  pends_later f p fair h = pending_persists p
+  pends_later {f} {p} fair h = pending_persists p
       (later.only.at f p fair.spare (at.within.stays f p fair.spare fair.held) fair.working).spares
       h
 
   pub misses_then : Misses port address 1 mid new → Misses port address (k + 1) old new
   misses_then next = record {
     missed = λ f p fair held.
-        elim (before.missed f p (fair_before f port p address m n first second fair) held) [
-          | inl h ↦ inl (pends_later f p fair h)
-          | inr x ↦ elim (next.missed f p
-              (fair_then f port p address m n first second fair at) x.0) [
-                | inl h ↦ inl h
-                | inr y ↦ inr (y.0, missed_then k old mid new x.1 y.1)
-              ]
+        elim (before.missed f p (fair_before first second fair) held) [
+          | inl h ↦ inl (pends_later fair h)
+          | inr x ↦ elim (next.missed f p (fair_then first second fair at) x.0) [
+            | inl h ↦ inl h
+            | inr y ↦ inr (y.0, missed_then x.1 y.1)
+          ]
         ];
   }
 
-  pub stops_then : (wrong : Spec → Option Cause) (stop : Stop)
+  pub stops_then : {wrong : Spec → Option Cause} (stop : Stop)
       → StopsFairly wrong port address stop mid new → StopsFairly wrong port address stop old new
-  stops_then wrong (Fault why) stops =
+  stops_then (Fault why) stops =
       record {
-        why = λ f p fair. stops.why f p (fair_then f port p address m n first second fair at);
+        why = λ f p fair. stops.why f p (fair_then first second fair at);
       }
-  stops_then wrong (Refused cause) stops =
+  stops_then (Refused cause) stops =
       record {
         why = λ f p fair held.
-            elim (before.missed f p (fair_before f port p address m n first second fair) held) [
-              | inl h ↦ inl (pends_later f p fair h)
-              | inr x ↦ stops.why f p (fair_then f port p address m n first second fair at) x.0
+            elim (before.missed f p (fair_before first second fair) held) [
+              | inl h ↦ inl (pends_later fair h)
+              | inr x ↦ stops.why f p (fair_then first second fair at) x.0
             ];
       }
 
-pub thrice_missed : (wrong : Spec → Option Cause) (port : HubPort) (address : ℕ) (cause : Cause)
-    (old new : World) → Misses port address 3 old new
+pub thrice_missed : (wrong : Spec → Option Cause) {port : HubPort} {address : ℕ} (cause : Cause)
+    {old new : World} → Misses port address 3 old new
     → StopsFairly wrong port address (Refused cause) old new
-thrice_missed wrong port address cause old new misses =
+thrice_missed wrong cause misses =
     record {
       why = λ f p fair held. elim (misses.missed f p fair held) [
         | inl h ↦ inl h

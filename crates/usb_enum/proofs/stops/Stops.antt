@@ -1,26 +1,25 @@
 -- Why the parts of an enumeration behind the device descriptor stop, and the whole.
 use Rattle.std.proofs.Common.{◌≡◌, inl, inr, ℕ, ◌==◌, true, List, [], slice_index_or, Some, Result}
-use Rattle.std.proofs.Common.{Ok, Err, refl, sym, subst, IfErr}
+use Rattle.std.proofs.Common.{Bool, Ok, Err, refl, sym, subst, IfErr}
 use Rattle.usb_resources.specs.{Addresses, IsFree, IsFull}
 use Rattle.usb_world.specs.{World}
 use Rattle.usb_tree.proofs.Interface.{both, equal_same}
 use Rattle.usb_transaction.specs.{Target}
 use Rattle.usb_hub.specs.{HubPort}
-use Rattle.usb_enum.specs.{EnumFault, Finding, Stop, LAST_TIER, fits_tier, is_hub_device, GivesUp}
-use Rattle.usb_enum.specs.{Leads, DescriptorRead, CauseAllowed, CauseAllowedAtStart, AllTexts}
-use Rattle.usb_enum.specs.{RefusedAs, by_answer, too_deep, bad_hub, StoppedAs, StopsDevice, FaultBy}
-use Rattle.usb_enum.specs.{IsSpokenTo, CauseAllowedAt, early, late, StopsAtPort, StoppedFor}
-use Rattle.usb_enum.specs.{StoppedWithout, HasReason, refused_for, refused_early, none_free}
-use Rattle.usb_enum.specs.{CauseAllowedOfTexts, EndsFor, FaultAllowedAt, CauseAllowedWithout}
-use Rattle.usb_enum.specs.{FitsTier, HostOptions, choice_of, too_large}
+use Rattle.usb_enum.specs.{CauseAllowedOfDevice, EnumFault, Finding, Stop, LAST_TIER, fits_tier}
+use Rattle.usb_enum.specs.{is_hub_device, GivesUp, Leads, DescriptorRead, CauseAllowed}
+use Rattle.usb_enum.specs.{CauseAllowedAtStart, AllTexts, RefusedAs, by_answer, too_deep, bad_hub}
+use Rattle.usb_enum.specs.{StoppedAs, StopsDevice, FaultBy, IsSpokenTo, CauseAllowedAt, early, late}
+use Rattle.usb_enum.specs.{StopsAtPort, StoppedFor, StoppedWithout, HasReason, refused_for}
+use Rattle.usb_enum.specs.{refused_early, none_free, CauseAllowedOfTexts, EndsFor, FaultAllowedAt}
+use Rattle.usb_enum.specs.{CauseAllowedWithout, FitsTier, HostOptions, choice_of, too_large}
 use Rattle.usb_enum.specs.declared.cause.Cause.TheVariants as cause
 use Rattle.usb_enum.specs.declared.finding.Finding.TheVariants as finding
 use Rattle.usb_enum.specs.declared.stop.Stop.TheVariants.{Refused, Fault}
-use Rattle.usb_enum.proofs.ports.Hubs.{deep_is, told_of_hub}
-use Rattle.usb_enum.proofs.courses.LastRequests.{leads_then}
+use Rattle.usb_enum.proofs.stops.PlainStops.{deep_is, not_last, fault_at, plain_fits}
+use Rattle.usb_enum.proofs.courses.Courses.{leads_then}
 use Rattle.usb_enum.proofs.stops.Reasons.{because_after, because_plain, fault_after, fault_by}
 use Rattle.usb_enum.proofs.stops.Reasons.{fault_told_by, told_in, told_without}
-use Rattle.usb_enum.proofs.stops.ToldFailures.{fault_at, plain_fits}
 
 -- By an answer
 
@@ -60,15 +59,23 @@ fits_stop t bytes options tier supply stop w is =
 
 -- As a hub
 
+pub told_of_hub : (wide : Bool) (tier : ℕ) (bytes : List ℕ) (stop : Stop) (t : Target)
+    (text : List ℕ) (old new : World) → fits_tier tier bytes ≡ Ok tt → is_hub_device bytes ≡ true
+    → CauseAllowedAtStart wide t text stop old new → CauseAllowedOfDevice tier stop new
+told_of_hub wide tier bytes (Refused why) t text old new fits is (inl bad) =
+    rw bad.0 (not_last tier bytes is fits)
+told_of_hub wide tier bytes (Refused why) t text old new fits is (inr b) =
+    plain_fits tier why (because_plain why t old new b)
+told_of_hub wide tier bytes (Fault fault) t text old new fits is told = told
+
 module _ (t : Target) (bytes : List ℕ) (options : HostOptions) (tier supply : ℕ) where
-  hub_as : (stop : Stop) (old read set new : World) → is_hub_device bytes ≡ true
-      → (texts : List (List ℕ)) → AllTexts t bytes texts old read → (chosen : ℕ)
+  hub_as : (stop : Stop) {old read set : World} (new : World) → is_hub_device bytes ≡ true
+      → {texts : List (List ℕ)} → AllTexts t bytes texts old read → (chosen : ℕ)
       → choice_of supply texts ≡ Some chosen → Leads old read → Leads read set
       → CauseAllowedAtStart options.wide_hubs t (slice_index_or texts chosen []) stop set new
       → StoppedAs t bytes options tier supply stop old new
-  hub_as (Refused why) old read set new hub texts all chosen choice first led (inl bad) =
-      subst (RefusedAs t bytes options tier supply old new) (sym bad.0)
-      (bad_hub (record {
+  hub_as (Refused why) {old} {read} {set} new hub {texts} all chosen choice first led (inl bad) =
+      subst (RefusedAs t bytes options tier supply old new) (sym bad.0) (bad_hub (record {
         hub = hub;
         texts = texts;
         read = read;
@@ -79,33 +86,30 @@ module _ (t : Target) (bytes : List ℕ) (options : HostOptions) (tier supply : 
         led = led;
         fails = bad.1;
       }))
-  hub_as (Refused why) old read set new hub texts all chosen choice first led (inr b) =
+  hub_as (Refused why) new hub all chosen choice first led (inr b) =
       by_answer (because_after why t new (leads_then first led) b)
-  hub_as (Fault why) old read set new hub texts all chosen choice first led told = told
+  hub_as (Fault why) new hub all chosen choice first led told = told
 
-  pub hub_stops : (stop : Stop) (old read set new : World) → fits_tier tier bytes ≡ Ok tt
-      → is_hub_device bytes ≡ true → (texts : List (List ℕ)) → AllTexts t bytes texts old read
-      → (chosen : ℕ) → choice_of supply texts ≡ Some chosen
-      → Leads old read → Leads read set
+  pub hub_stops : (stop : Stop) {old read set : World} (new : World) → fits_tier tier bytes ≡ Ok tt
+      → is_hub_device bytes ≡ true → {texts : List (List ℕ)} → AllTexts t bytes texts old read
+      → (chosen : ℕ) → choice_of supply texts ≡ Some chosen → Leads old read → Leads read set
       → CauseAllowedAtStart options.wide_hubs t (slice_index_or texts chosen []) stop set new
       → StopsDevice t bytes options tier supply old new stop
-  hub_stops stop old read set new fits hub texts all chosen choice first led told = record {
+  hub_stops stop {set} new fits hub {texts} all chosen choice first led told = record {
     fits = told_of_hub options.wide_hubs tier bytes stop t (slice_index_or texts chosen []) set
-        new fits hub
-        told;
-    because = hub_as stop old read set new hub texts all chosen choice first led told;
+        new fits hub told;
+    because = hub_as stop new hub all chosen choice first led told;
   }
 
 -- At the port
 
-pub device_stops : (port : HubPort) (address : ℕ) (options : HostOptions) (tier supply : ℕ)
-    (t : Target) (bytes : List ℕ) (stop : Stop) (old mid new : World) → IsSpokenTo port address t
-    → DescriptorRead t bytes old mid
-    → StopsDevice t bytes options tier supply mid new stop
+pub device_stops : {port : HubPort} {address : ℕ} {options : HostOptions} {tier supply : ℕ}
+    {t : Target} {bytes : List ℕ} (stop : Stop) {old mid new : World} → IsSpokenTo port address t
+    → DescriptorRead t bytes old mid → StopsDevice t bytes options tier supply mid new stop
     → StopsAtPort port address options tier supply old new stop
-device_stops port address options tier supply t bytes (Refused why) old mid new is read told =
+device_stops {t} {bytes} (Refused why) {mid} is read told =
     record { fits = told.fits; because = late t bytes mid is read told.because }
-device_stops port address options tier supply t bytes (Fault why) old mid new is read told =
+device_stops {port} (Fault why) {old} {new} is read told =
     record {
       fits = fault_at port why new told.fits;
       because = fault_told_by port why old new told.because;
@@ -144,20 +148,20 @@ module _ (port : HubPort) (addresses : Addresses) (options : HostOptions) (tier 
   without_reasoned (Fault why) old new full (inr told) = told
 
   -- the port is disabled then, and that may fail
-  pub gives_reason : (stop : Stop) (old mid new : World) (result : Result Finding EnumFault)
+  pub gives_reason : (stop : Stop) {old mid new : World} (result : Result Finding EnumFault)
       → Leads old mid → Leads mid new → Reasoned stop old mid → GivesUp port stop mid result new
       → EndsFor port addresses options tier supply old result new
-  gives_reason (Refused why) old mid new (Ok (finding.Device device)) first led reason gives = tt
-  gives_reason (Refused why) old mid new (Ok (finding.Refused other)) first led reason gives =
+  gives_reason (Refused why) (Ok (finding.Device device)) first led reason gives = tt
+  gives_reason (Refused why) {old} {mid} (Ok (finding.Refused other)) first led reason gives =
       record {
         moment = mid;
         reason = subst (HasReason port addresses options tier supply old mid)
             (let same : why ≡ other = cc gives.0 in same) reason;
         led = led;
       }
-  gives_reason (Refused why) old mid new (Err fault) first led reason gives =
+  gives_reason (Refused why) {new} (Err fault) first led reason gives =
       fault_after port fault new first gives
-  gives_reason (Fault why) old mid new result first led reason gives =
+  gives_reason (Fault why) {old} {new} result first led reason gives =
       subst (λ r. EndsFor port addresses options tier supply old r new) (sym gives.0)
       (subst (λ w. FaultBy port why old w) (sym gives.1) reason)
 

@@ -1,14 +1,32 @@
 -- The verdict on a device, row by row: what it is where the rows before do not hold.
 use Rattle.std.proofs.Common.{◌≡◌, inl, inr, ◌<◌, ℕ, zero, suc, ◌+◌, ◌==◌, ◌&&◌, not, Bool, true}
 use Rattle.std.proofs.Common.{false, [], take, slice_index_or, Option, None, Some, Err, Ok, is_ok}
-use Rattle.std.proofs.Common.{refl, ap, sym, ◌∙◌, arith}
+use Rattle.std.proofs.Common.{refl, ap, sym, ◌∙◌, arith, List, slice_index, if◌then◌else◌}
 use Rattle.std.specs.Option.{option_or}
 use Rattle.std.proofs.lemmas.Bool.{cases_order}
+use Rattle.std.proofs.lemmas.List.{get_or-take}
 use Rattle.usb_descriptor.specs.{device_head_of, configuration_count}
 use Rattle.usb_device.specs.{Spec}
 use Rattle.usb_enum.specs.{Cause, Silent, TooDeep, is_device, is_hub_device, choice_of, verdict}
 use Rattle.usb_enum.specs.{is_good_hub, texts_of, config_fault, first_fault, read_verdict}
-use Rattle.usb_enum.specs.{set_verdict, HasHead, HostOptions, left_of, said_below}
+use Rattle.usb_enum.specs.{set_verdict, HasHead, HostOptions, left_of, said_below, Stalled, NoPower}
+use Rattle.usb_enum.specs.{BadHub, texts_below, chosen_fault, configured_fault}
+use Rattle.std.proofs.lemmas.Option.{same_Some}
+use Rattle.usb_tree.proofs.Interface.{decided}
+use Rattle.usb_enum.specs.declared.cause.Request.TheVariants as request
+
+-- What is read of the first 18 bytes of a descriptor
+
+pub slice_index-take : (d : List ℕ) (i : ℕ) → i < 18 → slice_index (take 18 d) i ≡ slice_index d i
+slice_index-take d i below = get_or-take 18 d i 0 below
+
+pub front_count : (d : List ℕ) → configuration_count (take 18 d) ≡ configuration_count d
+front_count d = slice_index-take d 17 (omega arith)
+
+pub front_hub : (d : List ℕ) → is_hub_device (take 18 d) ≡ is_hub_device d
+front_hub d = ap (λ n. n == 9) (slice_index-take d 4 (omega arith))
+
+-- Rows
 
 -- it answers with the head of a device descriptor
 pub record GaveHead (spec : Spec) : Type 0 where
@@ -17,9 +35,9 @@ pub record GaveHead (spec : Spec) : Type 0 where
   pub device : spec.stalls.device ≡ false
   pub head : is_ok (device_head_of spec.low (take 8 spec.descriptor)) ≡ true
 
-pub gave_head : (low : Bool) (max : ℕ) (spec : Spec) → spec.low ≡ low → HasHead low max spec
+pub gave_head : {low : Bool} {max : ℕ} {spec : Spec} → spec.low ≡ low → HasHead low max spec
     → GaveHead spec
-gave_head low max spec same head = record {
+gave_head {spec} same head = record {
   loud = head.loud;
   free = head.free;
   device = head.device;
@@ -46,18 +64,18 @@ pub row_silent : (spec : Spec) (options : HostOptions) (tier supply : ℕ) → s
 unfolding verdict
 row_silent spec options tier supply a = rw a refl
 
-pub row_too_deep : (spec : Spec) (options : HostOptions) (tier supply : ℕ) → GaveHead spec
+pub row_too_deep : {spec : Spec} (options : HostOptions) (tier supply : ℕ) → GaveHead spec
     → spec.stalls.address ≡ false → is_device spec.low (take 18 spec.descriptor) ≡ true
     → (is_hub_device spec.descriptor && tier == 7) ≡ true
     → verdict spec options tier supply ≡ Err TooDeep
 unfolding verdict
-row_too_deep spec options tier supply h a b c = rw (h.loud, h.free, h.device, h.head, a, b, c) refl
+row_too_deep options tier supply h a b c = rw (h.loud, h.free, h.device, h.head, a, b, c) refl
 
-pub rows_after : (spec : Spec) (options : HostOptions) (tier supply : ℕ) → GaveDevice spec tier
-    → verdict spec options tier supply ≡ read_verdict options.wide_hubs spec supply
-    (first_fault options.device_bytes spec (configuration_count spec.descriptor))
+pub rows_after : {spec : Spec} (options : HostOptions) {tier : ℕ} (supply : ℕ)
+    → GaveDevice spec tier → verdict spec options tier supply ≡ read_verdict options.wide_hubs spec
+    supply (first_fault options.device_bytes spec (configuration_count spec.descriptor))
 unfolding verdict
-rows_after spec options tier supply h = rw (
+rows_after options supply h = rw (
   h.first.loud,
   h.first.free,
   h.first.device,
@@ -97,12 +115,87 @@ first_fault-next budget spec i (suc n) cause l h k = elim (cases_order i n) [
 
 -- With a configuration
 
-pub row_accepted : (spec : Spec) (options : HostOptions) (tier supply chosen : ℕ)
+pub row_accepted : {spec : Spec} (options : HostOptions) {tier supply chosen : ℕ}
     → GaveTexts spec options.device_bytes tier supply chosen → spec.stalls.set_config ≡ false
     → (is_hub_device spec.descriptor && not
     (is_good_hub options.wide_hubs spec (slice_index_or (texts_of spec) chosen []))) ≡ false
     → verdict spec options tier supply ≡ Ok chosen
-row_accepted spec options tier supply chosen h a b = rows_after spec options tier supply h.device
+row_accepted {spec} options {supply} h a b = rows_after options supply h.device
     ∙ ap (read_verdict options.wide_hubs spec supply) h.good
     ∙ ap (set_verdict options.wide_hubs spec (texts_of spec)) h.within
     ∙ rw (a, b) refl
+
+set_config_cause : (stalled hub good : Bool) (chosen : ℕ) (cause : Cause) → option_or
+    (if stalled then Some (Stalled request.SetConfig) else None)
+    (if hub then (if good then None else Some BadHub) else None) ≡ Some cause → (if stalled then Err
+    (Stalled request.SetConfig) else if hub && not good then Err BadHub else Ok chosen) ≡ Err cause
+set_config_cause false true true chosen cause h = absurd cc
+set_config_cause false false good chosen cause h = absurd cc
+set_config_cause _ _ _ chosen cause h = ap (λ c. Err c) (same_Some _ cause h)
+
+set_is : (wide : Bool) (spec : Spec) (texts : List (List ℕ)) (choice : Option ℕ) (cause : Cause)
+    → chosen_fault wide (is_hub_device spec.descriptor) texts choice spec ≡ Some cause
+    → set_verdict wide spec texts choice ≡ Err cause
+set_is wide spec texts None cause h = ap (λ c. Err c) (same_Some NoPower cause h)
+set_is wide spec texts (Some chosen) cause h =
+    set_config_cause spec.stalls.set_config (is_hub_device spec.descriptor)
+    (is_good_hub wide spec (slice_index_or texts chosen [])) chosen cause h
+
+read_is : (wide : Bool) (spec : Spec) (supply : ℕ) (first : Option Cause) (cause : Cause)
+    → option_or first (chosen_fault wide (is_hub_device spec.descriptor) (texts_of spec)
+    (choice_of supply (texts_of spec)) spec) ≡ Some cause
+    → read_verdict wide spec supply first ≡ Err cause
+read_is wide spec supply (Some bad) cause h = ap (λ c. Err c) (same_Some bad cause h)
+read_is wide spec supply None cause h =
+    set_is wide spec (texts_of spec) (choice_of supply (texts_of spec)) cause h
+
+module _ (spec : Spec) (options : HostOptions) (tier supply : ℕ) where
+  abbrev wide : Bool
+  wide = options.wide_hubs
+
+  abbrev first_of : ℕ → Option Cause
+  first_of count = first_fault options.device_bytes spec count
+
+  -- by its class, and the number of its configurations
+  abbrev Row : Bool → ℕ → Option Cause
+  Row hub count = if hub && tier == 7 then Some TooDeep else option_or (first_of count)
+      (chosen_fault wide hub (texts_below spec count) (choice_of supply (texts_below spec count))
+      spec)
+
+  row_is : (bytes : List ℕ) → configured_fault options tier supply bytes spec
+      ≡ Row (is_hub_device bytes) (configuration_count bytes)
+  unfolding configured_fault
+  row_is bytes = refl
+
+  row_front : (bytes : List ℕ) → bytes ≡ take 18 spec.descriptor → configured_fault options tier
+      supply bytes spec ≡ Row (is_hub_device spec.descriptor) (configuration_count spec.descriptor)
+  row_front bytes front =
+      row_is bytes
+      ∙ ap (λ b. Row (is_hub_device b) (configuration_count b)) front
+      ∙ ap (λ hub. Row hub (configuration_count (take 18 spec.descriptor)))
+      (front_hub spec.descriptor)
+      ∙ ap (Row (is_hub_device spec.descriptor)) (front_count spec.descriptor)
+
+  pub verdict_refused : (bytes : List ℕ) (cause : Cause) → GaveHead spec
+      → spec.stalls.address ≡ false → is_device spec.low (take 18 spec.descriptor) ≡ true
+      → bytes ≡ take 18 spec.descriptor
+      → configured_fault options tier supply bytes spec ≡ Some cause
+      → verdict spec options tier supply ≡ Err cause
+  verdict_refused bytes cause head address whole front fault =
+      elim (decided (is_hub_device spec.descriptor && tier == 7)) [
+        | inl deep ↦ row_too_deep options tier supply head address whole deep
+            ∙ ap (λ c. Err c) (same_Some TooDeep cause
+            (sym (ap (λ b. if b then Some TooDeep else rest) deep) ∙ is))
+        | inr shallow ↦ rows_after options supply
+            (record { first = head; address = address; whole = whole; shallow = shallow })
+            ∙ read_is wide spec supply (first_of (configuration_count spec.descriptor)) cause
+            (sym (ap (λ b. if b then Some TooDeep else rest) shallow) ∙ is)
+      ]
+    where
+      rest : Option Cause
+      rest = option_or (first_of (configuration_count spec.descriptor))
+          (chosen_fault wide (is_hub_device spec.descriptor) (texts_of spec)
+          (choice_of supply (texts_of spec)) spec)
+
+      is : (if is_hub_device spec.descriptor && tier == 7 then Some TooDeep else rest) ≡ Some cause
+      is = sym (row_front bytes front) ∙ fault

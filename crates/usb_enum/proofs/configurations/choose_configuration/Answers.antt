@@ -1,6 +1,6 @@
 -- The first text that needs little enough is that of the first need that is little enough.
-use Rattle.std.proofs.Common.{rules, tests, ◌≡◌, ◌∙◌, refl, sym, ap, ℕ, ◌+◌, Bool, cond, not}
-use Rattle.std.proofs.Common.{List, [], ◌∷◌, map, nat_le, position}
+use Rattle.std.proofs.Common.{rules, tests, ◌≡◌, ◌∙◌, refl, sym, ap, ℕ, ◌+◌, Bool, cond, not, List}
+use Rattle.std.proofs.Common.{[], ◌∷◌, map, nat_le, position}
 use Rattle.std.proofs.lemmas.Iterator.{YieldsList-from_slice}
 use Rattle.std.proofs.lemmas.Iterator.Search.{position_from_yields_List}
 use Rattle.std.proofs.lemmas.List.{length-map}

@@ -1,10 +1,9 @@
-use Rattle.usb_enum.specs.{first_fault, left_of, Memory, configuration_bound}
-use Rattle.usb_enum.specs.{none_yet, one_more as one_more_text, repeated}
+use Rattle.usb_enum.specs.{first_fault, left_of, Memory, configuration_bound, none_yet}
+use Rattle.usb_enum.specs.{one_more as one_more_text, repeated}
 use Rattle.std.specs.Prelude.{⊤}
 use Rattle.usb_enum.proofs.readings.Readings.{learns_on, learns_none, configurations_none}
-use Rattle.usb_enum.proofs.readings.Readings.{configurations_learned}
+use Rattle.usb_enum.proofs.readings.Readings.{first_refused, repeated_refused, configurations_more}
 use Rattle.usb_enum.proofs.readings.TextBytes.{left_more, left_none, within_more, within_none}
-use Rattle.usb_enum.proofs.refusals.ConfigRefusals.{first_refused, repeated_refused}
 use Rattle.usb_enum.proofs.refusals.Refusals.{explains_on, fault_explains, failed}
 use Rattle.std.proofs.Common.{◌≡◌, ◌∙◌, ap, arith, inr, rules, length, sym}
 use Rattle.std.proofs.lemmas.Grind.{common_steps}
@@ -12,8 +11,8 @@ use Rattle.usb_enum.proofs.Parts.{asking, gone_again, gone_more, gone_none, gone
 use Rattle.usb_enum.proofs.Parts.{gone_times}
 use Rattle.usb_enum.proofs.readings.TextLengths.{texts_ended, texts_failed, texts_read_more}
 use Rattle.usb_enum.proofs.readings.TextLengths.{texts_none}
-use Rattle.usb_enum.proofs.readings.Values.{values_differ-push}
-use Rattle.usb_enum.proofs.courses.LastRequests.{leads_none, leads_went}
+use Rattle.usb_enum.proofs.readings.SettingValues.{values_differ-push}
+use Rattle.usb_enum.proofs.courses.Courses.{leads_none}
 use Rattle.usb_enum.proofs.stops.Reasons.{texts_told}
 use Rattle.usb_enum.proofs.configurations.read_configurations.Goals as goal
 
@@ -37,7 +36,7 @@ loop-index-preserved g c =
     let read = c.in_ok-text.ensures.read in
     let differs = rw c.value.ensures at (sym c.has_value.ensures ∙ c.if-has_value.false) in
     record {
-      gone = gone_again _ configuration_bound asking before.gone read.gone;
+      gone = gone_again _ asking before.gone read.gone;
       read = rw c.in_ok-push.ensures.ok (grind (arith, common_steps, before.read));
       differ = rw c.in_ok-push.ensures.ok (values_differ-push _ text before.differ differs);
       left = rw c.in_ok-push.ensures.ok (c.left_of-room.ensures
@@ -49,8 +48,9 @@ loop-index-preserved g c =
           (rw (sym before.read) at (read.ends known).told));
       counted = λ known. texts_read_more
           (before.counted known) (read.gone.steps known).went (c.in_ok-text.ensures.count known);
-      learned = λ known. rw c.in_ok-push.ensures.ok (configurations_learned before.left differs
-          (before.learned known) (read.gone.steps known).went (read.ends known).so);
+      learned = λ known. rw c.in_ok-push.ensures.ok (learns_on (before.learned known)
+          (read.gone.steps known).went (read.ends known).so (λ spec b h max.
+          configurations_more before.left differs (b max) (h max)));
     }
 
 pub returns : goal.returns
@@ -63,10 +63,7 @@ returns g c =
       read = record {
         gone = gone_times _ 255 configuration_bound before.gone
             (omega (arith, c.loop-index.auto.index-end, c.ranges.count.fits));
-        ends = λ known. record {
-          told = before.asked known;
-          so = rw all at (before.learned known);
-        };
+        ends = λ known. record { told = before.asked known; so = rw all at (before.learned known) };
       };
       few = λ known. texts_ended (before.counted known);
     }
@@ -78,14 +75,14 @@ returns-in_err-text g c =
     rw (failed c.from_residual.result c.from_residual.ensures.1) (record {
       all = search rules;
       read = record {
-        gone = gone_more _ 255 configuration_bound asking before.gone text.gone
+        gone = gone_more _ 255 asking before.gone text.gone
             (omega (arith, c.loop-index-test.true, c.ranges.count.fits));
         ends = λ known.
             let went = (before.gone.steps known).went in
             record {
-              told = texts_told c.args.budget c.loop-index.room c.args.target c.loop-index.texts
-                  c.loop-index.index _ _ _ _ before.left before.read (before.asked known)
-                  (leads_went went) (text.ends known).told;
+              told = texts_told c.args.budget c.loop-index.room
+                  c.loop-index.index _ _ before.left before.read (before.asked known)
+                  went.led (text.ends known).told;
               so = explains_on (before.learned known) went (text.gone.steps known).went
                   (text.ends known).so (first_refused c.args.target c.args.budget
                   c.loop-index.room c.loop-index.index c.args.count c.loop-index.texts before.left
@@ -104,14 +101,14 @@ returns-then-has_value g c =
     record {
       all = search rules;
       read = record {
-        gone = gone_stopped (gone_more _ 255 configuration_bound asking before.gone text.gone
+        gone = gone_stopped (gone_more _ 255 asking before.gone text.gone
             (omega (arith, c.loop-index-test.true, c.ranges.count.fits))) tt;
         ends = λ known. record {
           told = inr (repeated _ _ c.loop-index.texts c.in_ok-text.text (leads_none _)
               (before.asked known) before.read (text.ends known).told again);
           so = repeated_refused c.args.target c.args.budget c.loop-index.room c.loop-index.index
-              c.args.count c.loop-index.texts before.left c.loop-index-test.true _
-              c.in_ok-text.text _ _ _ again (before.learned known) (text.gone.steps known).went
+              c.args.count c.loop-index.texts before.left c.loop-index-test.true
+              c.in_ok-text.text _ again (before.learned known) (text.gone.steps known).went
               (text.ends known).so;
         };
       };
@@ -126,7 +123,7 @@ returns-in_err-push g c =
     rw (failed c.from_residual-in_err-push.result c.from_residual-in_err-push.ensures.1) (record {
       all = search rules;
       read = record {
-        gone = gone_stopped (gone_more _ 255 configuration_bound asking before.gone text.gone
+        gone = gone_stopped (gone_more _ 255 asking before.gone text.gone
             (omega (arith, c.loop-index-test.true, c.ranges.count.fits))) tt;
         ends = λ known. record {
           told = tt;

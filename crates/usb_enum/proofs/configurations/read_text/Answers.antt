@@ -1,19 +1,18 @@
 use Rattle.usb_enum.proofs.stops.PlainStops.{answered_plain}
-use Rattle.usb_enum.specs.{bad_text, Stalled}
-use Rattle.std.proofs.Common.{◌∙◌, ◌≤◌, arith, inl, inr, length, refl, rules, subst, sym, IfOk}
+use Rattle.usb_enum.specs.{BadDevice, bad_text, Stalled, config_fault}
+use Rattle.std.proofs.Common.{◌∙◌, ◌≤◌, arith, inl, inr, length, refl, rules, subst, sym}
 use Rattle.usb_hub.specs.{config_given}
 use Rattle.usb_pipe.proofs.Interface.{uses_as}
-use Rattle.usb_enum.proofs.refusals.ConfigRefusals.{config_refused, text_refused, total_large}
+use Rattle.usb_enum.proofs.readings.Readings.{config_refused, total_large, good_bytes, learns_on}
+use Rattle.usb_enum.proofs.readings.Readings.{bytes_learned, configuration_of_total, text_malformed}
 use Rattle.usb_enum.proofs.Parts.{asking, gone_asked, gone_stopped, gone_then, gone_wider}
-use Rattle.usb_enum.proofs.readings.Readings.{configuration_learned, good_bytes}
 use Rattle.usb_enum.proofs.readings.TextBytes.{within_shorter}
-use Rattle.usb_enum.proofs.refusals.Refusals.{answered_ok, explains_on, failed}
+use Rattle.usb_enum.proofs.refusals.Refusals.{answered_ok, explains_on, failed, wrong_refuses}
 use Rattle.usb_enum.proofs.readings.TextLengths.{config_there, head_unread, text_unread}
 use Rattle.usb_enum.proofs.readings.TextLengths.{text_was_read}
 use Rattle.usb_enum.specs.declared.cause.Request.TheVariants.{Config}
-use Rattle.usb_enum.proofs.courses.LastRequests.{leads_went}
 use Rattle.usb_enum.proofs.stops.Reasons.{read_stop_told, reading_after, text_told, told_after}
-use Rattle.usb_enum.proofs.stops.Reasons.{was_read}
+use Rattle.usb_enum.proofs.stops.Reasons.{reading}
 use Rattle.usb_enum.proofs.configurations.read_text.Goals as goal
 
 pub returns-in_err-total : goal.returns-in_err-total
@@ -28,7 +27,7 @@ returns-in_err-total g c =
           so = (head.ends known).so;
         };
       };
-      count = λ known. head_unread _ refl (head.gone.steps known).went;
+      count = λ known. head_unread _ refl (head.gone.steps known).run;
     })
 
 pub returns-then-is_over : goal.returns-then-is_over
@@ -42,22 +41,17 @@ returns-then-is_over g c =
         ends = λ known. record {
           told = inl (
             refl,
-            record {
-              total = c.in_ok-total.total;
-              read = (head.ends known).told.0;
-              over = over;
-            },
+            record { total = c.in_ok-total.total; read = (head.ends known).told.0; over = over },
           );
           so = total_large c.args.room (g.B.Bus.world c.total_length.new.bus) over
               (head.ends known).so;
         };
       };
-      count = λ known. head_unread _ refl (head.gone.steps known).went;
+      count = λ known. head_unread _ refl (head.gone.steps known).run;
     }
 
 pub returns-in_err-bytes : goal.returns-in_err-bytes
 returns-in_err-bytes g c =
-    let t = c.args.target in
     let room = c.args.room in
     let index = c.args.index in
     let total = c.in_ok-total.total in
@@ -72,7 +66,7 @@ returns-in_err-bytes g c =
         ends = λ known.
             let went = (head.gone.steps known).went in
             record {
-              told = text_told _ _ _ _ _ _ (told_after _ t _ (leads_went went)
+              told = text_told _ _ _ _ _ _ (told_after _ c.args.target _ went.led
                   (read_stop_told Config _ (index, (total, refl)) c.in_err-bytes.ensures
                   (answer.asked known)));
               so = explains_on (head.ends known).so went (text.steps known).went (config_refused
@@ -80,7 +74,7 @@ returns-in_err-bytes g c =
                   c.requires.max (answer.what known) (answer.why known)) (λ spec a b. b);
             };
       };
-      count = λ known. text_unread c.requires.max (head.gone.steps known).went
+      count = λ known. text_unread c.requires.max (head.gone.steps known).run
           (answer.uses.steps known) (head.ends known).so (head.ends known).told.1 _ refl;
     })
 
@@ -88,43 +82,44 @@ pub returns-in-Some : goal.returns-in-Some
 returns-in-Some g c =
     let total = c.in_ok-total.total in
     let bytes = c.in_ok-bytes.bytes in
-    let answer = c.get_config.ensures in
+    let answer = rw (answered_ok _ c.in_ok-bytes.ensures) at c.get_config.ensures in
     let head = c.in_ok-total.ensures.read c.args.room in
-    let text = gone_asked (config_given c.args.index) total _ c.requires.max c.in_ok-bytes.ensures
+    let text = gone_asked (config_given c.args.index) total BadDevice c.requires.max refl
     (uses_as answer.uses (λ told. told.told)) answer.asked answer.what answer.keeps in
     let good = sym c.in-Some.is ∙ c.new.ensures in
-    let within = subst (λ r. IfOk r (λ b. length b.items ≤ c.in_ok-total.total))
-    (answered_ok (Stalled Config) c.in_ok-bytes.ensures) answer.uses.told.within in
     let same = (good_bytes bytes.items c.in-Some.text good).1 in
     let fits = sym c.is_over.ensures ∙ c.if-is_over.false in
     record {
       fits = within_shorter c.args.room _ c.in_ok-total.total
-          (subst (λ x. length x ≤ c.in_ok-total.total) (sym same) within) fits;
+          (subst (λ x. length x ≤ c.in_ok-total.total) (sym same) answer.uses.told.within) fits;
       read = record {
         gone = gone_then asking head.gone text (omega (arith, c.in_ok-total.ensures.fits.1));
         ends = λ known. record {
           told = rw same (record {
             size = total;
-            read = reading_after (leads_went (head.gone.steps known).went)
-                (was_read (Stalled Config) c.in_ok-bytes.ensures (answer.asked known));
+            read = reading_after (head.gone.steps known).went.led
+                (reading (answer.asked known).stages);
           });
-          so = configuration_learned _ fits c.in_ok-bytes.ensures good (head.ends known).so
-              (answer.uses.steps known) (answer.what known);
+          so = learns_on (head.ends known).so (text.steps known).went
+              (bytes_learned (g.B.Bus.world c.get_config.new.bus) (answer.what known))
+              (λ spec h r max.
+              let got = r max in
+              configuration_of_total c.args.room bytes.items c.in-Some.text got.text fits (h max)
+              got.given got.first good);
         };
       };
-      count = λ known. text_was_read c.requires.max (head.gone.steps known).went
+      count = λ known. text_was_read c.requires.max (head.gone.steps known).run
           (answer.uses.steps known) (head.ends known).so (head.ends known).told.1 c.in-Some.text
-          (text.steps known).keeps.devices (config_there _ c.args.index _
-          c.in_ok-bytes.ensures (answer.asked known) (answer.what known));
+          (text.steps known).keeps.devices (config_there c.args.index _
+          (answer.asked known) (answer.what known));
     }
 
 pub returns-in-None : goal.returns-in-None
 returns-in-None g c =
     let total = c.in_ok-total.total in
-    let bytes = c.in_ok-bytes.bytes in
-    let answer = c.get_config.ensures in
+    let answer = rw (answered_ok _ c.in_ok-bytes.ensures) at c.get_config.ensures in
     let head = c.in_ok-total.ensures.read c.args.room in
-    let text = gone_asked (config_given c.args.index) total _ c.requires.max c.in_ok-bytes.ensures
+    let text = gone_asked (config_given c.args.index) total BadDevice c.requires.max refl
     (uses_as answer.uses (λ told. told.told)) answer.asked answer.what answer.keeps in
     let none = sym c.new.ensures ∙ c.in-None.is in
     record {
@@ -133,16 +128,20 @@ returns-in-None g c =
         gone = gone_stopped (gone_then asking head.gone text
             (omega (arith, c.in_ok-total.ensures.fits.1))) tt;
         ends = λ known. record {
-          told = inr (bad_text bytes.items (record {
+          told = inr (bad_text c.in_ok-bytes.bytes.items (record {
             size = total;
-            read = reading_after (leads_went (head.gone.steps known).went)
-                (was_read (Stalled Config) c.in_ok-bytes.ensures (answer.asked known));
+            read = reading_after (head.gone.steps known).went.led
+                (reading (answer.asked known).stages);
           }) none);
-          so = text_refused c.args.room _
-              (sym c.is_over.ensures ∙ c.if-is_over.false) c.in_ok-bytes.ensures none
-              (head.ends known).so (answer.uses.steps known) (answer.what known);
+          so = wrong_refuses (λ spec. config_fault c.args.room spec c.args.index)
+              (g.B.Bus.world c.get_config.new.bus) (learns_on (head.ends known).so
+              (text.steps known).went
+              (bytes_learned (g.B.Bus.world c.get_config.new.bus) (answer.what known))
+              (λ spec h s max.
+              text_malformed c.args.room (sym c.is_over.ensures ∙ c.if-is_over.false) (h max)
+              (s max) none));
         };
       };
-      count = λ known. text_unread c.requires.max (head.gone.steps known).went
+      count = λ known. text_unread c.requires.max (head.gone.steps known).run
           (answer.uses.steps known) (head.ends known).so (head.ends known).told.1 _ refl;
     }

@@ -1,42 +1,40 @@
 use Rattle.usb_enum.proofs.stops.PlainStops.{answered_plain}
-use Rattle.usb_enum.specs.{bad_total, Stalled}
+use Rattle.usb_enum.specs.{BadDevice, bad_total, Stalled}
 use Rattle.std.proofs.Common.{◌∙◌, ap, refl, sym}
 use Rattle.usb_descriptor.specs.{config_head_of}
 use Rattle.usb_hub.specs.{config_given}
 use Rattle.usb_pipe.proofs.Interface.{uses_as}
-use Rattle.usb_enum.proofs.refusals.ConfigRefusals.{config_refused, total_refused}
+use Rattle.usb_enum.proofs.readings.Readings.{config_refused, total_refused, text_learned}
 use Rattle.usb_enum.proofs.Parts.{gone_asked, gone_stopped}
-use Rattle.usb_enum.proofs.readings.Readings.{total_learned}
 use Rattle.usb_enum.proofs.readings.TextLengths.{config_there}
 use Rattle.usb_enum.specs.declared.cause.Request.TheVariants.{Config}
-use Rattle.usb_enum.proofs.stops.Reasons.{read_stop_told, was_read}
-use Rattle.usb_enum.proofs.refusals.Refusals.{failed}
+use Rattle.usb_enum.proofs.stops.Reasons.{read_stop_told, reading}
+use Rattle.usb_enum.proofs.refusals.Refusals.{answered_ok, failed}
 use Rattle.usb_enum.proofs.configurations.total_length.Goals as goal
 
 pub returns-in-Ok-clause-read : goal.returns-in-Ok-clause-read
 returns-in-Ok-clause-read g c room =
-    let new = g.B.Bus.world c.get_config.new.bus in
-    let answer = c.get_config.ensures in
+    let answer = rw (answered_ok _ c.in_ok-head.ensures) at c.get_config.ensures in
     let bytes = c.in_ok-head.head in
     let good = ap config_head_of (sym c.as_slice.ensures.value) ∙ sym c.config_head.ensures.answer
     ∙ c.in-Ok.is in
     record {
-      gone = gone_asked (config_given c.args.index) 9 _ c.requires.max c.in_ok-head.ensures
+      gone = gone_asked (config_given c.args.index) 9 BadDevice c.requires.max refl
           (uses_as answer.uses (λ told. told.told)) answer.asked answer.what answer.keeps;
       ends = λ known.
           let asked = answer.asked known in
           let what = answer.what known in
           record {
             told = (
-              record {
-                bytes = bytes.items;
-                read = was_read (Stalled Config) c.in_ok-head.ensures asked;
-                head = good;
-              },
-              config_there _ c.args.index 9
-                  c.in_ok-head.ensures asked what,
+              record { bytes = bytes.items; read = reading asked.stages; head = good },
+              config_there c.args.index 9 asked what,
             );
-            so = total_learned _ new c.in_ok-head.ensures good what;
+            so = text_learned (config_given c.args.index) (g.B.Bus.world c.get_config.new.bus) what
+                (λ spec text given first. record {
+                  text = text;
+                  given = given;
+                  head = ap config_head_of (sym first) ∙ good;
+                });
           };
     }
 
@@ -59,18 +57,15 @@ returns-in_err-head g c =
 
 pub returns-clause-read : goal.returns-clause-read
 returns-clause-read g c room =
-    let answer = c.get_config.ensures in
+    let answer = rw (answered_ok _ c.in_ok-head.ensures) at c.get_config.ensures in
     let bytes = c.in_ok-head.head in
     let bad = ap config_head_of (sym c.as_slice.ensures.value) ∙ sym c.config_head.ensures.answer
     ∙ c.in-Err.is in
     record {
-      gone = gone_stopped (gone_asked (config_given c.args.index) 9 _ c.requires.max
-          c.in_ok-head.ensures (uses_as answer.uses (λ told. told.told)) answer.asked answer.what
-          answer.keeps) tt;
+      gone = gone_stopped (gone_asked (config_given c.args.index) 9 BadDevice c.requires.max refl
+          (uses_as answer.uses (λ told. told.told)) answer.asked answer.what answer.keeps) tt;
       ends = λ known. record {
-        told = bad_total bytes.items c.in-Err.field-0 (was_read (Stalled Config)
-            c.in_ok-head.ensures (answer.asked known)) bad;
-        so = total_refused room _ (g.B.Bus.world c.get_config.new.bus)
-            c.in_ok-head.ensures bad (answer.what known);
+        told = bad_total bytes.items c.in-Err.field-0 (reading (answer.asked known).stages) bad;
+        so = total_refused room (g.B.Bus.world c.get_config.new.bus) bad (answer.what known);
       };
     }

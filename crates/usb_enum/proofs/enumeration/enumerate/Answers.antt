@@ -1,20 +1,20 @@
 use Rattle.std.proofs.Common.{◌≡◌, arith, inl, inr, refl, subst, rules}
 use Rattle.usb_enum.specs.declared.finding.Finding.TheVariants.{Device}
 use Rattle.usb_enum.proofs.stops.PlainStops.{fits_found, said_given, said_without, without_found}
+use Rattle.usb_enum.proofs.stops.PlainStops.{stopped_works}
 use Rattle.usb_enum.proofs.devices.SaidBytes.{said_found, said_on}
 use Rattle.usb_bus.proofs.Interface.{went_wider}
 use Rattle.usb_hub.proofs.Interface.{is_asked_stays}
-use Rattle.usb_enum.proofs.courses.Counts.{went_on_more}
+use Rattle.usb_enum.proofs.courses.Courses.{went_on_more, went_steps}
 use Rattle.usb_resources.specs.{HasAddresses, IsFull}
 use Rattle.usb_enum.proofs.stops.Endings.{zero_untaken, zero_before, free_untaken, enumerated}
 use Rattle.usb_enum.proofs.stops.Endings.{found_true, device_placed, few_made, few_unaddressed}
-use Rattle.usb_enum.proofs.stops.Endings.{device_warranted, stopped_ends}
+use Rattle.usb_enum.proofs.stops.Endings.{stopped_ends}
 use Rattle.usb_enum.specs.{unaddressed_fault, whole_fault}
-use Rattle.usb_enum.proofs.refusals.Warrants.{matched, unaddressed_right, whole_right}
-use Rattle.usb_enum.proofs.courses.LastRequests.{leads_went}
+use Rattle.usb_enum.proofs.refusals.Warrants.{unaddressed_right, whole_right}
 use Rattle.usb_enum.proofs.stops.Stops.{given_told, gives_reason, stopped_reasoned, stopped_without}
 use Rattle.usb_enum.proofs.stops.Stops.{without_reasoned}
-use Rattle.usb_enum.proofs.ports.WorkingBuses.{stopped_works}
+use Rattle.std.proofs.lemmas.Result.{MatchResult-from_both}
 use Rattle.usb_enum.proofs.enumeration.enumerate.Goals as goal
 
 pub returns-in_default : goal.returns-in_default
@@ -26,23 +26,19 @@ returns-in_default g c =
       uses = record {
         spends = search rules;
         told = c.give_up.ensures.uses.told c.without_address-stop.ensures.part.gone.told;
-        steps = λ known. went_on_more _ _ _ _ _ _
-            (c.without_address-stop.ensures.part.gone.steps known).went
+        steps = λ known. went_on_more _ (c.without_address-stop.ensures.part.gone.steps known).run
             (c.give_up.ensures.uses.steps known) (omega arith);
       };
       told = λ known.
           let stops = c.without_address-stop.ensures.part.ends known in
-          let closing = c.give_up.ensures.uses.steps known in
+          let closing = went_steps (c.give_up.ensures.uses.steps known) in
           let told = stopped_without _ _ _ _ stops.stops.told in
-          matched c.give_up.result _ _ (said_found c.args.pool.now
+          MatchResult-from_both c.give_up.result _ _ (said_found c.args.pool.now
           c.give_up.result (said_given c.without_address-stop.result c.give_up.result _
           c.give_up.ensures.hands
           (said_without c.without_address-stop.result _ c.without_address-stop.ensures.without)) (
             0,
-            (
-              inl refl,
-              said_on (rw c.clear.ensures at stops.said) (leads_went closing),
-            ),
+            (inl refl, said_on (rw c.clear.ensures at stops.said) closing.led),
           )) (given_told _ _ _ _ c.give_up.result (λ why is. rw is at told)
           (c.give_up.ensures.left known).left);
       pool = search rules;
@@ -53,15 +49,16 @@ returns-in_default g c =
       ends = λ known.
           let steps = c.without_address-stop.ensures.part.gone.steps known in
           let stops = (c.without_address-stop.ensures.part.ends known).stops in
-          let closing = c.give_up.ensures.uses.steps known in
+          let closed = c.give_up.ensures.uses.steps known in
+          let closing = went_steps closed in
           let left = (c.give_up.ensures.left known).left in
-          stopped_ends _ pool 0 zero zero unaddressed_fault _ _ _ _ _ _ _ _ _ _ steps.went closing
+          stopped_ends _ pool 0 zero zero unaddressed_fault _ _ _ _ _ _ _ _ steps.went closing
           steps.keeps stops.so ((c.give_up.ensures.left known).closes 0) left
           (unaddressed_right (IsFull pool) c.in_default.ensures.none.0 _ _ _) (gives_reason _ pool _
-          _ _ c.without_address-stop.result _ _ _ c.give_up.result (leads_went steps.went)
-          (leads_went closing) (without_reasoned _ pool _ _ _ c.without_address-stop.result _ _
+          _ _ c.without_address-stop.result c.give_up.result steps.went.led
+          closing.led (without_reasoned _ pool _ _ _ c.without_address-stop.result _ _
           c.in_default.ensures.none.0 stops.told) left)
-          (few_unaddressed _ pool _ _ _ steps.went closing) (stopped_works
+          (few_unaddressed _ pool steps.run closed) (stopped_works
           c.without_address-stop.result c.give_up.result (g.B.Bus.world c.args.bus.now)
           (g.B.Bus.world c.without_address-stop.new.bus) (g.B.Bus.world c.give_up.new.bus)
           c.give_up.ensures.hands (c.without_address-stop.ensures.part.gone.works known)
@@ -79,8 +76,7 @@ returns-in-Ok g c =
       uses = record {
         spends = search rules;
         told = tt;
-        steps = λ known. went_wider _ _ (c.examine.ensures.part.gone.steps known).went
-            (omega arith);
+        steps = λ known. went_wider _ _ (c.examine.ensures.part.gone.steps known).run (omega arith);
       };
       told = λ known. record {
         whole = c.in-Ok.ensures.whole.2;
@@ -98,15 +94,17 @@ returns-in-Ok g c =
           let examined = c.in-Ok.ensures.part in
           let found = examined.ends known in
           record {
-            addresses = enumerated port pool a zero free _ _ _ c.in-Ok.ensures.whole.0 found.takes
+            addresses = enumerated port pool a zero free _ c.in-Ok.ensures.whole.0 found.takes
                 (examined.gone.steps known).keeps.only;
-            own = found_true port pool a zero free _ _ _ _ _ _ found.own;
-            places = device_placed port pool a zero free _ _ _ found.reaches
+            own = found_true port pool a zero free _ _ _ _ found.own;
+            places = device_placed port pool a zero free _ found.reaches
                 (λ f p is t order occupied none. found.below f p is t order none);
-            warrants = device_warranted port pool a zero free _ _ _ _ _ _;
+            warrants = record {
+              cause = λ f p fair cause s e. absurd cc;
+              parent = λ f p fair e. absurd cc;
+            };
             ended = tt;
-            few = few_made port pool a zero free _ _ _ (c.examine.ensures.made known).few
-                (omega arith);
+            few = few_made port pool a zero free _ (c.examine.ensures.made known).few (omega arith);
             strings = λ other e.
                 let same : other ≡ c.in-Ok.device = cc in
                 rw same found.strings;
@@ -127,19 +125,18 @@ returns-in-Err g c =
       uses = record {
         spends = search rules;
         told = c.give_up-finding.ensures.uses.told c.in-Err.ensures.part.gone.told;
-        steps = λ known. went_on_more _ _ _ _ _ _ (c.examine.ensures.part.gone.steps known).went
+        steps = λ known. went_on_more _ (c.examine.ensures.part.gone.steps known).run
             (c.give_up-finding.ensures.uses.steps known) (omega arith);
       };
       told = λ known.
-          let closing = c.give_up-finding.ensures.uses.steps known in
-          matched c.give_up-finding.result _ _ (said_found c.args.pool.now
+          let closing = went_steps (c.give_up-finding.ensures.uses.steps known) in
+          MatchResult-from_both c.give_up-finding.result _ _ (said_found c.args.pool.now
           c.give_up-finding.result (said_given c.in-Err.stop c.give_up-finding.result _
           c.give_up-finding.ensures.hands c.in-Err.ensures.whole.1) (
             c.in-Some.address,
             (
               inr c.in-Some.ensures.some.free,
-              said_on (rw c.clear.ensures at (c.in-Err.ensures.made known).said) (leads_went
-                  closing),
+              said_on (rw c.clear.ensures at (c.in-Err.ensures.made known).said) closing.led,
             ),
           )) (given_told _ c.in-Err.stop _ _ c.give_up-finding.result
           (λ why is. rw is at (c.in-Err.ensures.part.ends known).told.fits)
@@ -152,14 +149,15 @@ returns-in-Err g c =
           let examined = c.in-Err.ensures.part in
           let steps = examined.gone.steps known in
           let stops = examined.ends known in
-          let closing = c.give_up-finding.ensures.uses.steps known in
+          let closed = c.give_up-finding.ensures.uses.steps known in
+          let closing = went_steps closed in
           let left = (c.give_up-finding.ensures.left known).left in
-          stopped_ends _ pool _ zero free (whole_fault _ _ _) _ _ _ _ _ _ _ _ _ _ steps.went closing
+          stopped_ends _ pool _ zero free (whole_fault _ _ _) _ _ _ _ _ _ _ _ steps.went closing
           steps.keeps stops.so ((c.give_up-finding.ensures.left known).closes _) left
-          (whole_right (IsFull pool) _ _ _) (gives_reason _ pool _ _ _ c.in-Err.stop _ _ _
-          c.give_up-finding.result (leads_went steps.went) (leads_went closing)
+          (whole_right (IsFull pool) _ _ _) (gives_reason _ pool _ _ _ c.in-Err.stop
+          c.give_up-finding.result steps.went.led closing.led
           (stopped_reasoned _ pool _ _ _ _ c.in-Err.stop _ _ taken.free stops.told.because) left)
-          (few_made _ pool _ zero free _ _ _ (c.examine.ensures.made known).few closing.spends.most)
+          (few_made _ pool _ zero free _ (c.examine.ensures.made known).few closed.spends.most)
           (stopped_works c.in-Err.stop c.give_up-finding.result (g.B.Bus.world c.args.bus.now)
           (g.B.Bus.world c.examine.new.bus) (g.B.Bus.world c.give_up-finding.new.bus)
           c.give_up-finding.ensures.hands (examined.gone.works known)
@@ -169,9 +167,9 @@ returns-in-Err g c =
 pub give_up-requires : goal.give_up-requires
 give_up-requires g c =
     is_asked_stays _ _ _ _ _
-    (λ known. (c.without_address-stop.ensures.part.gone.steps known).went.spends) c.requires.port
+    (λ known. (c.without_address-stop.ensures.part.gone.steps known).run.spends) c.requires.port
 
 pub give_up-finding-requires : goal.give_up-finding-requires
 give_up-finding-requires g c =
-    is_asked_stays _ _ _ _ _ (λ known. (c.examine.ensures.part.gone.steps known).went.spends)
+    is_asked_stays _ _ _ _ _ (λ known. (c.examine.ensures.part.gone.steps known).run.spends)
     c.requires.port

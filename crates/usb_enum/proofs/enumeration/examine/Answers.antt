@@ -1,17 +1,16 @@
 use Rattle.std.proofs.Common.{arith, inr}
 use Rattle.usb_enum.proofs.stops.PlainStops.{early_stop_fits, examined_whole, said_early}
-use Rattle.usb_enum.proofs.stops.PlainStops.{whole_only}
 use Rattle.usb_enum.specs.{StopsExamining}
 use Rattle.usb_enum.proofs.devices.Frames.{at_configured}
 use Rattle.usb_enum.proofs.devices.SaidBytes.{said_on}
-use Rattle.usb_enum.proofs.courses.LastRequests.{leads_went}
 use Rattle.usb_enum.proofs.courses.Fairness.{stops_wider}
 use Rattle.usb_enum.proofs.Parts.{gone_behind, gone_wider}
-use Rattle.usb_enum.proofs.refusals.Refusals.{by_error, matched_ok, failed}
+use Rattle.usb_enum.proofs.refusals.Refusals.{by_error, failed}
 use Rattle.usb_enum.proofs.readings.TextLengths.{examined_few}
 use Rattle.usb_enum.proofs.readings.Truths.{accepted}
-use Rattle.usb_enum.proofs.refusals.Warrants.{addressed_verdict, configured_stops, matched}
+use Rattle.usb_enum.proofs.refusals.Warrants.{addressed_verdict, configured_stops}
 use Rattle.usb_enum.proofs.stops.Stops.{device_stops, early_stops}
+use Rattle.std.proofs.lemmas.Result.{MatchResult-from_both, MatchResult-weaker}
 use Rattle.usb_enum.proofs.enumeration.examine.Goals as goal
 
 pub returns-in_err-device : goal.returns-in_err-device
@@ -33,7 +32,7 @@ returns-in_err-device g c =
       made = λ known. record {
         few = record {
           few = λ f p spare till regular most plan. omega
-              (arith, (early.gone.steps known).went.spends.most);
+              (arith, (early.gone.steps known).run.spends.most);
         };
         said = rw c.number.ensures.value at (c.in_err-device.ensures.said known);
       };
@@ -54,7 +53,7 @@ returns g c =
       whole = examined_whole result _ _ _ _ device.target.low _ c.configure.ensures.whole
           c.in_ok-device.ensures.addressed.1 device.device;
       part = record {
-        gone = gone_behind pass.gone set.gone (λ known. at_configured _ _ _ _ _ _
+        gone = gone_behind pass.gone set.gone (λ known. at_configured
             (pass.gone.steps known).keeps (pass.ends known).so.takes (set.gone.steps known).went
             (set.gone.steps known).keeps) (omega arith);
         ends = λ known.
@@ -62,23 +61,24 @@ returns g c =
             let took = pass.ends known in
             let taken = took.so in
             let sets = set.gone.steps known in
-            matched result _ (StopsExamining port a options tier supply _ _) (accepted _ _ _ _ _ _ _
-            _ result first.went first.keeps.within taken sets.keeps sets.went
-            (whole_only result _ _ _ (matched_ok result _ _ c.configure.ensures.whole))
-            (matched_ok result _ _ (set.ends known))) (by_error result
-            (StopsExamining port a options tier supply _ _) (λ stop is.
+            MatchResult-from_both result _ (StopsExamining port a options tier supply _ _)
+            (accepted _ _ _ result first.went first.keeps.within taken sets.keeps sets.went
+            (MatchResult-weaker result c.configure.ensures.whole (λ x whole. whole.1)
+            (λ stop fits. tt))
+            (MatchResult-weaker result (set.ends known) (λ x listed. listed) (λ stop stops. tt)))
+            (by_error result (StopsExamining port a options tier supply _ _) (λ stop is.
             let stopped = rw is at (set.ends known) in
             record {
-              told = device_stops port a options tier supply device.target device.bytes stop _ _ _
+              told = device_stops stop
                   (record { at = inr taken.address; pre = taken.pre }) took.told stopped.told;
-              so = configured_stops _ _ _ _ _ _ _ device first.went sets.went first.keeps taken
+              so = configured_stops _ _ _ first.went sets.went first.keeps taken
                   sets.keeps device.device stop stopped.told.fits stopped.so;
             }));
       };
       made = λ known. record {
-        few = examined_few _ _ device _ _ _ (pass.gone.steps known).went (pass.ends known).so
+        few = examined_few (pass.gone.steps known).run (pass.ends known).so
             (c.configure.ensures.few known) (set.gone.steps known).keeps.addresses;
         said = said_on (rw c.number.ensures.value at (c.in_ok-device.ensures.said known))
-            (leads_went (set.gone.steps known).went);
+            (set.gone.steps known).went.led;
       };
     }

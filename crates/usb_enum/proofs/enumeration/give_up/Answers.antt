@@ -1,15 +1,15 @@
 use Rattle.std.proofs.Common.{rules, inr, Err, refl}
-use Rattle.usb_enum.proofs.ports.Ports.{disabled}
+use Rattle.usb_enum.proofs.stops.Endings.{disabled, closed_fault, closed_lost, closed_refused}
 use Rattle.usb_hub.proofs.Interface.{asked_port}
 use Rattle.usb_port.specs.{ClearEnable}
 use Rattle.usb_request.specs.{PORT_ENABLE}
 use Rattle.usb_enum.specs.{FaultBy}
-use Rattle.usb_enum.proofs.courses.Stretches.{clear_goes}
+use Rattle.usb_enum.proofs.courses.Courses.{went_steps}
+use Rattle.usb_enum.proofs.courses.Losses.{clear_goes}
 use Rattle.usb_pipe.proofs.Interface.{uses_as, uses_none}
-use Rattle.usb_enum.proofs.stops.Closings.{closed_fault, closed_lost, closed_refused}
 use Rattle.usb_enum.proofs.devices.ReachedDevices.{done_at}
 use Rattle.usb_enum.proofs.stops.Reasons.{call_ends, fault_by}
-use Rattle.usb_enum.proofs.stops.ReportedFaults.{port_reported}
+use Rattle.usb_enum.proofs.stops.PlainStops.{port_reported}
 use Rattle.usb_enum.proofs.refusals.Refusals.{failed}
 use Rattle.usb_enum.proofs.enumeration.give_up.Goals as goal
 
@@ -29,8 +29,8 @@ returns-in_err-at_port-in-Refused g c =
           (λ why is. inr (PORT_ENABLE, inr (rw is at (call.effect known)))) in
           rw c.in-Refused.is (record {
             left = by;
-            closes = λ a. closed_lost _ a _ _ _ _ (call.fault known) (call.ports known)
-                (call.addresses known) _ why (call.uses.steps known)
+            closes = λ a. closed_lost a _ (call.fault known) (call.ports known)
+                (call.addresses known) why (went_steps (call.uses.steps known))
                 c.in_err-at_port-in-Refused.ensures (fault_by port why _ _ by)
                 (clear_goes port PORT_ENABLE ClearEnable _ _ _ refl refl refl (call.effect known));
           });
@@ -50,7 +50,7 @@ returns-in_ok-at_port-in-Refused g c =
               (asked_port g.B.Bus.modelled (g.B.Bus.world c.args.bus.now) c.args.port known
               c.requires) (call.effect known),
         );
-        closes = λ a. closed_refused _ a _ _ _ _ (call.fault known) (call.ports known)
+        closes = λ a. closed_refused a _ (call.fault known) (call.ports known)
             (call.addresses known) (done_at c.in_ok-at_port-in-Refused.ensures);
       });
       works = search rules;

@@ -11,7 +11,7 @@ returns-in-Ok-clause-part g c =
     record {
       gone = gone_stopped early.gone tt;
       ends = λ known. record {
-        stops = record { told = inl refl; so = none_free _ _ _ _ (early.ends known) };
+        stops = record { told = inl refl; so = none_free (early.ends known) };
         said = c.in-Ok.ensures.said known 0;
       };
     }

@@ -1,30 +1,29 @@
+use Rattle.std.proofs.Common.{refl, Ok}
 use Rattle.usb_enum.specs.{hub_fault, BadHub}
-use Rattle.usb_enum.proofs.refusals.HubRefusals.{bad_hub, status_ungiven, unless_refused-not}
+use Rattle.usb_enum.proofs.ports.Hubs.{bad_hub, status_ungiven, unless_refused-not, supply_learned}
 use Rattle.usb_enum.proofs.refusals.Refusals.{request_refused, answered_ok, failed}
 use Rattle.usb_enum.proofs.stops.PlainStops.{answered_hub}
 use Rattle.usb_enum.proofs.devices.Frames.{answer_asks}
-use Rattle.usb_enum.proofs.readings.HubReadings.{supply_learned}
 use Rattle.usb_enum.proofs.Parts.{gone_answered, uses_read}
 use Rattle.usb_enum.proofs.stops.Reasons.{status_told}
 use Rattle.usb_enum.proofs.hub.port_supply.Goals as goal
 
 pub returns-clause-read : goal.returns-clause-read
 returns-clause-read g c wide =
-    let answer = c.get_status.ensures in
+    let answer = rw (answered_ok BadHub c.in_ok-status.ensures) at c.get_status.ensures in
     let t = c.args.target in
     record {
-      gone = gone_answered 3 _ _ c.in_ok-status.ensures
+      gone = gone_answered 3 BadHub (Ok c.in_ok-status.status) refl
           (uses_read t.max 2 c.requires.max answer.uses) (λ known. (answer.told known).ends)
-          (λ known. answer_asks (answer.told known).asked (answer.what known)
-          (answer.keeps known));
+          (λ known. answer_asks (answer.told known).asked (answer.what known) (answer.keeps known));
       ends = λ known. record {
         told = record {
           status = c.in_ok-status.status;
-          told = rw (answered_ok BadHub c.in_ok-status.ensures) at (answer.told known);
+          told = answer.told known;
           said = c.supply.ensures;
         };
-        so = rw c.supply.ensures (supply_learned BadHub (g.B.Bus.world c.get_status.new.bus)
-            c.in_ok-status.ensures (answer.what known));
+        so = rw c.supply.ensures (supply_learned (g.B.Bus.world c.get_status.new.bus)
+            (answer.what known));
       };
     }
 

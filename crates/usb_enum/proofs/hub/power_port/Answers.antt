@@ -1,14 +1,13 @@
-use Rattle.usb_enum.proofs.ports.Hubs.{powered_by}
+use Rattle.usb_enum.proofs.ports.Hubs.{powered_by, power_explains}
 use Rattle.usb_enum.specs.{IsHubStop, StopsPower, no_power}
 use Rattle.usb_enum.proofs.stops.PlainStops.{answered_hub}
-use Rattle.usb_enum.proofs.refusals.Warrants.{matched}
 use Rattle.std.proofs.Common.{◌∙◌, sym}
 use Rattle.usb_enum.proofs.devices.Frames.{power_tells}
 use Rattle.usb_enum.proofs.Parts.{gone_answered}
-use Rattle.usb_enum.proofs.refusals.PortRefusals.{power_explains}
 use Rattle.usb_enum.proofs.refusals.Refusals.{by_error}
 use Rattle.usb_request.specs.{PORT_POWER, set_port_feature}
 use Rattle.usb_enum.proofs.stops.Reasons.{bad_hub_told, writes_failed}
+use Rattle.std.proofs.lemmas.Result.{MatchResult-from_both}
 use Rattle.usb_enum.proofs.hub.power_port.Goals as goal
 
 pub returns : goal.returns
@@ -22,17 +21,16 @@ returns g c =
           (λ stop is. answered_hub _ _ (sym is ∙ c.answered_or.ensures));
       part = λ wide. record {
         gone = gone_answered 2 _ _ c.answered_or.ensures set.uses
-            (λ known. (set.ordered known).ends)
-            (λ known. power_tells t port _ _ _ (set.ordered known)
+            (λ known. (set.ordered known).ends) (λ known. power_tells port (set.ordered known)
             (set.keeps known (λ e. absurd cc)) (set.devices known (λ e. absurd cc)));
         ends = λ known.
             let ordered = set.ordered known in
-            matched c.answered_or.result _ (StopsPower wide t port _ _)
-            (powered_by t port _ _ _ c.answered_or.result c.answered_or.ensures ordered)
+            MatchResult-from_both c.answered_or.result _ (StopsPower wide t port _ _)
+            (powered_by port c.answered_or.result c.answered_or.ensures ordered)
             (by_error c.answered_or.result (StopsPower wide t port _ _) (λ stop is. record {
-              told = bad_hub_told wide t setup _ stop 2 1 _ _ (sym is ∙ c.answered_or.ensures)
+              told = bad_hub_told wide setup _ stop 2 1 (sym is ∙ c.answered_or.ensures)
                   (writes_failed t setup _ _ _ ordered.stages) ordered.ends (no_power port);
-              so = power_explains t port _ stop _ _ ordered (sym is ∙ c.answered_or.ensures)
+              so = power_explains port stop ordered (sym is ∙ c.answered_or.ensures)
                   (set.devices known (λ e. absurd cc));
             }));
       };

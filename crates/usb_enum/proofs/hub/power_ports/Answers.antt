@@ -1,11 +1,10 @@
-use Rattle.std.proofs.Common.{◌≡◌, true, arith, refl}
+use Rattle.std.proofs.Common.{◌≡◌, ◌+◌, true, arith, refl}
 use Rattle.usb_pipe.specs.{write_bound}
-use Rattle.usb_enum.proofs.ports.Hubs.{powered_more}
+use Rattle.usb_enum.proofs.ports.Hubs.{powered_more, learns_stays, has_earlier}
 use Rattle.usb_enum.proofs.Parts.{gone_again, gone_more, gone_none, gone_times, part_failed}
 use Rattle.usb_enum.proofs.Parts.{telling}
-use Rattle.usb_enum.proofs.refusals.PortRefusals.{powering_explains}
-use Rattle.usb_enum.proofs.courses.LastRequests.{leads_went}
 use Rattle.usb_enum.proofs.stops.Reasons.{hub_after}
+use Rattle.usb_enum.proofs.refusals.Refusals.{explains_set_on}
 use Rattle.usb_enum.proofs.hub.power_ports.Goals as goal
 
 pub ports-init : goal.ports-init
@@ -15,7 +14,7 @@ pub ports-preserved : goal.ports-preserved
 ports-preserved g c =
     let power = c.in_ok-power_port.ensures.part true in
     record {
-      gone = gone_again _ write_bound (telling _) c.ports.invariant.gone power.gone;
+      gone = gone_again _ (telling _) c.ports.invariant.gone power.gone;
       powered = λ known. powered_more _ _ _ _ _ (c.ports.invariant.powered known)
           (power.ends known);
     }
@@ -34,12 +33,13 @@ returns-in_err-power_port-clause-part g c wide =
     let before = c.ports.invariant.gone in
     let power = c.in_err-power_port.ensures.part wide in
     part_failed c.from_residual.ensures.1
-    (gone_more _ _ write_bound (telling _) before power.gone c.ports-test.true) (λ known.
+    (gone_more _ _ (telling _) before power.gone c.ports-test.true) (λ known.
     let steps = before.steps known in
     let stops = power.ends known in
     record {
-      told = hub_after wide _ c.args.target _ (leads_went steps.went) stops.told;
-      so = powering_explains c.args.target c.ports.before c.args.ports _ _ _ _ _ _
-          (omega (arith, c.ports-test.true)) steps.keeps.devices steps.went
-          (power.gone.steps known).went stops.so;
+      told = hub_after wide _ c.args.target _ steps.went.led stops.told;
+      so = explains_set_on (learns_stays c.args.target steps.keeps.devices) steps.went
+          (power.gone.steps known).went stops.so (λ spec ruled a none r has.
+          none r (has_earlier (c.ports.before + 1) (omega arith)
+          (omega (arith, c.ports-test.true)) has));
     })

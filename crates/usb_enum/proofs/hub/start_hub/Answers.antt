@@ -1,14 +1,13 @@
 use Rattle.std.proofs.Common.{◌≤◌, inl, inr, arith, refl, sym}
 use Rattle.usb_enum.proofs.devices.Frames.{tells_asked}
-use Rattle.usb_enum.proofs.readings.HubReadings.{hub_learned}
+use Rattle.usb_enum.proofs.ports.Hubs.{can_serve, status_holds, status_small, no_endpoint}
+use Rattle.usb_enum.proofs.ports.Hubs.{asked_explains, small_explains, powered_explains}
+use Rattle.usb_enum.proofs.ports.Hubs.{is_good_hub_read}
 use Rattle.usb_enum.proofs.Parts.{asking, gone_as, gone_joined, gone_none, gone_stopped, gone_then}
 use Rattle.usb_enum.proofs.Parts.{gone_wider, part_failed, telling}
-use Rattle.usb_enum.proofs.ports.StatusEndpoints.{can_serve, status_holds, status_small}
-use Rattle.usb_enum.proofs.refusals.PortRefusals.{no_endpoint, asked_explains, small_explains}
-use Rattle.usb_enum.proofs.refusals.PortRefusals.{supply_explains, powered_explains}
-use Rattle.usb_enum.proofs.refusals.Refusals.{explained_none}
-use Rattle.usb_enum.proofs.courses.LastRequests.{leads_went}
+use Rattle.usb_enum.proofs.refusals.Refusals.{explained_none, explains_set_on}
 use Rattle.usb_enum.proofs.stops.Reasons.{at_start, hub_after}
+use Rattle.usb_enum.proofs.readings.Readings.{learns_on, learns_kept}
 use Rattle.usb_enum.proofs.hub.start_hub.Goals as goal
 
 pub returns : goal.returns
@@ -35,10 +34,10 @@ returns g c =
             supply = (supply.ends known).told;
             powered = power.ends known;
           };
-          so = hub_learned c.args.wide c.args.target c.args.text.now c.in_ok-ports.ports
-              c.in_ok-supply.supply _ _ _ _ _ _ (status_holds c.args.wide c.args.text.now _
-              c.in-Some.max c.in_ok-ports.ports c.in-Some.ensures.value fits) (count.ends known).so
-              (supply.gone.steps known).went (supply.ends known).so (power.gone.steps known).went
+          so = learns_kept (learns_on (count.ends known).so (supply.gone.steps known).went
+              (supply.ends known).so (λ spec p s max ruled. is_good_hub_read c.args.text.now
+              (status_holds c.args.wide c.args.text.now _ c.in-Some.max c.in_ok-ports.ports
+              c.in-Some.ensures.value fits) (p max) s ruled)) (power.gone.steps known).went
               (power.gone.steps known).keeps.devices;
         };
       };
@@ -98,9 +97,10 @@ returns-in_err-supply-clause-part g c =
     let went = (count.gone.steps known).went in
     record {
       told = at_start _ _ _ c.args.text.now _ _
-          (hub_after _ _ _ _ (leads_went went) (supply.ends known).told);
-      so = supply_explains c.args.wide c.args.text.now _ c.in_ok-ports.ports _ _ _ _ _ _ went
-          (count.ends known).so (supply.gone.steps known).went (supply.ends known).so;
+          (hub_after _ _ _ _ went.led (supply.ends known).told);
+      so = explains_set_on (count.ends known).so went (supply.gone.steps known).went
+          (asked_explains c.args.wide c.args.text.now _ _ _
+          (g.B.Bus.world c.port_supply.new.bus) (supply.ends known).so) (λ spec ruled p b. b);
     })
 
 pub returns-in_err-power_ports-clause-part : goal.returns-in_err-power_ports-clause-part
@@ -115,8 +115,8 @@ returns-in_err-power_ports-clause-part g c =
     let status = supply.gone.steps known in
     record {
       told = at_start _ _ _ c.args.text.now _ _
-          (hub_after _ _ _ _ (leads_went (asked.steps known).went) (power.ends known).told);
-      so = powered_explains c.args.wide c.args.text.now _ c.in_ok-ports.ports _ _ _ _ _ _ _ _
+          (hub_after _ _ _ _ (asked.steps known).went.led (power.ends known).told);
+      so = powered_explains c.args.wide c.args.text.now _ c.in_ok-ports.ports _
           c.in_ok-ports.ensures.count.0 (count.gone.steps known).went (count.ends known).so
           status.went status.keeps.devices (power.gone.steps known).went (power.ends known).so;
     })

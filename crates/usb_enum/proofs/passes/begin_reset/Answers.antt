@@ -4,7 +4,7 @@ use Rattle.usb_hub.proofs.Interface.{reset_went, set_works}
 use Rattle.usb_enum.proofs.devices.Frames.{at_reset, reset_calls}
 use Rattle.usb_port.specs.{SetReset}
 use Rattle.usb_enum.proofs.Parts.{part_called}
-use Rattle.usb_enum.proofs.courses.Stretches.{set_goes}
+use Rattle.usb_enum.proofs.courses.Losses.{set_goes}
 use Rattle.usb_enum.proofs.passes.begin_reset.Goals as goal
 
 pub returns : goal.returns
@@ -20,8 +20,7 @@ returns g c =
           }) call.fault (λ known why is. inr (PORT_RESET, inl (rw is at (call.effect known))))
           (λ known. set_works c.args.port PORT_RESET _ _ _ (call.effect known)) (λ known.
           let resets = (call.addresses known).resets refl in
-          at_reset _ a _ _ resets (reset_calls _ a _ _ _ (call.fault known) (call.ports known)
-          resets));
+          at_reset resets (reset_calls a (call.fault known) (call.ports known) resets));
       resets = search rules;
       calls = λ known. record {
         outcome = c.set_port.result;

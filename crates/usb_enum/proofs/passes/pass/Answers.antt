@@ -1,18 +1,18 @@
 use Rattle.usb_enum.specs.{Stalled}
 use Rattle.usb_enum.proofs.stops.PlainStops.{answered_early}
 use Rattle.std.proofs.Common.{inl, inr, arith, refl, rules}
-use Rattle.usb_enum.proofs.devices.Presence.{address_finds}
-use Rattle.usb_enum.proofs.devices.SaidBytes.{said_on, said_then, whole_said_at}
+use Rattle.usb_enum.proofs.devices.Presence.{addressed_granted, spoken_finds}
+use Rattle.usb_enum.proofs.devices.SaidBytes.{said_on, whole_said_at}
 use Rattle.usb_enum.proofs.devices.ReachedDevices.{reaches_addressed, reaches_rest}
 use Rattle.usb_enum.proofs.devices.Enumerations.{takes_after, takes_answered}
 use Rattle.usb_enum.proofs.devices.Frames.{at_asked}
 use Rattle.usb_enum.proofs.Parts.{enumerating, gone_addressed, gone_as, gone_then, gone_wider}
+use Rattle.usb_enum.proofs.courses.Courses.{went_steps}
 use Rattle.usb_enum.proofs.courses.Fairness.{stops_wider}
 use Rattle.usb_enum.proofs.refusals.Refusals.{answered_ok, failed}
 use Rattle.usb_enum.proofs.stops.StopReasons.{address_stops, addressed_early, descriptor_stops}
 use Rattle.usb_enum.proofs.stops.StopReasons.{pass_misses}
 use Rattle.usb_enum.specs.declared.cause.Request.TheVariants.{Address}
-use Rattle.usb_enum.proofs.courses.LastRequests.{leads_then, leads_went}
 use Rattle.usb_enum.proofs.stops.Reasons.{at_after, descriptor_after, failing_after, stop_told_at}
 use Rattle.usb_enum.proofs.stops.Reasons.{told_faults, write_stop_told}
 use Rattle.usb_enum.proofs.passes.pass.Goals as goal
@@ -51,17 +51,17 @@ returns-in_err-answered_or g c =
             let ordered = set.ordered known in
             let first = early.gone.steps known in
             record {
-              told = at_after _ _ a _ (leads_went first.went) (stop_told_at _ _ a _ _ _
+              told = at_after _ _ a _ first.went.led (stop_told_at _ _ _
                   (record { at = inl is.zero; pre = is.pre })
                   (write_stop_told Address _ (a, refl) c.in_err-answered_or.ensures ordered));
-              so = address_stops _ a _ _ _ c.set_address.result first.went (set.uses.steps known)
-                  first.keeps (zero.gone.steps known).keeps (addressed.steps known).keeps is
+              so = address_stops _ a _ c.set_address.result first.went
+                  (went_steps (set.uses.steps known)) first.keeps (addressed.steps known).keeps is
                   (zero.ends known) ordered (set.what known) (set.why known) _
                   c.in_err-answered_or.ensures;
             };
       };
       said = λ known. said_on (c.in_ok-target.ensures.said known a)
-          (leads_went (set.uses.steps known));
+          (went_steps (set.uses.steps known)).led;
     })
 
 pub returns-in_err-bytes : goal.returns-in_err-bytes
@@ -69,11 +69,10 @@ returns-in_err-bytes g c =
     let a = c.args.address in
     let t = c.in_ok-target.target in
     let is = c.in_ok-target.ensures.target in
-    let set = c.set_address.ensures in
-    let done = answered_ok _ c.in_ok-answered_or.ensures in
+    let set = rw (answered_ok _ c.in_ok-answered_or.ensures) at c.set_address.ensures in
     let early = c.in_ok-target.ensures.part a in
-    let addressed = gone_addressed _ early.gone is.zero c.requires.least
-    c.in_ok-answered_or.ensures set.uses set.ordered set.what set.gives in
+    let addressed = gone_addressed (Stalled Address) early.gone is.zero c.requires.least refl
+    set.uses set.ordered set.what set.gives in
     let bytes = c.in_err-bytes.ensures.read in
     rw (failed c.from_residual-in_err-bytes.result c.from_residual-in_err-bytes.ensures.1) (record {
       addressed = search rules;
@@ -87,34 +86,32 @@ returns-in_err-bytes g c =
             let next = bytes.gone.steps known in
             let stops = bytes.ends known in
             record {
-              told = at_after _ _ a _ (leads_went second.went) (stop_told_at _ _ a
-                  (record t { addr = a }) _ _ (record { at = inr refl; pre = is.pre }) stops.told);
-              so = descriptor_stops _ a _ _ _ t first.went (set.uses.steps known) next.went
-                  first.keeps (zero.gone.steps known).keeps second.keeps next.keeps is
-                  (zero.ends known) (rw done at (set.ordered known)) (rw done at (set.what known)) _
+              told = at_after _ _ a _ second.went.led (stop_told_at _ _ _
+                  (record { at = inr refl; pre = is.pre }) stops.told);
+              so = descriptor_stops first.went (went_steps (set.uses.steps known)) next.went
+                  first.keeps second.keeps next.keeps is
+                  (zero.ends known) (set.ordered known) (set.what known) _
                   (told_faults _ (record t { addr = a }) _ _ stops.told) stops.so;
             };
       };
       said = λ known.
           let second = addressed.steps known in
           let next = bytes.gone.steps known in
-          said_then (said_on (c.in_ok-target.ensures.said known a)
-          (leads_then (leads_went (set.uses.steps known)) (leads_went next.went)))
-          (whole_said_at t (record t { addr = a }) (record { at = inr refl; pre = is.pre })
-          is.zero refl (early.ends known).found (rw done at (set.what known)) second.went
-          second.keeps.within next.went next.keeps.addresses (c.in_err-bytes.ensures.said known));
+          whole_said_at t (record { at = inr refl; pre = is.pre }) is.zero refl
+          (c.in_ok-target.ensures.said known a) (early.ends known).found (set.what known)
+          (went_steps (set.uses.steps known)).led second.went second.keeps.within next.went
+          next.keeps.addresses (c.in_err-bytes.ensures.said known);
     })
 
 pub returns-in-Some : goal.returns-in-Some
 returns-in-Some g c =
     let is = c.in_ok-target.ensures.target in
-    let set = c.set_address.ensures in
-    let done = answered_ok _ c.in_ok-answered_or.ensures in
+    let set = rw (answered_ok _ c.in_ok-answered_or.ensures) at c.set_address.ensures in
     let a = c.args.address in
     let t = c.in_ok-target.target in
     let early = c.in_ok-target.ensures.part a in
-    let addressed = gone_addressed _ early.gone is.zero c.requires.least
-    c.in_ok-answered_or.ensures set.uses set.ordered set.what set.gives in
+    let addressed = gone_addressed (Stalled Address) early.gone is.zero c.requires.least refl
+    set.uses set.ordered set.what set.gives in
     let bytes = c.in_ok-bytes.ensures.read in
     record {
       addressed = (refl, (rw c.in-Some.is at c.in_ok-bytes.ensures.device).1);
@@ -127,29 +124,27 @@ returns-in-Some g c =
             let next = bytes.gone.steps known in
             let found = rw c.in-Some.is at (bytes.ends known) in
             record {
-              told = descriptor_after (leads_went second.went) found.told;
+              told = descriptor_after second.went.led found.told;
               so = record {
                 address = refl;
                 pre = is.pre;
-                takes = takes_after _ _ _ _ _ second.keeps.within
-                    (takes_answered _ _ _ _ next.keeps.addresses found.so.who);
+                takes = takes_after second.keeps.within
+                    (takes_answered _ next.keeps.addresses found.so.who);
                 still = found.so.still;
-                found = address_finds _ _ _ _ _ is.zero refl waits.found
-                    (rw done at (set.what known)) second.keeps.within found.so next.went
-                    next.keeps.addresses;
-                reaches = reaches_rest _ _ _ next.went next.keeps.ports (reaches_addressed _ _ _ _
-                    _ _ _ _ (set.uses.steps known) (set.ordered known) waits.reaches);
+                found = spoken_finds _ t is.zero refl (addressed_granted _) waits.found
+                    (set.what known) second.keeps.within found.so next.went next.keeps.addresses;
+                reaches = reaches_rest next.went next.keeps.ports (reaches_addressed _
+                    (went_steps (set.uses.steps known)) (set.ordered known) waits.reaches);
               };
             };
       };
       said = λ known.
           let second = addressed.steps known in
           let next = bytes.gone.steps known in
-          said_then (said_on (c.in_ok-target.ensures.said known a)
-          (leads_then (leads_went (set.uses.steps known)) (leads_went next.went)))
-          (whole_said_at t (record t { addr = a }) (record { at = inr refl; pre = is.pre })
-          is.zero refl (early.ends known).found (rw done at (set.what known)) second.went
-          second.keeps.within next.went next.keeps.addresses (c.in_ok-bytes.ensures.said known));
+          whole_said_at t (record { at = inr refl; pre = is.pre }) is.zero refl
+          (c.in_ok-target.ensures.said known a) (early.ends known).found (set.what known)
+          (went_steps (set.uses.steps known)).led second.went second.keeps.within next.went
+          next.keeps.addresses (c.in_ok-bytes.ensures.said known);
     }
 
 pub returns-in-None : goal.returns-in-None
@@ -157,11 +152,10 @@ returns-in-None g c =
     let a = c.args.address in
     let t = c.in_ok-target.target in
     let is = c.in_ok-target.ensures.target in
-    let set = c.set_address.ensures in
-    let done = answered_ok _ c.in_ok-answered_or.ensures in
+    let set = rw (answered_ok _ c.in_ok-answered_or.ensures) at c.set_address.ensures in
     let early = c.in_ok-target.ensures.part a in
-    let addressed = gone_addressed _ early.gone is.zero c.requires.least
-    c.in_ok-answered_or.ensures set.uses set.ordered set.what set.gives in
+    let addressed = gone_addressed (Stalled Address) early.gone is.zero c.requires.least refl
+    set.uses set.ordered set.what set.gives in
     let bytes = c.in_ok-bytes.ensures.read in
     record {
       addressed = search rules;
@@ -169,7 +163,6 @@ returns-in-None g c =
         gone = gone_then (enumerating _ a) addressed (gone_as (at_asked _ a) bytes.gone)
             (omega arith);
         ends = λ known.
-            let zero = c.in_ok-target.ensures.part 0 in
             let first = early.gone.steps known in
             let second = addressed.steps known in
             let next = bytes.gone.steps known in
@@ -178,19 +171,18 @@ returns-in-None g c =
               told = record {
                 target = record t { addr = a };
                 is = record { at = inr refl; pre = is.pre };
-                failed = failing_after (leads_went second.went) none.told;
+                failed = failing_after second.went.led none.told;
               };
-              so = pass_misses _ a _ _ _ t first.went (set.uses.steps known) next.went first.keeps
-                  (zero.gone.steps known).keeps second.keeps next.keeps is (zero.ends known)
-                  (rw done at (set.ordered known)) (rw done at (set.what known)) none.so;
+              so = pass_misses first.went (went_steps (set.uses.steps known)) next.went first.keeps
+                  second.keeps next.keeps is ((c.in_ok-target.ensures.part 0).ends known)
+                  (set.ordered known) (set.what known) none.so;
             };
       };
       said = λ known.
           let second = addressed.steps known in
           let next = bytes.gone.steps known in
-          said_then (said_on (c.in_ok-target.ensures.said known a)
-          (leads_then (leads_went (set.uses.steps known)) (leads_went next.went)))
-          (whole_said_at t (record t { addr = a }) (record { at = inr refl; pre = is.pre })
-          is.zero refl (early.ends known).found (rw done at (set.what known)) second.went
-          second.keeps.within next.went next.keeps.addresses (c.in_ok-bytes.ensures.said known));
+          whole_said_at t (record { at = inr refl; pre = is.pre }) is.zero refl
+          (c.in_ok-target.ensures.said known a) (early.ends known).found (set.what known)
+          (went_steps (set.uses.steps known)).led second.went second.keeps.within next.went
+          next.keeps.addresses (c.in_ok-bytes.ensures.said known);
     }

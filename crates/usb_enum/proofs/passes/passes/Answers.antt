@@ -3,13 +3,11 @@ use Rattle.usb_enum.specs.{answered}
 use Rattle.std.proofs.Common.{◌≡◌, ◌⊎◌, inl, inr, arith, refl, rules}
 use Rattle.usb_hub.proofs.Interface.{is_asked_stays}
 use Rattle.usb_enum.proofs.devices.Enumerations.{takes_after}
-use Rattle.usb_enum.proofs.devices.SaidBytes.{said_after, said_on, said_then}
+use Rattle.usb_enum.proofs.devices.SaidBytes.{said_after}
 use Rattle.usb_enum.proofs.Parts.{enumerating, gone_again, gone_more, gone_none, gone_stopped}
 use Rattle.usb_enum.proofs.Parts.{gone_times}
-use Rattle.usb_enum.proofs.courses.Courses.{went_in_order, went_regular, went_sound}
 use Rattle.usb_enum.proofs.devices.ReachedDevices.{occupied_on}
 use Rattle.usb_enum.proofs.stops.StopReasons.{misses_none, misses_then, stops_then, thrice_missed}
-use Rattle.usb_enum.proofs.courses.LastRequests.{leads_went}
 use Rattle.usb_enum.proofs.stops.Reasons.{at_after, descriptor_after, silent_after}
 use Rattle.usb_enum.proofs.refusals.Refusals.{failed}
 use Rattle.usb_enum.proofs.passes.passes.Goals as goal
@@ -24,7 +22,7 @@ loop-pass-init g c = record {
 
 pub pass-requires : goal.pass-requires
 pass-requires g c = record {
-  port = is_asked_stays _ _ _ _ _ (λ known. (c.loop-pass.invariant.gone.steps known).went.spends)
+  port = is_asked_stays _ _ _ _ _ (λ known. (c.loop-pass.invariant.gone.steps known).run.spends)
       c.requires.port;
   least = c.requires.least;
   most = c.requires.most;
@@ -35,20 +33,19 @@ loop-pass-preserved g c =
     let before = c.loop-pass.invariant in
     let one = c.in_ok-device.ensures.part in
     record {
-      gone = gone_again _ (pass_bound c.args.port) (enumerating _ _) before.gone one.gone;
+      gone = gone_again _ (enumerating _ _) before.gone one.gone;
       silent = λ known.
           let missed = rw c.in_default.is at (one.ends known) in
-          inr (silent_after (leads_went (before.gone.steps known).went) missed.told);
+          inr (silent_after (before.gone.steps known).went.led missed.told);
       missed = λ known.
           let missed = rw c.in_default.is at (one.ends known) in
           let steps = before.gone.steps known in
           let next = one.gone.steps known in
-          misses_then _ _ _ _ _ steps.went next.went steps.keeps next.keeps (before.missed known)
-          missed.so;
+          misses_then steps.went next.went steps.keeps next.keeps (before.missed known) missed.so;
       said = λ known.
           let steps = before.gone.steps known in
-          said_then (said_on (before.said known) (leads_went (one.gone.steps known).went))
-          (said_after steps.went steps.keeps.within (c.in_ok-device.ensures.said known));
+          said_after (before.said known) (one.gone.steps known).went.led steps.went
+          steps.keeps.within (c.in_ok-device.ensures.said known);
     }
 
 pub returns-in-Some : goal.returns-in-Some
@@ -58,38 +55,36 @@ returns-in-Some g c =
     record {
       addressed = rw c.in-Some.is at c.in_ok-device.ensures.addressed;
       part = record {
-        gone = gone_more _ 3 (pass_bound c.args.port) (enumerating _ _) before.gone one.gone
-            c.loop-pass-test.true;
+        gone = gone_more _ 3 (enumerating _ _) before.gone one.gone c.loop-pass-test.true;
         ends = λ known.
             let steps = before.gone.steps known in
             let found = rw c.in-Some.is at (one.ends known) in
             let taken = found.so in
             record {
-              told = descriptor_after (leads_went steps.went) found.told;
+              told = descriptor_after steps.went.led found.told;
               so = record {
                 address = taken.address;
                 pre = taken.pre;
-                takes = takes_after _ _ _ _ _ steps.keeps.within taken.takes;
+                takes = takes_after steps.keeps.within taken.takes;
                 still = taken.still;
                 found = record {
                   found = λ f p is t order. taken.found.found f p is
-                      (steps.keeps.within.stays f p is t) (went_regular _ _ _ steps.went order);
+                      (steps.keeps.within.stays f p is t) (steps.went.order order);
                 };
                 reaches = record {
                   reached = λ f p is t order occupied none.
                       let next = (one.gone.steps known).went in
-                      let at = steps.keeps.only.at f p is t (went_sound _ _ _ next none) in
+                      let at = steps.keeps.only.at f p is t (next.led.sound none) in
                       taken.reaches.reached f p is (steps.keeps.within.stays f p is t)
-                      (went_in_order _ _ _ steps.went order) (occupied_on p at.spares occupied)
-                      none;
+                      (steps.went.order order) (occupied_on p at.spares occupied) none;
                 };
               };
             };
       };
       said = λ known.
           let steps = before.gone.steps known in
-          said_then (said_on (before.said known) (leads_went (one.gone.steps known).went))
-          (said_after steps.went steps.keeps.within (c.in_ok-device.ensures.said known));
+          said_after (before.said known) (one.gone.steps known).went.led steps.went
+          steps.keeps.within (c.in_ok-device.ensures.said known);
     }
 
 pub returns-in_err-device : goal.returns-in_err-device
@@ -99,22 +94,20 @@ returns-in_err-device g c =
     rw (failed c.from_residual.result c.from_residual.ensures.1) (record {
       addressed = search rules;
       part = record {
-        gone = gone_more _ 3 (pass_bound c.args.port) (enumerating _ _) before.gone one.gone
-            c.loop-pass-test.true;
+        gone = gone_more _ 3 (enumerating _ _) before.gone one.gone c.loop-pass-test.true;
         ends = λ known.
             let steps = before.gone.steps known in
             let next = one.gone.steps known in
             record {
-              told = at_after _ c.args.port c.args.address _ (leads_went steps.went)
-                  (one.ends known).told;
-              so = stops_then _ _ _ _ _ steps.went next.went steps.keeps next.keeps
-                  (before.missed known) addressed_fault _ (one.ends known).so;
+              told = at_after _ c.args.port c.args.address _ steps.went.led (one.ends known).told;
+              so = stops_then steps.went next.went steps.keeps next.keeps
+                  (before.missed known) _ (one.ends known).so;
             };
       };
       said = λ known.
           let steps = before.gone.steps known in
-          said_then (said_on (before.said known) (leads_went (one.gone.steps known).went))
-          (said_after steps.went steps.keeps.within (c.in_err-device.ensures.said known));
+          said_after (before.said known) (one.gone.steps known).went.led steps.went
+          steps.keeps.within (c.in_err-device.ensures.said known);
     })
 
 pub returns-clause-part : goal.returns-clause-part
@@ -126,8 +119,7 @@ returns-clause-part g c =
           c.loop-pass.auto._pass-end) tt;
       ends = λ known. record {
         told = silent (c.loop-pass.invariant.silent known);
-        so = thrice_missed addressed_fault _ _ _ _ _ (rw all at (c.loop-pass.invariant.missed
-            known));
+        so = thrice_missed addressed_fault _ (rw all at (c.loop-pass.invariant.missed known));
       };
     }
   where

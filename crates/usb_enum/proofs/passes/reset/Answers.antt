@@ -1,31 +1,28 @@
 use Rattle.usb_enum.specs.{not_enabled}
 use Rattle.std.proofs.Common.{arith}
 use Rattle.std.proofs.lemmas.Bool.{not-false}
-use Rattle.usb_request.specs.{PORT_RESET, C_PORT_RESET}
 use Rattle.usb_hub.proofs.Interface.{is_asked_stays}
 use Rattle.usb_enum.proofs.devices.Frames.{at_asked}
 use Rattle.usb_enum.proofs.Parts.{enumerating, gone_as, gone_joined, gone_stopped, gone_then}
 use Rattle.usb_enum.proofs.Parts.{gone_wider, part_failed}
 use Rattle.usb_enum.proofs.devices.Presence.{reset_finds}
 use Rattle.usb_enum.proofs.devices.ReachedDevices.{done_at, reset_reaches}
-use Rattle.usb_port.specs.{set_call, clear_call}
 use Rattle.usb_enum.proofs.courses.Fairness.{called_faulted, faulted_after, status_faulted}
 use Rattle.usb_enum.proofs.stops.StopReasons.{reset_goes, reset_lost, settle_failed}
 use Rattle.usb_tree.proofs.Interface.{not-true}
-use Rattle.usb_enum.proofs.courses.LastRequests.{leads_went}
 use Rattle.usb_enum.proofs.stops.Reasons.{fault_after, fault_by}
 use Rattle.usb_enum.proofs.passes.reset.Goals as goal
 
 pub read_status-requires : goal.read_status-requires
 read_status-requires g c =
     is_asked_stays _ _ _ _ _
-    (λ known. ((c.begin_reset.ensures.part 0).gone.steps known).went.spends) c.requires.port
+    (λ known. ((c.begin_reset.ensures.part 0).gone.steps known).run.spends) c.requires.port
 
 pub settle-requires : goal.settle-requires
 settle-requires g c =
-    is_asked_stays _ _ _ _ _ (λ known. (c.read_status.ensures.read.gone.steps known).went.spends)
+    is_asked_stays _ _ _ _ _ (λ known. (c.read_status.ensures.read.gone.steps known).run.spends)
     (is_asked_stays _ _ _ _ _
-    (λ known. ((c.begin_reset.ensures.part 0).gone.steps known).went.spends) c.requires.port)
+    (λ known. ((c.begin_reset.ensures.part 0).gone.steps known).run.spends) c.requires.port)
 
 pub returns-in_err-begin_reset-clause-part : goal.returns-in_err-begin_reset-clause-part
 returns-in_err-begin_reset-clause-part g c a =
@@ -36,7 +33,7 @@ returns-in_err-begin_reset-clause-part g c a =
     record {
       told = begun.ends known;
       so = record {
-        why = (called_faulted _ a _ (set_call PORT_RESET) why steps.went steps.keeps
+        why = (called_faulted steps.went steps.keeps
             (fault_by _ why _ _ (begun.ends known)) (c.in_err-begin_reset.ensures.calls known)).why;
       };
     })
@@ -52,11 +49,10 @@ returns-in_err-status-clause-part g c a =
     let before = begun.steps known in
     let next = asked.steps known in
     record {
-      told = fault_after _ why _ (leads_went before.went) (status.ends known);
+      told = fault_after _ why _ before.went.led (status.ends known);
       so = record {
-        why = (faulted_after _ a _ _ why before.went next.went before.keeps (status_faulted _ a _
-            why next.went next.keeps (fault_by _ why _ _ (status.ends known))
-            (c.in_err-status.ensures.status known))).why;
+        why = (faulted_after before.went next.went before.keeps (status_faulted next.went next.keeps
+            (fault_by _ why _ _ (status.ends known)) (c.in_err-status.ensures.status known))).why;
       };
     })
 
@@ -75,12 +71,12 @@ returns-then-not-status-clause-part g c a =
           record {
             told = not_enabled (record {
               before = g.B.Bus.world c.begin_reset.new.bus;
-              led = leads_went before.went;
+              led = before.went.led;
               status = c.in_ok-status.status;
               read = rw (done_at shown.told) at shown.read;
               off = off;
             });
-            so = reset_lost _ a _ _ _ before.went next.went before.keeps next.keeps
+            so = reset_lost before.went next.went before.keeps next.keeps
                 (c.in_ok-begin_reset.ensures.calls known) shown off;
           };
     }
@@ -96,12 +92,10 @@ returns-in_err-settle-clause-part g c a =
     let before = told.steps known in
     let next = settle.gone.steps known in
     record {
-      told = fault_after _ why _ (leads_went before.went) (settle.ends known);
+      told = fault_after _ why _ before.went.led (settle.ends known);
       so = record {
-        why = (faulted_after _ a _ _ why before.went next.went before.keeps (called_faulted _ a _
-            (clear_call C_PORT_RESET) why next.went next.keeps
-            (fault_by _ why _ _ (settle.ends known))
-            (settle_failed _ c.in_ok-status.status.reset_changed why _ _
+        why = (faulted_after before.went next.went before.keeps (called_faulted next.went next.keeps
+            (fault_by _ why _ _ (settle.ends known)) (settle_failed
             (c.in_err-settle.ensures.calls known)))).why;
       };
     })
@@ -123,13 +117,13 @@ returns-clause-part g c a =
           let shown = c.in_ok-status.ensures.status known in
           let settles = c.in_ok-settle.ensures.calls known in
           record {
-            speed = λ none. reset_finds _ a _ _ _ _ one.went two.went three.went
+            speed = λ none. reset_finds one.went two.went three.went
                 (c.begin_reset.ensures.resets known) shown (c.settle.ensures.devices known)
                 (all.steps known).keeps.within none;
-            reaches = reset_reaches _ a _ _ _ _ one.went two.went three.went one.keeps two.keeps
+            reaches = reset_reaches one.went two.went three.went one.keeps two.keeps
                 (told.steps known).keeps three.keeps shown
                 (not-false c.in_ok-status.status.enabled c.if-not-status.false) settles;
-            goes = reset_goes port _ _ _ _ _ _ one.went two.went three.went
+            goes = reset_goes one.went two.went three.went
                 (c.in_ok-begin_reset.ensures.calls known) shown settles;
           };
     }

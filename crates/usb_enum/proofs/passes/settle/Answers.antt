@@ -6,7 +6,7 @@ use Rattle.usb_world.proofs.Interface.{each_none}
 use Rattle.usb_hub.specs.{StaysAs}
 use Rattle.usb_enum.proofs.Parts.{enumerating, gone_none, part_called}
 use Rattle.usb_port.specs.{ClearResetChange}
-use Rattle.usb_enum.proofs.courses.Stretches.{clear_goes}
+use Rattle.usb_enum.proofs.courses.Losses.{clear_goes}
 use Rattle.usb_hub.proofs.Interface.{clear_works}
 use Rattle.usb_enum.proofs.passes.settle.Goals as goal
 
@@ -27,7 +27,7 @@ returns g c =
           (λ known. clear_works c.args.port C_PORT_RESET _ _ _ (call.effect known))
           (λ known. record {
             within = within_kept (call.addresses known).keeps;
-            only = clear_calls _ a _ ClearResetChange refl refl refl C_PORT_RESET _ _ _
+            only = clear_calls a ClearResetChange refl refl refl
                 (call.fault known) (call.ports known) (call.addresses known);
           });
       devices = search rules;

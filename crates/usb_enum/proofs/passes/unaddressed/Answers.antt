@@ -6,10 +6,8 @@ use Rattle.usb_enum.proofs.devices.Presence.{unaddressed_finds}
 use Rattle.usb_enum.proofs.devices.SaidBytes.{head_said_at}
 use Rattle.usb_enum.proofs.courses.Fairness.{stops_wider}
 use Rattle.usb_enum.proofs.devices.ReachedDevices.{reaches_rest}
-use Rattle.usb_enum.proofs.courses.Courses.{went_sound}
 use Rattle.usb_enum.proofs.stops.StopReasons.{head_stops}
-use Rattle.usb_enum.proofs.courses.Stretches.{no_stretch_then}
-use Rattle.usb_enum.proofs.courses.LastRequests.{leads_went}
+use Rattle.usb_enum.proofs.courses.Losses.{no_stretch_then}
 use Rattle.usb_enum.proofs.stops.Reasons.{at_after, stop_told_at, told_faults}
 use Rattle.usb_transaction.specs.{Target}
 use Rattle.usb_enum.proofs.refusals.Refusals.{failed}
@@ -56,9 +54,9 @@ returns-in_err-max g c =
                 let next = head.gone.steps known in
                 let stops = head.ends known in
                 record {
-                  told = at_after _ port a _ (leads_went first.went) (stop_told_at _ port a t _
+                  told = at_after _ port a _ first.went.led (stop_told_at _ _
                       _ (record { at = inl refl; pre = pre }) stops.told);
-                  so = head_stops port a _ _ low _ _ first.went next.went first.keeps
+                  so = head_stops _ _ first.went next.went first.keeps
                       (zero.gone.steps known).keeps next.keeps (zero.ends known) pre
                       (told_faults _ t _ _ stops.told) stops.so;
                 };
@@ -66,7 +64,7 @@ returns-in_err-max g c =
       said = λ known a.
           let reset = (c.in_ok-low.ensures.part a).gone.steps known in
           let next = head.gone.steps known in
-          head_said_at t (record { at = inl refl; pre = pre }) reset.went next.went
+          head_said_at (record { at = inl refl; pre = pre }) reset.went next.went
           reset.keeps.within next.keeps.addresses (c.in_err-max.ensures.said known);
     })
 
@@ -93,16 +91,15 @@ returns g c =
                 let next = head.gone.steps known in
                 let found = head.ends known in
                 record {
-                  found = unaddressed_finds _ a _ low _ _ waits.speed found.answers next.went
+                  found = unaddressed_finds low _ _ waits.speed found.answers next.went
                       (reset.gone.steps known).keeps.within next.keeps.addresses;
-                  reaches = reaches_rest _ a _ next.went next.keeps.ports waits.reaches;
-                  goes = λ none. no_stretch_then _ _ _
-                      (waits.goes (went_sound _ _ _ next.went none)) found.goes;
+                  reaches = reaches_rest next.went next.keeps.ports waits.reaches;
+                  goes = λ none. no_stretch_then (waits.goes (next.went.led.sound none)) found.goes;
                 };
           };
       said = λ known a.
           let reset = (c.in_ok-low.ensures.part a).gone.steps known in
           let next = head.gone.steps known in
-          head_said_at t (record { at = inl refl; pre = pre }) reset.went next.went
+          head_said_at (record { at = inl refl; pre = pre }) reset.went next.went
           reset.keeps.within next.keeps.addresses (c.in_ok-max.ensures.said known);
     }

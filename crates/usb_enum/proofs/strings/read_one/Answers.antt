@@ -2,7 +2,8 @@ use Rattle.usb_enum.specs.{Memory, bytes_given, no_fault, unnamed, string_units}
 use Rattle.std.proofs.Common.{◌∙◌, ap, option_and_then, refl, sym}
 use Rattle.usb_enum.proofs.Parts.{asking, gone_none, gone_stopped, part_failed}
 use Rattle.usb_enum.proofs.refusals.Refusals.{fault_explains}
-use Rattle.usb_enum.proofs.readings.StringReadings.{string_named, unnamed_learned}
+use Rattle.usb_enum.proofs.readings.StringReadings.{string_named}
+use Rattle.usb_enum.proofs.readings.Readings.{learns_none}
 use Rattle.usb_enum.proofs.strings.read_one.Goals as goal
 
 pub returns-then-index-eq0-clause-read : goal.returns-then-index-eq0-clause-read
@@ -10,7 +11,7 @@ returns-then-index-eq0-clause-read g c = record {
   gone = gone_none _ asking;
   ends = λ known. record {
     told = unnamed c.if-index-eq0.true refl refl;
-    so = unnamed_learned c.args.target c.args.index _ c.if-index-eq0.true;
+    so = learns_none (λ spec max. rw c.if-index-eq0.true refl);
   };
 }
 

@@ -1,10 +1,11 @@
 use Rattle.usb_enum.specs.{asked, unnamed}
-use Rattle.std.proofs.Common.{None, Some, arith, refl}
+use Rattle.std.proofs.Common.{◌∙◌, None, Some, arith, refl, sym}
 use Rattle.usb_enum.proofs.Parts.{asking, gone_joined, gone_none, gone_then, gone_wider}
 use Rattle.usb_enum.proofs.Parts.{part_failed}
-use Rattle.usb_enum.proofs.refusals.StringRefusals.{string_stops, strings_read}
-use Rattle.usb_enum.proofs.readings.StringReadings.{unnamed_strings_learned, no_strings_learned}
-use Rattle.usb_enum.proofs.readings.StringReadings.{strings_learned}
+use Rattle.usb_enum.proofs.readings.StringReadings.{string_stops, strings_read, at_language}
+use Rattle.usb_enum.proofs.readings.StringReadings.{same_strings, string_at-zero}
+use Rattle.usb_enum.proofs.readings.StringReadings.{string_at-no_language}
+use Rattle.usb_enum.proofs.readings.Readings.{learns_none, learns_wider, learns_both}
 use Rattle.usb_enum.proofs.strings.read_strings.Goals as goal
 
 pub returns-then-indexes-eq0-3-clause-read : goal.returns-then-indexes-eq0-3-clause-read
@@ -16,8 +17,10 @@ returns-then-indexes-eq0-3-clause-read g c = record {
       product = c.if-indexes-eq0-2.true;
       serial_number = c.if-indexes-eq0-3.true;
     }) refl refl;
-    so = unnamed_strings_learned c.args.target c.args.indexes _ c.if-indexes-eq0.true
-        c.if-indexes-eq0-2.true c.if-indexes-eq0-3.true;
+    so = learns_none (λ spec max. same_strings
+        (sym (string_at-zero spec c.args.indexes.manufacturer c.if-indexes-eq0.true))
+        (sym (string_at-zero spec c.args.indexes.product c.if-indexes-eq0-2.true))
+        (sym (string_at-zero spec c.args.indexes.serial_number c.if-indexes-eq0-3.true)));
   });
 }
 
@@ -30,7 +33,11 @@ returns-in_default-clause-read g c =
           let none = rw c.in_default.is at (language.ends known) in
           rw c.no_strings-in_default.ensures (record {
             told = asked (g.B.Bus.world c.language.new.bus) None none.told (refl, refl);
-            so = no_strings_learned _ c.args.indexes _ (g.B.Bus.world c.language.new.bus) none.so;
+            so = learns_wider (g.B.Bus.world c.language.new.bus) none.so (λ spec none max.
+                same_strings
+                (sym (string_at-no_language spec c.args.indexes.manufacturer (none max)))
+                (sym (string_at-no_language spec c.args.indexes.product (none max)))
+                (sym (string_at-no_language spec c.args.indexes.serial_number (none max))));
           });
     }
 
@@ -57,9 +64,15 @@ returns-clause-read g c =
                   product = two.told;
                   serial_number = three.told;
                 });
-            so = strings_learned _ c.args.indexes c.in-Some.language _ _ _ _ _ _ _ _ _ _ _ said.so
-                (manufacturer.gone.steps known).went one.so (product.gone.steps known).went two.so
-                (serial_number.gone.steps known).went three.so;
+            so = learns_wider (g.B.Bus.world c.read_one-3.new.bus) (learns_both
+                (learns_both (learns_both said.so (manufacturer.gone.steps known).went one.so)
+                (product.gone.steps known).went two.so) (serial_number.gone.steps known).went
+                three.so) (λ spec read max.
+                let language = read.0.0.0 max in
+                same_strings (read.0.0.1 max
+                ∙ sym (at_language spec c.args.indexes.manufacturer language))
+                (read.0.1 max ∙ sym (at_language spec c.args.indexes.product language))
+                (read.1 max ∙ sym (at_language spec c.args.indexes.serial_number language)));
           };
     }
 

@@ -1,44 +1,41 @@
-use Rattle.std.proofs.Common.{inl, ◌∙◌, Err, Some, ap, option_map, sym, take}
-use Rattle.usb_enum.specs.{BadDevice, Refuses, answered_or, given, no_fault}
-use Rattle.usb_enum.specs.{refused}
+use Rattle.std.proofs.Common.{inl, ◌∙◌, refl, Err, Some, ap, option_map, sym, take}
+use Rattle.usb_enum.specs.{BadDevice, Refuses, given, no_fault, refused}
 use Rattle.usb_enum.proofs.refusals.Refusals.{failure_explains}
-use Rattle.usb_enum.proofs.refusals.StringRefusals.{never_stop, stopped_read}
+use Rattle.usb_enum.proofs.readings.StringReadings.{never_stop, stopped_read, stall_alone}
+use Rattle.usb_enum.proofs.readings.StringReadings.{string_read-given}
 use Rattle.usb_enum.proofs.stops.PlainStops.{stop_plain}
 use Rattle.usb_hub.specs.{string_given}
 use Rattle.usb_enum.proofs.Parts.{gone_asked, gone_on}
 use Rattle.usb_enum.proofs.readings.Readings.{refusal_learned, text_learned}
-use Rattle.usb_enum.proofs.readings.StringReadings.{stall_alone, string_read-given}
 use Rattle.usb_request.specs.{get_string_descriptor}
 use Rattle.usb_enum.proofs.stops.Reasons.{string_told}
 use Rattle.usb_enum.proofs.strings.string_bytes.Goals as goal
 
 pub returns-in-Ok-clause-read : goal.returns-in-Ok-clause-read
 returns-in-Ok-clause-read g c =
-    let string = c.get_string.ensures in
+    let string = rw c.in-Ok.is at c.get_string.ensures in
     record {
-      gone = gone_asked (string_given c.args.index) 255 _ c.requires.max
-          (sym (ap (answered_or BadDevice) c.in-Ok.is)) string.uses string.asked string.what
-          string.keeps;
+      gone = gone_asked (string_given c.args.index) 255 BadDevice c.requires.max refl string.uses
+          string.asked string.what string.keeps;
       ends = λ known. record {
-        told = given _ (rw c.in-Ok.is at (string.asked known).stages);
+        told = given _ (string.asked known).stages;
         so = text_learned (string_given c.args.index) (g.B.Bus.world c.get_string.new.bus)
-            c.in-Ok.is (string.what known) (λ spec text said first. ap Some first
+            (string.what known) (λ spec text said first. ap Some first
             ∙ sym (string_read-given spec c.args.index ∙ ap (option_map (take 255)) said));
       };
     }
 
 pub returns-in-None-clause-read : goal.returns-in-None-clause-read
 returns-in-None-clause-read g c =
-    let string = c.get_string.ensures in
     let stalled = c.in-Err.is
     ∙ ap Err (stall_alone c.in-Err.fault (sym c.stop_of.ensures ∙ c.in-None.is)) in
+    let string = rw stalled at c.get_string.ensures in
     record {
-      gone = gone_on (gone_asked (string_given c.args.index) 255 _ c.requires.max
-          (sym (ap (answered_or BadDevice) stalled)) string.uses string.asked string.what
-          string.keeps) tt;
+      gone = gone_on (gone_asked (string_given c.args.index) 255 BadDevice c.requires.max refl
+          string.uses string.asked string.what string.keeps) tt;
       ends = λ known. record {
-        told = refused (rw stalled at (string.asked known).stages);
-        so = refusal_learned (g.B.Bus.world c.get_string.new.bus) stalled (string.what known)
+        told = refused (string.asked known).stages;
+        so = refusal_learned (g.B.Bus.world c.get_string.new.bus) (string.what known)
             (λ spec said max.
             sym (string_read-given spec c.args.index ∙ ap (option_map (take 255)) said));
       };
@@ -63,7 +60,7 @@ returns-in-Some g c =
               so = failure_explains (g.B.Bus.world c.get_string.new.bus) (string.what known)
                   c.requires.max (string.why known)
                   (Refuses c.args.target no_fault c.in-Some.stop) c.in-Err.fault
-                  c.in-Err.is (λ spec fails r. never_stop c.args.target c.args.index spec r
+                  c.in-Err.is (λ spec fails r. never_stop c.args.index r
                   c.in-Err.fault c.in-Some.stop some (fails (inl r.max)));
             };
       };
