@@ -1,29 +1,77 @@
 -- Between attempts nothing is remembered: so an attempt concerns the device at its address alone.
-use Rattle.std.proofs.Common.{append-nil, arith, ◌≡◌, ℕ, zero, suc, ◌==◌, ◌&&◌, inl, inr, Bool}
-use Rattle.std.proofs.Common.{true, false, List, [], ◌∷◌, Option, None, Some, option_map, refl, ap}
-use Rattle.std.proofs.Common.{sym, subst, ◌∙◌, is_some}
-use Rattle.usb_world.proofs.packets.PacketEffects.{stands, state_stands, packet_state, true_deep}
-use Rattle.usb_world.proofs.packets.PacketEffects.{heard_state}
-use Rattle.usb_tree.proofs.Interface.{both, false_true, and_of, decided, is_twice-one_path}
-use Rattle.usb_tree.proofs.Interface.{equal_same, self_number, self_path, reset_if-false}
-use Rattle.usb_tree.proofs.Interface.{forgotten-nothing}
-use Rattle.usb_device.specs.{Answer, Content, Sent, Leaves, State, forgotten, reset_state, asks}
-use Rattle.usb_device.specs.{Ports, ended, vacant, taken, full, reach_at, state_at, place_at}
-use Rattle.usb_device.specs.{Location, place_on, reach_on, asked_by, answer_of, effect_of}
-use Rattle.usb_device.specs.{after_packet, listed, all_forgotten, Place, answers, sent_in}
-use Rattle.usb_device.specs.{forgotten_in, changed_at, path_to}
-use Rattle.usb_device.specs.declared.transfer.RememberedPacket.TheVariants.{Nothing}
-use Rattle.usb_tree.specs.{address_of, same_number, same_path, resets_at, reset_if, after_sent}
+use Rattle.std.proofs.Common.{◌≡◌, ℕ, zero, suc, ◌&&◌, Bool, true, false, List, [], ◌∷◌, Some, refl}
+use Rattle.std.proofs.Common.{subst, append-nil, arith, ◌==◌, inl, inr, Option, None, option_map}
+use Rattle.std.proofs.Common.{ap, sym, ◌∙◌, is_some}
+use Rattle.usb_port.specs.{PortState}
+use Rattle.usb_device.specs.{State, Ports, vacant, taken, reach_at, state_at, Answer, Content, Sent}
+use Rattle.usb_device.specs.{Leaves, forgotten, reset_state, asks, ended, full, place_at, Location}
+use Rattle.usb_device.specs.{place_on, reach_on, asked_by, answer_of, effect_of, after_packet}
+use Rattle.usb_device.specs.{listed, all_forgotten, Place, answers, sent_in, forgotten_in}
+use Rattle.usb_device.specs.{changed_at, path_to}
+use Rattle.usb_tree.specs.{same_number, same_path, address_of, resets_at, reset_if, after_sent}
 use Rattle.usb_tree.specs.{answers_to, after_attempt, deep_at, calls_on, IsTokenFor, IsDataOut}
 use Rattle.usb_tree.specs.{IsAckOut, IfOut, IsAttemptAt, sent_resets, attempt_resets, IsSettled}
 use Rattle.usb_tree.specs.{NobodyHolds, OneHolds, OthersForgot, Alone, AloneAt}
-use Rattle.usb_world.proofs.packets.AttemptPackets.{token_out, ack_out, calm_sent, rested_answer}
-use Rattle.usb_world.proofs.packets.AttemptPackets.{forgotten_state, ack_calls}
-use Rattle.usb_world.proofs.courses.StepInvariants.{each_settled}
-use Rattle.usb_world.proofs.ways.LoneWalks.{Each, Others, along_way}
-use Rattle.usb_world.proofs.ways.WayChanges.{place_at-changed}
+use Rattle.usb_tree.proofs.Interface.{false_true, both, and_of, decided, is_twice-one_path}
+use Rattle.usb_tree.proofs.Interface.{equal_same, self_number, self_path, reset_if-false}
+use Rattle.usb_tree.proofs.Interface.{forgotten-nothing}
+use Rattle.usb_world.proofs.packets.Packets.{stands, state_stands, packet_state, true_deep}
+use Rattle.usb_world.proofs.packets.Packets.{heard_state, calm_token as token_out}
+use Rattle.usb_world.proofs.packets.Packets.{calm_ack as ack_out, calm_sent, rested_answer}
+use Rattle.usb_world.proofs.packets.Packets.{forgotten_state, ack_calls}
+use Rattle.usb_device.specs.declared.transfer.RememberedPacket.TheVariants.{Nothing}
+use Rattle.usb_world.proofs.courses.Courses.{each_settled}
+use Rattle.usb_world.proofs.ports.PortCalls.{place_at-changed}
 use Rattle.usb_device.proofs.Interface.{changed_at-same, changed_at-twice}
-use Rattle.usb_port.specs.{PortState}
+
+-- A walk to one device of a tree in which all others are at rest, in what way so ever.
+
+-- so it is of each device of a tree, by whether it is reached, where the row is or is not
+abbrev pub Each : (Bool → State → Type 0) → Bool → Ports → Type 0
+Each S on k = (i : ℕ) (e : List ℕ) (t : State) → state_at k i e ≡ Some t
+    → S (on && reach_at k i e) t
+
+-- and of each but the one at a path
+abbrev pub Others : (Bool → State → Type 0) → Ports → ℕ → List ℕ → Type 0
+Others S k j p = (i : ℕ) (e : List ℕ) (t : State) → (same_number i j && same_path e p) ≡ false
+    → state_at k i e ≡ Some t → S (reach_at k i e) t
+
+-- what is so of a tree and a path in it, at the device there, and on past a port, a device above it
+-- and a device before it
+pub record AlongWay (S : Bool → State → Type 0) (P : Bool → Ports → ℕ → List ℕ → Type 0) : Type 0
+  where
+    pub here : (deep : Bool) (b : PortState) (s : State) (a k : Ports) → b.enable ≡ true
+        → Each S true a → Each S true k → P deep (taken b s a k) zero []
+    pub below : (deep : Bool) (b : PortState) (s : State) (a k : Ports) (j : ℕ) (p : List ℕ)
+        → b.enable ≡ true → S true s → Each S true k → P true a j p
+        → P deep (taken b s a k) zero (suc j ∷ p)
+    pub past_port : (deep : Bool) (b : PortState) (k : Ports) (j : ℕ) (p : List ℕ) → P deep k j p
+        → P deep (vacant b k) (suc j) p
+    pub past_device : (deep : Bool) (b : PortState) (s : State) (a k : Ports) (j : ℕ) (p : List ℕ)
+        → S b.enable s → Each S b.enable a → P deep k j p → P deep (taken b s a k) (suc j) p
+
+pub along_way : {S : Bool → State → Type 0} {P : Bool → Ports → ℕ → List ℕ → Type 0}
+    → AlongWay S P → (deep : Bool) (k : Ports) (j : ℕ) (p : List ℕ) → reach_at k j p ≡ true
+    → Others S k j p → P deep k j p
+unfolding state_at reach_at
+along_way l deep (vacant b k) (suc j) p h c =
+    l.past_port deep b k j p (along_way l deep k j p h (λ i e. c (suc i) e))
+along_way {S} {P} l deep (taken b s a k) zero [] h c =
+    l.here deep b s a k h
+    (λ i e t f. subst (λ x. S (x && reach_at a i e) t) h (c zero (suc i ∷ e) t refl f))
+    (λ i e t f. c (suc i) e t refl f)
+along_way {S} {P} l deep (taken b s a k) zero (suc j ∷ p) h c =
+    let on : _ = both b.enable (reach_at a j p) h in
+    l.below deep b s a k j p on.0 (subst (λ x. S x s) on.0 (c zero [] s refl refl))
+    (λ i e t f. c (suc i) e t refl f)
+    (along_way l true a j p on.1
+    (λ i e t d f. subst (λ x. S (x && reach_at a i e) t) on.0 (c zero (suc i ∷ e) t d f)))
+along_way l deep (taken b s a k) (suc j) p h c =
+    l.past_device deep b s a k j p (c zero [] s refl refl)
+    (λ i e t f. c zero (suc i ∷ e) t refl f) (along_way l deep k j p h (λ i e. c (suc i) e))
+along_way l deep k j p h c = false_true h
+
+-- Between attempts nothing is remembered: so an attempt concerns the device at its address alone.
 
 -- a device's answer
 abbrev pub answer_at : Sent → Bool → Option Place → List Answer

@@ -27,12 +27,11 @@ use Rattle.usb_world.specs.declared.types.Outcome.TheVariants as outcome
 use Rattle.usb_world.specs.declared.exchange.ExchangeAnswer.TheVariants.{Nothing}
 use Rattle.usb_tree.specs.{address_of, after_sent, answers_to, heard_by, deep_at, IsSettled}
 use Rattle.usb_tree.specs.{NobodyHolds, OneHolds, Found}
-use Rattle.usb_world.proofs.packets.AttemptPackets.{CalmOut, token_out as token_calm}
-use Rattle.usb_world.proofs.packets.AttemptPackets.{ack_out as ack_calm}
+use Rattle.usb_world.proofs.packets.Packets.{CalmOut, calm_token as token_calm}
+use Rattle.usb_world.proofs.packets.Packets.{calm_ack as ack_calm, stands, state_stands}
 use Rattle.std.proofs.lemmas.Option.{same_Some}
 use Rattle.usb_world.proofs.holders.OneDevice.{settled_memory, nobody_answers, one_device}
 use Rattle.usb_world.proofs.holders.OneDevice.{answers_at, place_after, OneActs, step_in}
-use Rattle.usb_world.proofs.packets.PacketEffects.{stands, state_stands}
 use Rattle.usb_world.proofs.courses.Courses.{goes}
 
 -- what a device that stands deep or not, with these ports, makes of an attempt with it alone

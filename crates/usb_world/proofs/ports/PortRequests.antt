@@ -1,12 +1,12 @@
 -- What a request can ask of the ports of a device that hears it.
 use Rattle.std.proofs.Common.{◌≡◌, ℕ, suc, ◌==◌, ◌&&◌, not, nat_le, if◌then◌else◌, Bool, true}
-use Rattle.std.proofs.Common.{false, List, [], ◌∷◌, length, Option, None, Some, arith}
+use Rattle.std.proofs.Common.{false, List, [], ◌∷◌, length, Option, None, Some, arith, refl}
 use Rattle.arrayvec.specs.ArrayVec.{ArrayVec}
 use Rattle.usb_packet.specs.{Payload, Toggle, Zero}
 use Rattle.usb_request.specs.{GET_STATUS, CLEAR_FEATURE, SET_FEATURE, SET_ADDRESS, GET_DESCRIPTOR}
 use Rattle.usb_request.specs.{GET_CONFIGURATION, SET_CONFIGURATION, GET_INTERFACE, SET_INTERFACE}
 use Rattle.usb_request.specs.{DEVICE_IN, DEVICE_OUT, INTERFACE_IN, INTERFACE_OUT, ENDPOINT_IN}
-use Rattle.usb_request.specs.{ENDPOINT_OUT, HUB_IN, PORT_IN, PORT_OUT, Setup, setup_of}
+use Rattle.usb_request.specs.{ENDPOINT_OUT, HUB_IN, PORT_IN, PORT_OUT, Setup, setup_of, PORT_RESET}
 use Rattle.usb_device.specs.{ServedEndpoint, Content, Whole, Broken, Sent, Effect, Leaves, Calls}
 use Rattle.usb_device.specs.{PortsOff, Registers, RememberedPacket, Spec, Hub, Outcome, stalled}
 use Rattle.usb_device.specs.{takes_address, takes_configuration, halts, unhalts, Is, unless}
@@ -15,15 +15,16 @@ use Rattle.usb_device.specs.{asked_interface_status, asked_setting, asked_interf
 use Rattle.usb_device.specs.{asked_endpoint_status, endpoint_of, on_endpoint, asked_hub_descriptor}
 use Rattle.usb_device.specs.{port_named, told_port, asked_port_status, port_feature, outcome}
 use Rattle.usb_device.specs.{is_value, State, asks, asked_by_data, asked_by_setup}
-use Rattle.usb_device.specs.{effect_of_request, asked_by, effect_of}
-use Rattle.usb_port.specs.{PortCall, set_call, clear_call}
+use Rattle.usb_device.specs.{effect_of_request, asked_by, effect_of, Ports}
+use Rattle.usb_port.specs.{PortCall, set_call, clear_call, is_reset}
 use Rattle.usb_device.specs.declared.transfer.RememberedPacket.TheVariants.{SetupSeen}
 use Rattle.usb_device.specs.Request.{answers}
 use Rattle.usb_device.proofs.Interface.{asked_own-any}
 use Rattle.usb_world.specs.{Damage, Attempt, marked, marked_some, payload_of, payload_out}
-use Rattle.usb_world.specs.{asks_no_port}
-use Rattle.usb_tree.specs.{IfOut}
-use Rattle.usb_world.proofs.packets.PacketPlaces.{is_left}
+use Rattle.usb_world.specs.{asks_no_port, is_harmless}
+use Rattle.usb_tree.specs.{IfOut, effect_resets, resets_at}
+use Rattle.usb_world.proofs.packets.Packets.{is_left}
+use Rattle.usb_tree.proofs.Interface.{resets_if}
 
 abbrev pub payload_asks_no_port : Option (Toggle × ArrayVec ℕ) → Bool
 payload_asks_no_port None = true
@@ -167,3 +168,39 @@ payload_allowed T e a d h = grind arith
 pub payload_no_port_allows : (o : Option (Toggle × ArrayVec ℕ)) → payload_asks_no_port o ≡ true
     → PayloadAllows is_left o
 payload_no_port_allows o h = grind arith
+
+-- Setup data whose request is not PORT_RESET reset no device, whoever hears them.
+
+-- data that are no such request
+abbrev pub IsHarmlessOut : Content → Type 0
+IsHarmlessOut (Whole (Payload t bytes)) = is_harmless (setup_of bytes.items) ≡ true
+IsHarmlessOut Broken = Unit {0}
+IsHarmlessOut (Whole p) = ⊥
+
+-- no call of a reset
+abbrev no_reset : Effect → Bool
+no_reset (Calls c i) = not (is_reset c)
+no_reset e = true
+
+set_resets : (v : ℕ) (c : PortCall) → set_call v ≡ Some c → (v == PORT_RESET) ≡ false
+    → not (is_reset c) ≡ true
+set_resets v c e h = grind arith
+
+clear_resets : (v : ℕ) (c : PortCall) → clear_call v ≡ Some c → not (is_reset c) ≡ true
+clear_resets v c e = grind arith
+
+harmless_allows : (r : Setup) → is_harmless r ≡ true → Allows no_reset r
+harmless_allows r h = grind (arith, clear_resets, set_resets)
+
+harmless_out : (c : Content) → IsHarmlessOut c → AllowsOut no_reset c
+harmless_out c h = grind (arith, harmless_allows)
+
+effect_resets-none : (e : Effect) (a : Ports) (j : ℕ) (p : List ℕ) → no_reset e ≡ true
+    → effect_resets e a j p ≡ false
+effect_resets-none e a j p h = grind arith
+
+pub harmless_resets : (q : Sent) → IsHarmlessOut q.content
+    → (deep : Bool) (k : Ports) (j : ℕ) (p : List ℕ) → resets_at q deep k j p ≡ false
+harmless_resets q c deep k j p =
+    resets_if q deep k j p (λ e m r t z at dp a. effect_resets-none (effect_of q dp t) a m r
+    (sent_allowed no_reset refl q (harmless_out q.content c) dp t))

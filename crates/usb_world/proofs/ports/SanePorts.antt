@@ -157,7 +157,7 @@ ports_counted (taken b s a k) (suc i) p c z m h e = ports_counted k i p c z m h.
 ports_counted k i p c z m h e = cc
 
 -- a row has a port of each number below its length
-row_stands : (k : Ports) (m : ℕ) → m < length (row_of k) → is_some (port_at k m []) ≡ true
+pub row_stands : (k : Ports) (m : ℕ) → m < length (row_of k) → is_some (port_at k m []) ≡ true
 unfolding row_of port_at
 row_stands ended m l = absurd (omega (arith, l))
 row_stands (vacant b k) (suc m) l = row_stands k m (omega (arith, l))

@@ -19,16 +19,12 @@ use Rattle.usb_device.proofs.Interface.{one_is_held}
 use Rattle.usb_tree.specs.{after_sent, answers_to, deep_at, IsSettled, OthersForgot, Alone, AloneAt}
 use Rattle.usb_tree.specs.{IsWayTo, is_whole_tree, is_deep}
 use Rattle.usb_tree.proofs.Interface.{false_true, or_nothing}
-use Rattle.usb_world.proofs.packets.PacketEffects.{true_deep}
-use Rattle.usb_world.proofs.packets.AttemptPackets.{rested_answer}
-use Rattle.usb_world.proofs.packets.PacketWays.{clears_if}
+use Rattle.usb_world.proofs.packets.Packets.{true_deep, rested_answer, clears_if}
 use Rattle.usb_world.proofs.packets.AwaitedAcks.{rests_loss, rest_awaits}
-use Rattle.usb_world.proofs.courses.StepInvariants.{each_rests}
-use Rattle.usb_world.proofs.ways.LoneWalks.{Each, Others, along_way}
-use Rattle.usb_world.proofs.holders.OneDevice.{Resting, rest_all, rested_effect, others_rest}
-use Rattle.usb_world.proofs.holders.OneDevice.{others_forget, sent_to_one, alone_holder, alone_sent}
-use Rattle.usb_world.proofs.holders.OneDevice.{answer_at}
-use Rattle.usb_world.proofs.courses.Courses.{goes}
+use Rattle.usb_world.proofs.courses.Courses.{each_rests, goes}
+use Rattle.usb_world.proofs.holders.OneDevice.{Each, Others, along_way, Resting, rest_all}
+use Rattle.usb_world.proofs.holders.OneDevice.{rested_effect, others_rest, others_forget}
+use Rattle.usb_world.proofs.holders.OneDevice.{sent_to_one, alone_holder, alone_sent, answer_at}
 
 -- ---- the tree after the packet
 

@@ -9,10 +9,22 @@ use Rattle.usb_port.specs.{is_below as is_port_below, parent_of}
 use Rattle.usb_port.proofs.Interface.{is_below-extension, rejoined}
 use Rattle.usb_device.specs.{Spec, Ports, vacant, taken, reach, reach_at}
 use Rattle.usb_world.specs.{Action, Event, NoneNames, Undisturbed, names_path, way_of, World}
-use Rattle.usb_tree.specs.{is_way, same_number}
-use Rattle.usb_world.proofs.ports.RootResets.{same_number-is}
+use Rattle.usb_tree.specs.{is_way, same_number, same_path}
 use Rattle.usb_tree.proofs.Interface.{false_true, both, or_left, or_right, either_of, same_bools}
 use Rattle.usb_tree.proofs.Interface.{and_kept, self_number}
+
+-- Paths that are the same
+
+pub same_number-is : (i j : ℕ) → same_number i j ≡ true → j ≡ i
+same_number-is zero zero h = refl
+same_number-is (suc i) (suc j) h = ap suc (same_number-is i j h)
+same_number-is n x h = false_true h
+
+pub same_is : (p q : List ℕ) → same_path p q ≡ true → q ≡ p
+same_is [] [] h = refl
+same_is (m ∷ p) (n ∷ q) h = let x : _ = both (same_number m n) (same_path p q) h in
+    rw (same_number-is m n x.0, same_is p q x.1) refl
+same_is p x h = false_true h
 
 -- a way goes on to the path
 pub way_rest : (p x : List ℕ) → is_way p x ≡ true → (rest : List ℕ) × (x ≡ p ++ rest)

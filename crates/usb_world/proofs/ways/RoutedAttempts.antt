@@ -1,39 +1,223 @@
--- An attempt of which nothing is damaged, at the one device that it is for and on one way down the
--- tree, is the attempt in the whole tree.
+-- An attempt that goes straight to the one device that it is for.
+use Rattle.usb_world.proofs.holders.OneDevice.{IsFull, reach-full, full_state, step_in, sent_to_one}
+use Rattle.usb_world.proofs.holders.OneDevice.{sent_place, end_is, all_is, others_rest}
+use Rattle.usb_world.proofs.holders.OneDevice.{others_forget, alone_sent, second_alone, third_alone}
+use Rattle.usb_world.proofs.holders.OneDevice.{last_alone}
+use Rattle.std.proofs.Common.{arith, ◌≡◌, ℕ, zero, suc, Bool, true, false, List, [], ◌∷◌, ◌++◌}
+use Rattle.std.proofs.Common.{Option, None, Some, is_some, option_map, IsSome, nat_eq, refl, ap}
+use Rattle.std.proofs.Common.{sym, subst, ◌∙◌, ◌+◌, ◌&&◌, if◌then◌else◌, ap₂}
+use Rattle.std.proofs.lemmas.Option.{same_Some}
+use Rattle.std.specs.Option.{option_eq}
+use Rattle.arrayvec.specs.ArrayVec.{ArrayVec}
+use Rattle.usb_port.specs.{PortState}
+use Rattle.usb_device.specs.{Sent, Leaves, State, Ports, full, acted, put, changed, changed_at}
+use Rattle.usb_device.specs.{changed_in, device_there, plugged_at, place_at, Location, state_at}
+use Rattle.usb_device.specs.{answer_of, all_forgotten, reached, all_reached, ReachedSame}
+use Rattle.usb_device.specs.{keeps_others, IsIndexOf, IsIndexWithout, forgotten_in, address_by}
+use Rattle.usb_device.specs.{Place, HostSide, DeviceSide, Heard, Plugged, taken_sent, heard_of}
+use Rattle.usb_device.specs.{heard_from, both, has_loss, asks_clearing, RefusedBy, token_sent}
+use Rattle.usb_device.specs.{ack_sent, after_packet_at, answer_from, asked_from, RefusedFrom}
+use Rattle.usb_device.specs.{takes_data, after_token, after_data, heard_of_both, acknowledges}
+use Rattle.usb_device.specs.{after_reply, side_of, heard_at, side_at, RefusedAt, left_in, cut_in}
+use Rattle.usb_device.specs.declared.holders.Holders.{Holders}
+use Rattle.usb_device.proofs.Interface.{changed_at-port, changed_at-twice, changed_at-zero}
+use Rattle.usb_device.proofs.Interface.{index_around, reached-acted, reached-both, same_index}
+use Rattle.usb_device.proofs.Interface.{heard_of-append}
+use Rattle.usb_world.specs.{Attempt, Damage, token_out, payload_out, reply_out, ended_in, ports_in}
+use Rattle.usb_world.specs.{Exchange, Whole, Outgoing, harm_to, mark_of, is_read, marked}
+use Rattle.usb_world.specs.{marked_some, ack_if, token_of, payload_of, answer_place, reply_of}
+use Rattle.usb_world.specs.{goes_out, heard_in, place_of_answer, mark_in, reply_in, answered_in}
+use Rattle.usb_world.specs.{is_lost, lost_in, clears_at, cleared_in, exchange_in, StaysPlugged}
+use Rattle.usb_world.specs.{Exchanged, IsStopped, heard_above, host_side, keeps_address, IsCut}
+use Rattle.usb_tree.specs.{address_of, after_sent, deep_at, IsSettled, Alone, is_whole_tree}
+use Rattle.usb_tree.specs.{IsWayTo, without_port, IsQuiet, KeptAt, answers_to, AloneAt, is_deep}
+use Rattle.usb_tree.proofs.Interface.{false_true, equal_same, both as both_true}
+use Rattle.usb_world.proofs.packets.Packets.{calm_token as token_calm, calm_ack as ack_calm}
+use Rattle.usb_world.proofs.holders.HolderPorts.{calm_asked}
+use Rattle.usb_world.proofs.holders.OneHolder.{asked_of}
+use Rattle.usb_world.proofs.ports.PortCalls.{place_at-changed, changed_at-there}
+use Rattle.usb_world.proofs.ways.Routes.{plugged_on, plugged_place, alone_token, heard_place_by}
+use Rattle.usb_world.proofs.ways.Routes.{others_clear, others_loss, others_stop, loss_by}
+use Rattle.usb_world.proofs.courses.Courses.{goes}
 use Rattle.usb_world.proofs.attempts.Exchanges.{after_sent-plugged, heard_all_of, plugged_further}
 use Rattle.usb_world.proofs.attempts.Exchanges.{over_plugged, over_settled}
 use Rattle.usb_world.proofs.holders.OneHolderAttempts.{sound_answer}
-use Rattle.usb_world.proofs.ways.WayChanges.{changed_at-there}
-use Rattle.std.proofs.Common.{arith, ◌≡◌, ℕ, zero, suc, ◌+◌, ◌&&◌, if◌then◌else◌, Bool, true, false}
-use Rattle.std.proofs.Common.{List, [], ◌∷◌, ◌++◌, Option, None, Some, option_map, nat_eq, refl, ap}
-use Rattle.std.proofs.Common.{ap₂, sym, subst, ◌∙◌}
-use Rattle.std.specs.Option.{option_eq}
-use Rattle.usb_port.specs.{PortState}
-use Rattle.usb_device.specs.{HostSide, DeviceSide, Heard, Sent, Ports, Plugged, full, changed_at}
-use Rattle.usb_device.specs.{changed, plugged_at, device_there, place_at, taken_sent, all_forgotten}
-use Rattle.usb_device.specs.{heard_of, heard_from, both, has_loss, asks_clearing, keeps_others}
-use Rattle.usb_device.specs.{RefusedBy, forgotten_in, address_by, token_sent, ack_sent}
-use Rattle.usb_device.specs.{after_packet_at, answer_from, asked_from, RefusedFrom, takes_data}
-use Rattle.usb_device.specs.{after_token, after_data, heard_of_both, acknowledges, after_reply}
-use Rattle.usb_device.specs.{side_of, heard_at, side_at, RefusedAt, left_in, cut_in, Place}
-use Rattle.usb_device.specs.{Location}
-use Rattle.usb_device.proofs.Interface.{changed_at-twice, heard_of-append}
-use Rattle.usb_world.specs.{Attempt, Exchange, Whole, Outgoing, harm_to, mark_of, is_read, marked}
-use Rattle.usb_world.specs.{marked_some, ack_if, token_of, payload_of, answer_place, reply_of}
-use Rattle.usb_world.specs.{goes_out, token_out, payload_out, heard_in, place_of_answer, mark_in}
-use Rattle.usb_world.specs.{reply_in, reply_out, answered_in, is_lost, lost_in, clears_at}
-use Rattle.usb_world.specs.{cleared_in, exchange_in, ended_in, ports_in, StaysPlugged, Exchanged}
-use Rattle.usb_world.specs.{IsStopped, heard_above, host_side, keeps_address, IsCut}
-use Rattle.usb_tree.specs.{IsSettled, after_sent, answers_to, deep_at, Alone, AloneAt, IsQuiet}
-use Rattle.usb_tree.specs.{KeptAt, is_whole_tree, is_deep}
-use Rattle.usb_tree.proofs.Interface.{false_true, both as both_true}
-use Rattle.usb_world.proofs.courses.Courses.{goes}
-use Rattle.usb_world.proofs.holders.OneDevice.{step_in, sent_to_one, sent_place, others_rest}
-use Rattle.usb_world.proofs.holders.OneDevice.{others_forget, alone_sent, second_alone, third_alone}
-use Rattle.usb_world.proofs.holders.OneDevice.{last_alone}
-use Rattle.usb_world.proofs.ways.Routes.{plugged_on, plugged_place, heard_place_by, others_clear}
-use Rattle.usb_world.proofs.ways.Routes.{others_loss, others_stop, loss_by}
-use Rattle.usb_world.proofs.ways.RoutesKept.{till_end, left_is, here, kept_at}
+
+-- An attempt that goes straight to one device: whose addresses stay.
+
+-- a device with another state of the same address, and ports below which the same devices are
+-- reached, without what is on one of them
+same_there : (port : ℕ) (b : PortState) (s sent_token : State) (a c : Ports)
+    → sent_token.registers.address ≡ s.registers.address
+    → ((w : Option (ArrayVec ℕ)) (n : ℕ) → reached w n (changed (put None) c (port ∷ []))
+    ≡ reached w n (changed (put None) a (port ∷ [])))
+    → ReachedSame (changed_in (put None) (full b sent_token c) (port ∷ []))
+    (changed_in (put None) (full b s a) (port ∷ []))
+unfolding reached
+same_there port b s sent_token a c e h = grind arith
+
+-- ---- one packet
+
+abbrev own_after : Option Sent → Bool → State → Ports → State
+own_after None deep_here s a = s
+own_after (Some sent_data) deep_here s a = (answer_of sent_data deep_here s a).1
+
+step_calm : (o : Option Sent) (deep_here : Bool) (b : PortState) (s : State) (a : Ports)
+    → asked_of o deep_here s ≡ Leaves → step_in o deep_here (full b s a) ≡ full b (own_after o deep_here s a) a
+step_calm o deep_here b s a h = grind arith
+
+step_in-full : (o : Option Sent) (deep_here : Bool) (b : PortState) (s : State) (a : Ports)
+    → step_in o deep_here (full b s a) ≡ full b (own_after o deep_here s a) (acted (asked_of o deep_here s) a)
+step_in-full o deep_here b s a = grind arith
+
+quiet_keeps_others : (port : ℕ) (o : Option Sent) (k : Ports) (j : ℕ) (p : List ℕ) (b : PortState)
+    (s : State) (a : Ports) → IsQuiet port o k (suc j ∷ p) → place_at k j p ≡ Some (full b s a)
+    → keeps_others port (asked_of o (deep_at false p) s) ≡ true
+quiet_keeps_others port None k j p b s a h e = refl
+quiet_keeps_others port (Some sent_data) k j p b s a h e =
+    grind (arith, plugged_place k j p)
+
+-- ---- an attempt
+
+module _ (a : Attempt) (d : Option Damage) (k : Ports) (j : ℕ) (p : List ℕ)
+    (one : Alone (token_out a d) k (record { row = j; rest = p })) where
+  abbrev deep_here : Bool
+  deep_here = deep_at false p
+
+  abbrev sent_token : Option Sent
+  sent_token = token_out a d
+
+  abbrev sent_data : Option Sent
+  sent_data = payload_out a d
+
+  abbrev sent_reply : Option Sent
+  sent_reply = reply_out a d k
+
+  abbrev x : Location
+  x = record { row = j; rest = p }
+
+  abbrev pub till_end : Place → Place
+  till_end x = step_in sent_reply deep_here (step_in sent_data deep_here (step_in sent_token deep_here x))
+
+  pub here : IsFull (place_at k j p)
+  here = reach-full k j p one.on
+
+  pub left_is : ports_in a d k ≡ changed_at (λ y. forgotten_in (till_end y)) k j p
+  unfolding ports_in
+  left_is = all_is a.addr sent_token sent_data sent_reply (goes a d k) k x one
+
+  abbrev first : State
+  first = own_after sent_token deep_here here.own here.below
+
+  abbrev second : State
+  second = own_after sent_data deep_here first here.below
+
+  abbrev below_then : Ports
+  below_then = acted (asked_of sent_data deep_here first) here.below
+
+  abbrev third : State
+  third = own_after sent_reply deep_here second below_then
+
+  first_place : step_in sent_token deep_here (full here.port here.own here.below)
+      ≡ full here.port first here.below
+  first_place = step_calm sent_token deep_here here.port here.own here.below
+      (calm_asked sent_token (token_calm a.addr sent_token (goes a d k).token) deep_here here.own)
+
+  first_stands : place_at (after_sent sent_token k) j p ≡ Some (full here.port first here.below)
+  first_stands = sent_place (sent_to_one sent_token k x one) ∙ ap (option_map (step_in sent_token deep_here)) here.at
+      ∙ ap (λ x. Some x) first_place
+
+  end_place : till_end (full here.port here.own here.below) ≡ full here.port third below_then
+  end_place = grind (arith, ack_calm, calm_asked, first_place, goes, step_calm, step_in-full)
+
+  end_stands : place_at (ended_in a d k) j p ≡ Some (full here.port third below_then)
+  end_stands = ap (λ y. place_at y j p) (end_is a.addr sent_token sent_data sent_reply (goes a d k) k x one)
+      ∙ place_at-changed till_end k j p ∙ ap (option_map till_end) here.at
+      ∙ ap (λ x. Some x) end_place
+
+  module _ (at : option_map address_of (state_at k j p) ≡ Some a.addr) where
+    here_address : here.own.registers.address ≡ a.addr
+    here_address = same_Some _ a.addr
+        (sym (ap (option_map address_of) (full_state k j p here)) ∙ at)
+
+    module _ (port : ℕ) (quiet : IsQuiet port sent_data (after_sent sent_token k) (suc j ∷ p)) where
+      abbrev without : Place → Place
+      without x = changed_in (put None) x (port ∷ [])
+
+      below_same : (w : Option (ArrayVec ℕ)) (n : ℕ)
+          → reached w n (changed (put None) below_then (port ∷ []))
+          ≡ reached w n (changed (put None) here.below (port ∷ []))
+      below_same = grind (arith, asked_of, first_stands, quiet_keeps_others, reached-acted)
+
+      left_same : (x : Place) → x ≡ full here.port here.own here.below
+          → third.registers.address ≡ here.own.registers.address
+          → ReachedSame (without (forgotten_in (till_end x))) (without x)
+      left_same x is e = grind (arith, below_same, end_place, same_there)
+
+      addresses_stay : address_by (plugged_at (ended_in a d k) j p) ≡ Some a.addr
+          → all_reached (without_port port (ports_in a d k) (suc j ∷ p))
+          ≡ all_reached (without_port port k (suc j ∷ p))
+      addresses_stay e =
+          let address : third.registers.address ≡ a.addr =
+          same_Some _ a.addr (sym (ap (λ x. address_by (plugged_on x)) end_stands)
+          ∙ ap address_by (plugged_place (ended_in a d k) j p) ∙ e) in
+          ap all_reached
+          (changed_at-port (put None) (ports_in a d k) j p port
+          ∙ ap (λ y. changed_at without y j p) left_is
+          ∙ changed_at-twice without (λ x. forgotten_in (till_end x)) k j p)
+          ∙ reached-both (λ x. without (forgotten_in (till_end x))) without _ 1 k j p
+          (λ x at. left_same x (same_Some x _ (sym at ∙ here.at))
+          (address ∙ sym here_address))
+          ∙ sym (ap all_reached (changed_at-port (put None) k j p port))
+
+-- where what was asked of ports keeps who is reached, and the device has the address still
+held_still : (port : ℕ) (a : Attempt) (d : Option Damage) (k : Ports) (p : List ℕ)
+    → IsQuiet port (payload_out a d) (after_sent (token_out a d) k) p
+    → address_by (device_there (ended_in a d k) p) ≡ Some a.addr
+    → KeptAt a.addr port k (ports_in a d k) p
+held_still port a d k (suc j ∷ p) sent_data e =
+    λ settled o. addresses_stay a d k j p (alone_token a d k (suc j ∷ p) settled o) o.at port sent_data e
+held_still port a d k p sent_data e = false_true (ap is_some e)
+
+-- the same, of what the code tells: the address that is left there is the attempt's
+pub kept_at : (port : ℕ) (a : Attempt) (d : Option Damage) (k m n : Ports) (p : List ℕ)
+    (left : Option ℕ) → option_eq nat_eq left (Some a.addr) ≡ true
+    → IsQuiet port (payload_out a d) (after_sent (token_out a d) k) p → m ≡ ended_in a d k
+    → n ≡ all_forgotten m → (IsSome left → left ≡ address_by (device_there m p))
+    → KeptAt a.addr port k n p
+unfolding ports_in
+kept_at port a d k m n p left same asks e over at = grind (arith, equal_same, held_still)
+
+-- the index of the tree then
+pub index_kept : (n : ℕ) (h : Holders) (k m : Ports) (p : List ℕ) → IsSettled k → IsWayTo n k p
+    → KeptAt n 0 k m p → IsIndexOf h k → IsIndexOf h m
+index_kept n h k m (suc j ∷ p) s w kept is =
+    same_index h k m
+    (ap all_reached (sym (changed_at-zero (put None) m j p)) ∙ kept s w
+    ∙ ap all_reached (changed_at-zero (put None) k j p)) is
+index_kept n h k m p s w kept is = absurd kept
+
+-- the index without what is on a port of the device
+pub index_port : (n port : ℕ) (h : Holders) (k m : Ports) (p l : List ℕ) → l ≡ p ++ port ∷ []
+    → IsSettled k → IsWayTo n k p → KeptAt n port k m p → IsIndexWithout h k l
+    → IsIndexWithout h m l
+index_port n port h k m (suc j ∷ p) l e s w kept is =
+    subst (λ x. IsIndexWithout h m x) (sym e)
+    (same_index h _ _ (kept s w)
+    (subst (λ x. IsIndexWithout h k x) e is))
+index_port n port h k m p l e s w kept is = absurd kept
+
+-- an attempt changes nothing but the device at its way, with what is below
+pub index_beside : (a : Attempt) (d : Option Damage) (h : Holders) (k m : Ports) (p : List ℕ)
+    → is_whole_tree p ≡ false → IsSettled k → IsWayTo a.addr k p → m ≡ ports_in a d k
+    → IsIndexWithout h k p → IsIndexWithout h m p
+index_beside a d h k m [] f s w e is = false_true (sym f)
+index_beside a d h k m (zero ∷ p) f s w e is = absurd w
+index_beside a d h k m (suc j ∷ p) f s w e is =
+    index_around h _ k m (suc j ∷ p) (e ∙ left_is a d k j p (alone_token a d k (suc j ∷ p) s w)) is
+
+-- An attempt of which nothing is damaged, at the one device that it is for and on one way down the
+-- tree, is the attempt in the whole tree.
 
 -- ---- one packet at the device
 
