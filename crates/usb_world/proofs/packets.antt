@@ -1,4 +1,4 @@
 -- What packets leave.
 pub mod AwaitedAcks
-pub mod MildPackets
+pub mod RefusedPackets
 pub mod Packets

@@ -1,9 +1,8 @@
 -- What an attempt counts of address losses.
 use Rattle.std.proofs.Common.{◌≡◌, ◌&&◌, not, Bool, true, false, List, Option, None, Some}
-use Rattle.std.proofs.Common.{option_map, is_some, ap, sym, subst, ◌∙◌, arith, ◌≢◌, inl, inr, ℕ}
-use Rattle.std.proofs.Common.{◌==◌, if◌then◌else◌, [], refl, ap₂, ◌+◌, ◌*◌, ◌<◌, ◌≤◌, nat_lt, ◌∷◌}
-use Rattle.std.proofs.Common.{length, length-append, drop, drop-cons, get_or, add-one}
-use Rattle.std.proofs.Common.{drop_of_length-le}
+use Rattle.std.proofs.Common.{option_map, is_some, ap, sym, subst, ◌∙◌, arith, ◌≢◌, ℕ, ◌==◌}
+use Rattle.std.proofs.Common.{if◌then◌else◌, [], refl, ap₂, ◌+◌, ◌*◌, ◌<◌, ◌≤◌, nat_lt, ◌∷◌, length}
+use Rattle.std.proofs.Common.{length-append, drop, drop-cons, get_or, add-one, drop_of_length-le}
 use Rattle.usb_port.specs.{PortState}
 use Rattle.usb_device.specs.{Content, Sent, State, Reply, awaits_address, is_whole, through, Ports}
 use Rattle.usb_device.specs.{full, row_of, place_at, has_loss, Effect, Is, ending, received, unread}
@@ -32,8 +31,7 @@ use Rattle.usb_world.proofs.attempts.Exchanges.{brings, acks}
 use Rattle.usb_world.proofs.ways.Routes.{loss_by, plugged_on, plugged_place, others_loss}
 use Rattle.std.proofs.lemmas.Option.{same_Some}
 use Rattle.usb_request.specs.{CLEAR_FEATURE, PORT_OUT, C_PORT_CONNECTION, Setup, setup_of}
-use Rattle.usb_packet.specs.{Token, Toggle, One, InTok, SetupTok, Packet, Sof, Payload, Spells}
-use Rattle.usb_packet.specs.{Follows}
+use Rattle.usb_packet.specs.{Token, Toggle, One, InTok, SetupTok, Packet, Spells, Follows}
 use Rattle.usb_world.specs.declared.types.Outcome.TheVariants as outcome
 use Rattle.usb_tree.proofs.Interface.{false_true, not-true, decided, and_none, unequal, if-true}
 use Rattle.usb_tree.proofs.Interface.{if-false}
@@ -47,7 +45,6 @@ use Rattle.usb_world.proofs.ports.PortRequests.{sent_allowed}
 use Rattle.usb_device.proofs.Interface.{same_number}
 use Rattle.std.proofs.lemmas.Bool.Decides.{nat_tests}
 use Rattle.std.proofs.lemmas.Bool.{ltb-true, eq-eqb}
-use Rattle.usb_check.specs.{low_bits, generator5, generator16}
 use Rattle.usb_check.proofs.Interface.{length-bits_of_bytes, length-low_bits}
 use Rattle.usb_world.specs.declared.losses.Losses.{Losses}
 use Rattle.usb_packet.proofs.Interface.{carried}
@@ -64,7 +61,7 @@ if_out P Q f o h = grind arith
 read_out : (o : Option Sent) → IfOut IsAckOut o → IfOut IsAckOut (readable o)
 read_out o h = grind arith
 
-pub no_control_in_unlost : (a : Attempt) (d : Option Damage) (k : Ports)
+no_control_in_unlost : (a : Attempt) (d : Option Damage) (k : Ports)
     → IsNoControlIn (token_of a) → IsSettled k → lost_in a d k ≡ false
 unfolding lost_in marked
 no_control_in_unlost a d k c s =
@@ -88,7 +85,7 @@ unfolding lost_in marked_some marked mark_of harm_to token_of
 in_unlost a k none s =
     grind (arith, acked_loss, acks, brings, no_payload, rests, rests_loss, whole_packet)
 
-pub lost_in-none : (a : Attempt) (k : Ports) → IsAttempt a → IsSettled k → lost_in a None k ≡ false
+lost_in-none : (a : Attempt) (k : Ports) → IsAttempt a → IsSettled k → lost_in a None k ≡ false
 unfolding token_of
 lost_in-none a k is s = grind (arith, in_unlost, no_control_in_unlost, none_is)
 
@@ -124,10 +121,7 @@ module _ (a : Attempt) (d : Option Damage) (k : Ports) (h : Holder a.addr k) (in
       (goes a d k).token k h.spot h.settled (holder_holds a.addr k h))
 
   stands_now : place_at now j p ≡ Some (full b asked.1 below_now)
-  stands_now =
-      sent_place first ∙ ap (option_map (step_in (token_out a d) deep)) h.stands
-      ∙ ap (λ x. Some x) (sent_stands deep b (token_out a d) s below)
-      ∙ ap (λ r. Some (full b r.1 below_now)) (token_comes a d deep s (row_of below))
+  stands_now = grind (arith, first, sent_place, sent_stands, step_in, token_comes)
 
   ack_left : (o : Option Sent) → IfOut IsAckOut o
       → has_loss (after_sent o now) ≡ awaits_address (heard_by o deep asked.1 (row_of below_now)).1
@@ -142,7 +136,7 @@ module _ (a : Attempt) (d : Option Damage) (k : Ports) (h : Holder a.addr k) (in
       ∙ ap plugged_on (sent_place z ∙ ap (option_map (step_in o deep)) stands_now
       ∙ ap (λ x. Some x) (sent_stands deep b o asked.1 below_now)))
 
-  pub holder_loss : s.spec.silent ≡ false → lost_in a d k ≡ (is_some (reply_in a d k) &&
+  holder_loss : s.spec.silent ≡ false → lost_in a d k ≡ (is_some (reply_in a d k) &&
       (awaits_address asked.1 && not (is_whole (reply_way a d k deep s))))
   unfolding lost_in
   holder_loss loud =
@@ -212,7 +206,7 @@ set_up_counts a bytes kind payload h w m =
     (subst (PayloadAllows unclearing) (sym payload) (unclearing_allows (setup_of bytes) h))) _)
 
 -- where the host got no data
-pub quiet_counts : (a : Attempt) → IsIn a → (w : World) → IsMade a w
+quiet_counts : (a : Attempt) → IsIn a → (w : World) → IsMade a w
     → brings (outcome_in a w) ≡ false → CountsNone a w
 unfolding outcome_in lost_in marked_some
 quiet_counts a i w m h = grind (arith, acks, in_clears, losses_as)
@@ -232,7 +226,7 @@ status_awaits : (n : ℕ) (s : State) (row : List PortState) → s.spec.silent �
     → is_busy s ≡ false → s.stage ≡ ending (Some n)
     → awaits_address (received s row (Token InTok s.registers.address 0)).1 ≡ true
 unfolding received awaits_address
-status_awaits n s row loud free stage = rw (loud, same_number s.registers.address, free, stage) refl
+status_awaits n s row loud free stage = grind (arith, same_number)
 
 -- one whose status stage gives an address: the host got it, and the device saw the ACK or is as it
 -- was; or it got no data
@@ -281,10 +275,10 @@ module _ (a : Attempt) (w : World) (into : IsIn a) (zeroth : a.ep ≡ 0) (h : Ho
     (v : State) (there : state_on (after (attempt a) w).roots h.spot ≡ Some v) where
   open h use {spot.{rest as p}, own as s, below}
 
-  abbrev d : Option Damage
+  abbrev pub d : Option Damage
   d = damage_in (at_attempt w)
 
-  abbrev k : Ports
+  abbrev pub k : Ports
   k = (at_attempt w).roots
 
   abbrev token : Way
@@ -355,24 +349,7 @@ module _ (a : Attempt) (w : World) (into : IsIn a) (zeroth : a.ep ≡ 0) (h : Ho
             ∙ r) (quiet_counts a into w h.made none)
 
   holder_counts : Counts a w s v
-  holder_counts = elim (decided s.spec.silent) [
-    | inl silent ↦ same (silent_in a w h silent)
-    | inr loud ↦ loud_counts loud
-  ]
-    where
-      same : ExchangedIn a w h (None, s) → Counts a w s v
-      same x =
-          let e : v ≡ s = same_Some v s (sym there ∙ x.state) in
-          let none : CountsNone a w = quiet_counts a into w h.made (ap brings x.outcome) in
-          record {
-            none = λ f. (
-              (ap (λ y. ends_with_address y.stage) e ∙ f, ap (λ y. y.registers) e),
-              none,
-            );
-            ends =
-                λ n stage. got_none (ap brings x.outcome) (ap (λ y. y.stage) e)
-                (ap (λ y. y.registers) e) none;
-          }
+  holder_counts = grind (arith, brings, decided, loud_counts, quiet_counts, same_Some, silent_in)
 
 pub each_counts : (a : Attempt) (w : World) → IsMade a w → IsIn a → a.ep ≡ 0
     → (after (attempt a) w).shared ≡ false → EachWas (λ j s v. (address_of s == a.addr) ≡ true
@@ -388,24 +365,10 @@ each_counts a w m i zeroth single =
 
 follows_bits : (p : Packet) (rest : List ℕ) → Follows p rest → bit_count p ≡ 8 + 8 * length rest
 unfolding bit_count
-follows_bits (Token kind addr ep) rest f =
-    let n = carried generator5 _ rest f in
-    let m = length-append (low_bits 7 addr) (low_bits 4 ep) in
-    let a = length-low_bits 7 addr in
-    let b = length-low_bits 4 ep in
-    omega (arith, n, m, a, b)
-follows_bits (Sof frame) rest f =
-    let n = carried generator5 _ rest f in
-    let m = length-low_bits 11 frame in
-    omega (arith, n, m)
-follows_bits (Payload toggle bytes) rest f =
-    let n = carried generator16 _ rest f in
-    let m = length-bits_of_bytes bytes.items in
-    omega (arith, n, m)
-follows_bits _ rest f = let n : length rest ≡ 0 = ap length f in omega (arith, n)
+follows_bits p rest f = grind (arith, carried, length-append, length-bits_of_bytes, length-low_bits)
 
 -- a packet has eight bits for each byte that spells it
-pub spelled_bits : (bytes : List ℕ) (p : Packet) → Spells bytes p → bit_count p ≡ 8 * length bytes
+spelled_bits : (bytes : List ℕ) (p : Packet) → Spells bytes p → bit_count p ≡ 8 * length bytes
 spelled_bits bytes p h = grind (arith, follows_bits)
 
 -- a bit of the packet is a bit of its bytes
@@ -478,7 +441,7 @@ until_most [] n = omega arith
 until_most (d ∷ damages) n = let rest = until_most damages n in grind (arith, nat_tests, rest)
 
 -- an address that was lost is one more damage that is past
-pub losses_damaged : (damages : List Damage) (n : ℕ) (a : Attempt) (k : Ports) (l : Losses)
+losses_damaged : (damages : List Damage) (n : ℕ) (a : Attempt) (k : Ports) (l : Losses)
     (lost : Bool) → IsAttempt a → IsSettled k → lost ≡ lost_in a (damage_of damages (n + 1)) k
     → l.all ≤ damages_until n damages → (counted lost l).all ≤ damages_until (n + 1) damages
 unfolding one_more
@@ -514,4 +477,4 @@ losses_after damages n a k cleared lost l is settled e h =
     grind (arith, losses_cleared, losses_damaged, run_at, worst_at)
 
 pub no_losses_yet : (damages : List Damage) → AreOfDamages 0 damages no_losses
-no_losses_yet damages = record { all = omega arith; run = omega arith; worst = omega arith }
+no_losses_yet damages = grind arith

@@ -4,8 +4,7 @@ use Rattle.usb_tree.proofs.Interface.{kept_address, forgotten_address, resets_if
 use Rattle.std.proofs.Common.{◌||◌, arith, ◌≡◌, ℕ, zero, suc, ◌&&◌, inl, inr, Bool, true, false}
 use Rattle.std.proofs.Common.{List, [], ◌∷◌, ◌++◌, Option, None, Some, option_map, refl, ap, sym}
 use Rattle.std.proofs.Common.{◌∙◌, ◌==◌, if◌then◌else◌, subst}
-use Rattle.usb_packet.specs.{Packet, Token, Payload, Toggle, Zero, TokenKind, SetupTok, OutTok}
-use Rattle.usb_packet.specs.{InTok}
+use Rattle.usb_packet.specs.{Packet, Token, Payload, Toggle, TokenKind, SetupTok, OutTok, InTok}
 use Rattle.arrayvec.specs.ArrayVec.{ArrayVec}
 use Rattle.usb_port.specs.{PortState, PortCall}
 use Rattle.usb_device.specs.{Answer, Content, Whole, Broken, Sent, is_ack, State, received, unread}
@@ -15,8 +14,7 @@ use Rattle.usb_device.specs.{Place, answers, RememberedPacket, payload_row, Leav
 use Rattle.usb_device.specs.{forgotten, unless_busy, in_row, in_other_row, token_row, after_memory}
 use Rattle.usb_device.specs.{awaits_control, ends_with_address, awaits_address, asks, row_of}
 use Rattle.usb_device.specs.{reach_at, place_at, hears, asked_by, effect_of}
-use Rattle.usb_device.specs.declared.transfer.RememberedPacket.TheVariants.{SetupSeen, OutSeen}
-use Rattle.usb_device.specs.declared.transfer.RememberedPacket.TheVariants.{Nothing}
+use Rattle.usb_device.specs.declared.transfer.RememberedPacket.TheVariants.{SetupSeen, Nothing}
 use Rattle.usb_device.proofs.Interface.{keeps-received}
 use Rattle.usb_world.specs.{Damage, Attempt, BusFault, Mark, marked, marked_some, token_of}
 use Rattle.usb_world.specs.{payload_of, reply_of, sent_as, token_out, payload_out, reply_out}
@@ -84,7 +82,7 @@ attempt_address t d ct cd k j p f h =
 
 -- Where each reachable device holds an address of its own, no address is held twice
 
-pub own_not_twice : (f : List ℕ → Option ℕ) → Injective f → (w : World) → HoldsMapped f w
+own_not_twice : (f : List ℕ → Option ℕ) → Injective f → (w : World) → HoldsMapped f w
     → repeats (held_addresses w.roots) ≡ false
 own_not_twice f inj w own = elim (decided (repeats (held_addresses w.roots))) [
   | inl y ↦
@@ -105,14 +103,7 @@ StandsAfter p w v =
 
 pub stood_events : (p : List ℕ) → OverEvents (StandsAfter p)
 unfolding after_event
-stood_events p = record {
-  same = λ w on. (on, refl);
-  joined = λ w m v x y on.
-      let late : _ = y on in let early : _ = x late.0 in (early.0, late.1 ∙ early.1);
-  came = λ e es w l on.
-      let before : _ = happened_reach e.action w.devices w.roots p on in
-      (before.0, (happened_there e.action w.devices w.roots p before.1).2);
-}
+stood_events p = grind (arith, happened_reach, happened_there)
 
 pub ready_stood : (w : World) (p : List ℕ) → StandsAfter p w (at_attempt w)
 ready_stood w p = over_ready (stood_events p) w
@@ -139,18 +130,12 @@ IsSetupOut (Whole p) = ⊥
 
 no_data_payload : (s : State) (row : List PortState) (m : RememberedPacket) (t : Toggle)
     (bytes : List ℕ) → gives_no_data (payload_row s row m t bytes).0 ≡ true
-no_data_payload s row SetupSeen Zero bytes = grind arith
-no_data_payload s row (OutSeen e) t bytes = data_no_data s e t bytes
-no_data_payload s row m t bytes = refl
+no_data_payload s row m t bytes = grind (arith, data_no_data)
 
 no_data_content : (c : Content) (s : State) (row : List PortState) → IsSetupOut c
     → gives_no_data (reply_to c s row).0 ≡ true
 unfolding received IsSetupOut
-no_data_content (Whole (Token SetupTok a e)) s row h = grind arith
-no_data_content (Whole (Payload t b)) s row h =
-    grind (arith, if_no_data, no_data_payload)
-no_data_content Broken s row h = refl
-no_data_content c s row h = elim h [ ]
+no_data_content c s row h = grind (arith, if_no_data, no_data_payload)
 
 no_data_answer : (q : Sent) → IsSetupOut q.content → (deep : Bool) (s : State) (a : Ports)
     → gives_no_data (answer_of q deep s a).0 ≡ true
@@ -268,7 +253,7 @@ quiet_resets (root_call c n) w p h = grind arith
 quiet_resets s w p h = refl
 
 -- each device keeps its own address over a quiet step
-pub own_steps : (f : List ℕ → Option ℕ) → OverSteps QuietStep (Keeps (HoldsMapped f))
+own_steps : (f : List ℕ → Option ℕ) → OverSteps QuietStep (Keeps (HoldsMapped f))
 unfolding resets
 own_steps f = record {
   events = keeps_events (HoldsMapped f) (λ e es w l own p h.
@@ -314,7 +299,7 @@ step_unshared f inj s w own h = h
 
 -- What is so of a device, where one stands there
 
-abbrev pub If : (State → Type 0) → Option State → Type 0
+abbrev If : (State → Type 0) → Option State → Type 0
 If P None = Unit {0}
 If P (Some s) = P s
 
@@ -420,7 +405,7 @@ Forgot s = s.memory ≡ Nothing
 abbrev AwaitsNoAddress : State → Type 0
 AwaitsNoAddress s = awaits_address s ≡ false
 
-abbrev pub WaitsNone : State → Type 0
+abbrev WaitsNone : State → Type 0
 WaitsNone s = saw_setup s.memory ≡ false
 
 abbrev IsCalmed : State → Type 0
@@ -432,7 +417,7 @@ data_asks : (c : Content) → IsDataOut c → (s : State) → saw_setup s.memory
 unfolding asks
 data_asks c h s r = grind arith
 
-pub data_effect : (q : Sent) → IsDataOut q.content → (deep : Bool) (s : State)
+data_effect : (q : Sent) → IsDataOut q.content → (deep : Bool) (s : State)
     → saw_setup s.memory ≡ false → effect_of q deep s ≡ Leaves
 unfolding effect_of
 data_effect q c deep s r = grind (arith, data_asks)
@@ -494,7 +479,7 @@ module _ (a : Attempt) (d : Option Damage) (k : Ports) (settled : IsSettled k)
       → ((s : State) → state_at k j p ≡ Some s → s.memory ≡ Nothing → P s) → If P (state_at k j p)
   at_rest P j p c = grind (arith, settled_memory)
 
-  pub none_waits : (j : ℕ) (p : List ℕ) → If WaitsNone (state_at asked_ports j p)
+  none_waits : (j : ℕ) (p : List ℕ) → If WaitsNone (state_at asked_ports j p)
   none_waits j p =
       sent_if Forgot WaitsNone (token_out a d) k j p (token_calm j p) (λ s m. ap saw_setup m)
       (λ q deep s below e on m. (token_answer a.addr q
@@ -540,15 +525,22 @@ module _ (a : Attempt) (d : Option Damage) (k : Ports) (settled : IsSettled k)
         ≡ option_map address_of (state_at k j p)
     unfolding ports_in
     ports_address =
-        ap (option_map address_of) (forgotten_state _ j p)
-        ∙ forgotten_address _
-        ∙ kept_sent (reply_out a d k) _ j p
-        (calm_sent (reply_out a d k) (ack_out (reply_out a d k) (goes a d k).reply)
-        _ j p) awaits_none
-        ∙ kept_sent (payload_out a d) asked_ports j p (data_calm j p)
-        (calmed_awaits _ calmed)
-        ∙ kept_sent (token_out a d) k j p (token_calm j p)
-        (at_rest AwaitsNoAddress j p (λ s e m. rest_awaits s m))
+        grind (
+          arith,
+          ack_out,
+          at_rest,
+          awaits_none,
+          calm_sent,
+          calmed,
+          calmed_awaits,
+          data_calm,
+          forgotten_address,
+          forgotten_state,
+          goes,
+          kept_sent,
+          rest_awaits,
+          token_calm,
+        )
 
 -- Worlds
 

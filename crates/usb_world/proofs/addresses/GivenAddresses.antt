@@ -66,8 +66,7 @@ module _ (f : List ℕ → Option ℕ) (k : Ports) (i : ℕ) where
     new = call_new SetReset k i i [] y
 
     zero_there : option_map address_of (state_at reset_ports i []) ≡ Some 0
-    zero_there = ap (option_map address_of) (sym (state_stands reset_ports i []))
-        ∙ is_new-zero _ new
+    zero_there = grind (arith, is_new-zero, new, state_stands)
 
     elsewhere : (j : ℕ) (p : List ℕ) → same_number i j ≡ false → reach_at reset_ports j p ≡ true
         → Given j p
@@ -105,8 +104,7 @@ pub rest_own : (f : List ℕ → Option ℕ) (n : ℕ) (w : World)
     → resets (root_call SetReset n) w (n ∷ []) ≡ false → HoldsMapped f w
     → HoldsMapped f (after (root_call SetReset n) w)
 unfolding resets after
-rest_own f zero w y own p h = own p (unreset_reach (root_call SetReset zero) w p
-    (root_kept zero w.roots p y) h).0
+rest_own f zero w y own p h = grind (arith, root_kept, unreset_reach)
 rest_own f (suc i) w y own (suc j ∷ p) h =
     grind (
       arith,

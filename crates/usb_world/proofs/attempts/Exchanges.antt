@@ -96,7 +96,7 @@ pub after_sent-plugged : (o : Option Sent) (k : Ports) → StaysPlugged k (after
 after_sent-plugged o k = grind (arith, figure-after, row_of-after)
 
 pub plugged_further : (k j m : Ports) → StaysPlugged k j → StaysPlugged j m → StaysPlugged k m
-plugged_further k j m x y = record { row = y.row ∙ x.row; figure = y.figure ∙ x.figure }
+plugged_further k j m x y = grind arith
 
 -- a packet at the whole tree
 pub delivered_stays_plugged : {A E : Type 0} (r : Result A E) (q : Sent) (k m : Ports) (g h : Heard)
@@ -119,7 +119,7 @@ over_settled k m e = subst IsSettled (sym e) (after_attempt-settled None None No
 pub over_made : (a : Attempt) (d : Option Damage) (k j m : Ports) (x : Exchange)
     → m ≡ all_forgotten j → PacketsWent a d k j x → Exchanged a d k m x
 unfolding ports_in
-over_made a d k j m x e h = record { made = h.made; ports = e ∙ ap all_forgotten h.ports }
+over_made a d k j m x e h = grind arith
 
 -- what the code makes, one packet after the other
 pub record Makes (a : Attempt) (damage : Option Damage) (k : Ports) (x : Exchange) : Type 0 where
@@ -145,10 +145,10 @@ pub record Makes (a : Attempt) (damage : Option Damage) (k : Ports) (x : Exchang
 module _ (a : Attempt) (damage : Option Damage) (k : Ports) (x : Exchange) (m : Makes a damage k x)
   where
     first_is : m.first ≡ after_sent (token_out a damage) k
-    first_is = m.token_went ∙ ap (λ t. after_sent (goes_out a (Some t)) k) m.token
+    first_is = grind arith
 
     second_is : m.second ≡ answered_in a damage k
-    second_is = m.payload_went ∙ ap₂ (λ p r. after_sent (goes_out a p) r) m.payload first_is
+    second_is = grind (arith, first_is)
 
     answer_is : x.answer ≡ heard_in a damage k
     answer_is = grind arith
@@ -164,11 +164,11 @@ module _ (a : Attempt) (damage : Option Damage) (k : Ports) (x : Exchange) (m : 
     lost_is = m.lost ∙ ap₂ (λ r j. is_lost r (goes_out a r) j) reply_is second_is
 
     cleared_is : x.change_cleared ≡ cleared_in a damage k
-    cleared_is = m.cleared ∙ ap₂ (λ p j. clears_at (goes_out a p) j) m.payload first_is
+    cleared_is = grind (arith, first_is)
 
     pub made_exchange : x ≡ exchange_in a damage k
     unfolding exchange_in
     made_exchange = grind (arith, answer_is, cleared_is, lost_is, mark_is, reply_is)
 
     pub made_ports : m.third ≡ ended_in a damage k
-    made_ports = m.reply_went ∙ ap₂ (λ r j. after_sent (goes_out a r) j) reply_is second_is
+    made_ports = grind (arith, reply_is, second_is)

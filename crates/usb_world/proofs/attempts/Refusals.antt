@@ -25,7 +25,7 @@ use Rattle.usb_device.specs.declared.transfer.RememberedPacket.TheVariants.{Noth
 use Rattle.usb_world.proofs.courses.Courses.{Rests, rests, rests_settled, goes}
 use Rattle.usb_world.proofs.holders.OneDevice.{rested_effect, token_calls, payload_calls}
 use Rattle.usb_world.proofs.packets.Packets.{rested_answer}
-use Rattle.usb_world.proofs.packets.MildPackets.{is_nothing, cut_kind}
+use Rattle.usb_world.proofs.packets.RefusedPackets.{is_nothing, cut_kind}
 use Rattle.usb_world.proofs.addresses.AddressesKept.{ready_unshared, StandsAfter, stood_events}
 use Rattle.usb_world.proofs.addresses.AddressesKept.{ready_stood}
 use Rattle.usb_world.proofs.courses.LiftedSteps.{came_shared, ready_shared, attempt_cases}
@@ -108,7 +108,7 @@ over_cut a d k j m r e h = grind arith
 -- Where no address is held twice, a refused packet leaves everything as it was.
 
 -- how many devices remember something
-unfoldable pub seen : Ports → ℕ
+unfoldable seen : Ports → ℕ
 seen ended = 0
 seen (vacant b k) = seen k
 seen (taken b s a k) = one_if (not (is_nothing s.memory)) + (seen a + seen k)
@@ -185,8 +185,7 @@ stopped_same q c (behind {deep} {k} {m} b s a st) h =
     split false rest y = ap (taken b s a) rest
 stopped_same q w (below {deep} {a} {c} b s k on st) h =
     ap (λ x. taken b s x k) (stopped_same q w st (omega (arith, h)))
-stopped_same q c (here b s a k p on is heard grows) h =
-    ap (λ x. taken b s x k) (after_packet-data q c true a (omega (arith, h, grows_seen s p grows)))
+stopped_same q c (here b s a k p on is heard grows) h = grind (arith, after_packet-data, grows_seen)
 
 -- A token is remembered by those who hold its address
 
@@ -290,7 +289,7 @@ token_forgets : (a : Attempt) (d : Option Damage)
 unfolding token_of marked
 token_forgets a d c = grind (arith, sent_forgets)
 
-pub cut_alone : (a : Attempt) (d : Option Damage) (k m : Ports) → IsAttempt a → IsSettled k
+cut_alone : (a : Attempt) (d : Option Damage) (k m : Ports) → IsAttempt a → IsSettled k
     → IsCut a d k m → repeats (held_addresses k) ≡ false → m ≡ k
 cut_alone a d k m is quiet c single =
     let forgets_it : IsForgotten (content.Whole (Token a.kind a.addr a.ep)) =
@@ -381,7 +380,7 @@ module _ (a : Attempt) (w : World) (fits : IsAttempt a) (sound : w.fault ≡ Non
   limit_cut : (after (attempt a) w).shared ≡ false → AttemptCut a w (after (attempt a) w)
   limit_cut single = grind (arith, attempt_cases, each_same_roots, each_stood, made_cut, made_here)
 
-  pub cut_attempt : (f : BusFault) (v : World) → AttemptFails a w (Err f) v → v.shared ≡ false
+  cut_attempt : (f : BusFault) (v : World) → AttemptFails a w (Err f) v → v.shared ≡ false
       → AttemptCut a w v
   cut_attempt Limit v e single =
       subst (AttemptCut a w) (sym e) (limit_cut (ap (λ y. y.shared) (sym e) ∙ single))

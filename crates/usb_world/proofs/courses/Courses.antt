@@ -1,13 +1,13 @@
 -- What steps of the world, and whole courses, do to reachable, live and pending, and what is so
 -- between two of them.
-use Rattle.std.proofs.Common.{arith, ◌≡◌, ℕ, zero, suc, ◌&&◌, ◌⊎◌, inl, true, false, List, [], ◌∷◌}
-use Rattle.std.proofs.Common.{◌++◌, Option, None, Some, refl, ap, sym, subst, ◌∙◌, append_assoc}
-use Rattle.std.proofs.Common.{Bool, ◌≤◌, slice_get, All}
+use Rattle.std.proofs.Common.{arith, ◌≡◌, ℕ, zero, suc, ◌&&◌, ◌⊎◌, true, false, List, [], ◌∷◌, ◌++◌}
+use Rattle.std.proofs.Common.{Option, None, Some, refl, ap, sym, ◌∙◌, append_assoc, Bool, ◌≤◌}
+use Rattle.std.proofs.Common.{slice_get, All}
 use Rattle.usb_port.specs.{PortCall}
 use Rattle.usb_device.specs.{Whole, Spec, Ports, called, changed, reach, place, State, state_at}
-use Rattle.usb_device.specs.{Hub, IsSpec, RememberedPacket, fresh, reset_state, ended, vacant}
-use Rattle.usb_device.specs.{taken, empty, full, before, new_ports, first_ports, all_off}
-use Rattle.usb_device.specs.{changed_at, replaced, all_forgotten, Place}
+use Rattle.usb_device.specs.{Hub, IsSpec, fresh, reset_state, ended, vacant, taken, empty, full}
+use Rattle.usb_device.specs.{before, new_ports, first_ports, all_off, changed_at, replaced}
+use Rattle.usb_device.specs.{all_forgotten, Place}
 use Rattle.usb_packet.specs.{Packet}
 use Rattle.usb_world.specs.{Damage, Event, Action, ExchangeAnswer, Attempt, Mark, marked}
 use Rattle.usb_world.specs.{marked_some, token_of, payload_of, reply_of, goes_out, token_out}
@@ -39,24 +39,18 @@ use Rattle.usb_world.proofs.ports.SanePorts.{sane_path, sane_new_ports, sane_cal
 
 -- Undisturbed
 
-pub undisturbed_here : (w v : World) (p : List ℕ) → w.left ≡ v.left → v.devices ≡ w.devices
+undisturbed_here : (w v : World) (p : List ℕ) → w.left ≡ v.left → v.devices ≡ w.devices
     → Undisturbed w v p
-undisturbed_here w v p e d = record { events = []; split = e; silent = tt; devices = d }
+undisturbed_here w v p e d = grind arith
 
 none_append : (d : List Spec) (a b : List Event) (p : List ℕ) → NoneNames d a p → NoneNames d b p
     → NoneNames d (a ++ b) p
 none_append d [] b p h g = g
 none_append d (x ∷ a) b p h g = (h.0, none_append d a b p h.1 g)
 
-pub undisturbed_on : (w v u : World) (p : List ℕ) → Undisturbed w v p → Undisturbed v u p
+undisturbed_on : (w v u : World) (p : List ℕ) → Undisturbed w v p → Undisturbed v u p
     → Undisturbed w u p
-undisturbed_on w v u p f g = record {
-  events = f.events ++ g.events;
-  split = f.split ∙ ap (λ x. f.events ++ x) g.split ∙ sym (append_assoc f.events g.events u.left);
-  silent = none_append w.devices f.events g.events p f.silent
-      (subst (λ d. NoneNames d g.events p) f.devices g.silent);
-  devices = g.devices ∙ f.devices;
-}
+undisturbed_on w v u p f g = grind (arith, append_assoc, none_append)
 
 -- Events
 
@@ -174,7 +168,7 @@ unfolding after resets
 step_new s w p h = grind (arith, made_after, made_new, root_new)
 
 -- a device that is reached was reached before, and was not disturbed
-abbrev pub StaysReached : List ℕ → World → World → Type 0
+abbrev StaysReached : List ℕ → World → World → Type 0
 StaysReached p w v = reach v.roots p ≡ true → (reach w.roots p ≡ true) × Undisturbed w v p
 
 reach_steps : (p : List ℕ) → OverSteps (NoReset p) (StaysReached p)
@@ -246,26 +240,7 @@ module _ {K : Step → World → Type 0} {R : World → World → Type 0} {p : L
 
   pub over_live : OverSteps K (LiveOrPends R p)
   unfolding step_keeps_pending
-  over_live = record {
-    events = record {
-      same = λ w. record { powered = λ h. inl (h, l.same w); pending = λ h. h };
-      joined = live_joined;
-      came = live_came;
-    };
-    made = λ a w made k.
-        let spares : _ = l.spares (attempt a) w k in
-        record {
-          powered = λ h. inl (made_live a (at_attempt w) p spares h, l.made a w k);
-          pending = made_pend a (at_attempt w) p spares;
-        };
-    root = λ c n w k.
-        let spares : _ = l.spares (root_call c n) w k in
-        record {
-          powered = λ h. inl (root_live c n w.roots p spares h, l.root c n w k);
-          pending = root_pend c n w.roots p spares;
-        };
-    refused = λ w. record { powered = λ h. inl (h, l.refused w); pending = λ h. h };
-  }
+  over_live = grind (arith, live_came, live_joined, made_live, made_pend, root_live, root_pend)
 
 -- no event comes on a live way but that it is pending
 undisturbed_steps : (p : List ℕ) → OverSteps (KeepsPendingAt p)
@@ -329,23 +304,11 @@ ports_after_first ended = ended
 ports_after_first (vacant b k) = k
 ports_after_first (taken b s a k) = k
 
-abbrev ports_below_first : Ports → Ports
-ports_below_first (taken b s a k) = a
-ports_below_first k = ended
-
-abbrev remembered : Ports → RememberedPacket
-remembered (taken b s a k) = s.memory
-remembered _ = Nothing
-
 pub rests : (k : Ports) → IsSettled k → Rests k
 unfolding all_forgotten Rests
 rests ended h = tt
 rests (vacant b k) h = rests k (ap ports_after_first h)
-rests (taken b s a k) h = (
-  sym (ap remembered h),
-  rests a (ap ports_below_first h),
-  rests k (ap ports_after_first h),
-)
+rests (taken b s a k) h = grind (arith, rests a, rests k)
 
 pub rests_settled : (k : Ports) → Rests k → IsSettled k
 unfolding all_forgotten Rests
@@ -431,9 +394,9 @@ pub settled_called : (c : PortCall) (k : Ports) (p : List ℕ) → IsSettled k
     → IsSettled (changed (called c) k p)
 settled_called c k p h = settled_path (called c) (rests_called c) k p h
 
-pub settled_ports : (a : Attempt) (d : Option Damage) (k : Ports) → IsSettled (ports_in a d k)
+settled_ports : (a : Attempt) (d : Option Damage) (k : Ports) → IsSettled (ports_in a d k)
 unfolding ports_in
-settled_ports a d k = after_attempt-settled (token_out a d) (payload_out a d) (reply_out a d k) k
+settled_ports a d k = grind (arith, after_attempt-settled)
 
 -- Sane
 
@@ -459,7 +422,7 @@ sane_called_at c k p h = sane_path (called c) (sane_called c) k p h
 pub sane_ports : (a : Attempt) (d : Option Damage) (k : Ports) → Consistent k
     → Consistent (ports_in a d k)
 unfolding ports_in
-sane_ports a d k h = attempt_sane (token_out a d) (payload_out a d) (reply_out a d k) k h
+sane_ports a d k h = grind (arith, attempt_sane)
 
 -- Worlds
 
@@ -494,9 +457,9 @@ settled_wider f (step s {w} {v} k c) h =
 
 between_by : (w : World) → IsSettled w.roots → Consistent w.roots → All IsSpec w.devices
     → WorldInvariant w
-between_by w settled sane ruled = record { settled = settled; sane = sane; ruled = ruled }
+between_by w settled sane ruled = grind arith
 
-pub between_steps : {K : Step → World → Type 0} → OverSteps K (Keeps WorldInvariant)
+between_steps : {K : Step → World → Type 0} → OverSteps K (Keeps WorldInvariant)
 unfolding after_event with_attempt
 between_steps = record {
   events = keeps_events WorldInvariant (λ e es w l h.
@@ -526,16 +489,7 @@ between_course c = over_course between_steps c
 
 counted_steps : {K : Step → World → Type 0} → OverSteps K (λ w v. w.taken ≤ v.taken)
 unfolding after_event with_attempt
-counted_steps = record {
-  events = record {
-    same = λ w. omega arith;
-    joined = λ w m v x y. omega (arith, x, y);
-    came = λ e es w l. omega arith;
-  };
-  made = λ a w made k. omega arith;
-  root = λ c n w k. omega arith;
-  refused = λ w. omega arith;
-}
+counted_steps = grind arith
 
 pub ready_taken : (w : World) → w.taken ≤ (at_attempt w).taken
 ready_taken = over_ready (counted_steps {K = AnyStep}).events

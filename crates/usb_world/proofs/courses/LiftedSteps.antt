@@ -44,7 +44,7 @@ Keeps J w v = J w → J v
 pub keeps_events : (J : World → Type 0)
     → ((e : Event) (es : List Event) (w : World) → w.left ≡ e ∷ es → Keeps J w (after_event e es w))
     → OverEvents (Keeps J)
-keeps_events J came = record { same = λ w h. h; joined = λ w m v x y h. y (x h); came = came }
+keeps_events J came = grind arith
 
 -- Events
 
@@ -62,14 +62,14 @@ happened_by P (Change (Unplug x)) devices k p same there = there None x
 happened_by P (Ask ask) devices k p same there = same
 
 module _ {R : World → World → Type 0} (l : OverEvents R) where
-  pub over_first : (events : List Event) (w : World) → w.left ≡ events
+  over_first : (events : List Event) (w : World) → w.left ≡ events
       → R w (after_first_event events w)
   over_first events w e = grind arith
 
   pub over_taken : (f : Option BusFault) (w : World) → R w (event_taken f w)
   over_taken f w = grind arith
 
-  pub over_due : (events : List Event) (w : World) → w.left ≡ events
+  over_due : (events : List Event) (w : World) → w.left ≡ events
       → R w (after_due_events events w)
   unfolding after_due_events after_event
   over_due [] w e = l.same w
@@ -137,7 +137,7 @@ kept_course J keeps (step s {w} {v} k more) h = kept_course J keeps more (keeps 
 -- What the events that come before an attempt, or as a step, leave of a world as it was.
 
 -- a world but for its ports, the events to come, how many came, and when the last one did
-abbrev with_events_of : World → World → World
+abbrev pub with_events_of : World → World → World
 with_events_of w v =
     record v { roots = w.roots; left = w.left; taken = w.taken; attempts_then = w.attempts_then }
 

@@ -2,8 +2,8 @@
 use Rattle.std.proofs.Common.{◌≡◌, ℕ, zero, suc, ◌-◌, ◌≤◌, ◌<◌, ◌==◌, not, cond, true, false, List}
 use Rattle.std.proofs.Common.{[], ◌∷◌, ◌++◌, length, take, Option, None, Some, is_some, slice_get}
 use Rattle.std.proofs.Common.{nat_eq, nat_le, All, refl, ap, sym, subst, ◌∙◌, arith, ⊎_elim}
-use Rattle.std.proofs.Common.{Ordering, Less, Equal, Greater, is_eq, ◌+◌, ◌&&◌, drop, option_map}
-use Rattle.std.proofs.Common.{nat_lt, append_assoc, length-append, Bool, if◌then◌else◌}
+use Rattle.std.proofs.Common.{Ordering, Less, Equal, Greater, is_eq, ◌+◌, ◌&&◌, option_map, nat_lt}
+use Rattle.std.proofs.Common.{append_assoc, length-append, Bool, if◌then◌else◌}
 use Rattle.std.specs.Prelude.{⊤}
 use Rattle.std.specs.Ordering.{match_ordering}
 use Rattle.std.specs.Cmp.Lexicographic.{bytes_decides}
@@ -17,17 +17,17 @@ use Rattle.std.proofs.lemmas.Map.Text.{is_eq-slice_cmp}
 use Rattle.usb_port.specs.{path_cmp, parent_of, port_on_hub, IsPath, IsPortNumber, PortCall}
 use Rattle.usb_port.proofs.Interface.{is_path, rejoined}
 use Rattle.usb_device.specs.{Spec, Ports, called, replaced, changed, state_there, IsSpec, Place}
-use Rattle.usb_device.specs.{Sent, State, changed_at, ended, forgotten, fresh, new_ports}
-use Rattle.usb_device.specs.{port_at, port_there, reset_state, row_of, state_at, taken, vacant}
+use Rattle.usb_device.specs.{Sent, State, changed_at, ended, forgotten, fresh, new_ports, port_at}
+use Rattle.usb_device.specs.{port_there, reset_state, row_of, state_at, taken, vacant}
 use Rattle.usb_tree.specs.{same_path, is_way, after_sent, on_way, reset_if, same_number}
 use Rattle.usb_world.specs.{PluggedMap, index_at, device_indexed, plugged_without, spec_port_count}
 use Rattle.usb_world.specs.{is_rooted, parent_has, has_port, Action, Plug, Unplug, Event}
 use Rattle.usb_world.specs.{after_most, PlanData, IsPlan, is_taken, action_fits, event_fits}
-use Rattle.usb_world.specs.{events_fit, plugged_by, plugged_after, FollowsPlan, AtPorts}
-use Rattle.usb_world.specs.{way_of, PlugsAtPort, spec_of, World, NoneNames, Undisturbed, names_path}
+use Rattle.usb_world.specs.{events_fit, plugged_by, plugged_after, FollowsPlan, AtPorts, way_of}
+use Rattle.usb_world.specs.{PlugsAtPort, spec_of, World, NoneNames, Undisturbed, names_path}
 use Rattle.usb_world.specs.{after_change, with_plugged, after_event, at_attempt, with_attempt}
 use Rattle.usb_world.specs.{AnyStep, Course, opening, ports_in, Attempt, Consistent, Damage}
-use Rattle.usb_tree.proofs.Interface.{false_true, both, either_of, decided, self_path, self_number}
+use Rattle.usb_tree.proofs.Interface.{false_true, both, either_of, decided, self_path}
 use Rattle.usb_world.proofs.ways.Ways.{same_is, way_starts, undisturbed_on_way, way_itself}
 use Rattle.usb_world.proofs.courses.Counts.{happened_long, new_long, row_long}
 use Rattle.usb_world.proofs.courses.Courses.{sane_called_at, sane_happened, sane_ports}
@@ -189,12 +189,12 @@ unplugged_at tree e q =
     ∙ ap not (sym (way_starts e q))) tree
 
 -- the device that a plan has there has the description of that which stands there
-abbrev pub PlugAgrees : List Spec → Option Spec → Option ℕ → Type 0
+abbrev PlugAgrees : List Spec → Option Spec → Option ℕ → Type 0
 PlugAgrees ds None None = ⊤
 PlugAgrees ds (Some t) (Some d) = slice_get ds d ≡ Some t
 PlugAgrees ds _ _ = ⊥
 
-pub told_of : (ds : List Spec) (o : Option Spec) (d : Option ℕ) → PlugAgrees ds o d
+told_of : (ds : List Spec) (o : Option Spec) (d : Option ℕ) → PlugAgrees ds o d
     → o ≡ device_indexed ds d
 told_of ds o d h = grind arith
 
@@ -206,7 +206,7 @@ told_by : (ds : List Spec) (o p : Option Spec) (d c : Option ℕ) → o ≡ p �
     → PlugAgrees ds o d
 told_by ds o p d c x y h = rw (x, y) h
 
-abbrev pub Agrees : List Spec → Ports → PluggedMap → Type 0
+abbrev Agrees : List Spec → Ports → PluggedMap → Type 0
 Agrees ds k tree = (q : List ℕ) → PlugAgrees ds (described k q) (index_at tree q)
 
 agrees_plug : (ds : List Spec) (k : Ports) (tree : PluggedMap) (e : List ℕ) (d : ℕ) (t : Spec)
@@ -242,8 +242,7 @@ has_there-below : (k : Ports) (p : List ℕ) (m : ℕ) → Consistent k → IsPa
     → m ≤ spec_port_count (described k p) → has_there k (p ++ m ∷ []) ≡ true
 unfolding spec_port_count
 has_there-below k [] m sane is some h = absurd (omega (arith, is.0))
-has_there-below k (zero ∷ p) m sane is some h =
-    absurd (omega (arith, (All-head IsPortNumber zero p is.2).0))
+has_there-below k (zero ∷ p) m sane is some h = grind arith
 has_there-below k (suc i ∷ p) zero sane is some h = absurd (omega (arith, some))
 has_there-below k (suc i ∷ p) (suc m) sane is some h = grind (arith, ports_stand)
 
@@ -271,8 +270,7 @@ has_port-there : (ds : List Spec) (k : Ports) (n : ℕ) (tree : PluggedMap) (e :
 has_port-there ds k n tree [] sane row a is h = absurd (omega (arith, is.0))
 has_port-there ds k n tree (zero ∷ e) sane row a is h =
     absurd (omega (arith, (All-head IsPortNumber zero e is.2).0))
-has_port-there ds k n tree (suc i ∷ []) sane row a is h =
-    row_stands k i (omega (arith, row, leb-true (suc i) n (both (nat_le (suc i) n) _ h).0))
+has_port-there ds k n tree (suc i ∷ []) sane row a is h = grind (arith, both, leb-true, row_stands)
 has_port-there ds k n tree (suc i ∷ m ∷ e) sane row a is h =
     let path = suc i ∷ m ∷ e in
     let up : parent_of path ≡ Some (take (length path - 1) path) = long_parent path (omega arith) in
@@ -284,13 +282,13 @@ has_port-there ds k n tree (suc i ∷ m ∷ e) sane row a is h =
 -- What stands in a course of steps
 
 -- the same devices stand at the same ports, and the same events are left
-record SameStands (w v : World) : Type 0 where
-  left : v.left ≡ w.left
-  taken : v.taken ≡ w.taken
-  devices : v.devices ≡ w.devices
-  stands : (p : List ℕ) → described v.roots p ≡ described w.roots p
-  row : length (row_of v.roots) ≡ length (row_of w.roots)
-  sane : Consistent w.roots → Consistent v.roots
+pub record SameStands (w v : World) : Type 0 where
+  pub left : v.left ≡ w.left
+  pub taken : v.taken ≡ w.taken
+  pub devices : v.devices ≡ w.devices
+  pub stands : (p : List ℕ) → described v.roots p ≡ described w.roots p
+  pub row : length (row_of v.roots) ≡ length (row_of w.roots)
+  pub sane : Consistent w.roots → Consistent v.roots
 
 -- What each event keeps, and what hangs only on what stands and is left, each course keeps
 module _ (J : World → Type 0) (by_event : (e : Event) (events : List Event) (w : World)
@@ -340,26 +338,17 @@ record Went (plan : PlanData) (past : List Event) (w : World) : Type 0 where
 went_next : (plan : PlanData) (past : List Event) (e : Event) (events : List Event) (w : World)
     → w.left ≡ e ∷ events → Went plan past w → Went plan (past ++ e ∷ []) (after_event e events w)
 unfolding after_event
-went_next plan past e events w s h = record {
-  split = h.split ∙ ap (λ l. past ++ l) s ∙ sym (append_assoc past (e ∷ []) events);
-  count = ap (λ n. n + 1) h.count ∙ sym (length-append past (e ∷ []));
-  devices = h.devices;
-}
+went_next plan past e events w s h = grind (arith, append_assoc, length-append)
 
 went_rest : (plan : PlanData) (past : List Event) (w v : World) → SameStands w v → Went plan past w
     → Went plan past v
 went_rest plan past w v a h = grind arith
 
 went_opening : (plan : PlanData) → Went plan [] (opening plan)
-went_opening plan = record { split = refl; count = refl; devices = refl }
+went_opening plan = grind arith
 
 went_is : (plan : PlanData) (past : List Event) (w : World) → Went plan past w → FollowsPlan plan w
-went_is plan past w h = record {
-  left = sym (drop-append_seam past w.left) ∙ ap (drop (length past)) (sym h.split)
-      ∙ ap (λ n. drop n plan.events) (sym h.count);
-  devices = h.devices;
-  taken = omega (arith, h.count, ap length h.split, length-append past w.left);
-}
+went_is plan past w h = grind (arith, drop-append_seam, length-append)
 
 abbrev Went_on : PlanData → World → Type 0
 Went_on plan w = (past : List Event) × Went plan past w
@@ -412,11 +401,7 @@ agrees_next (Ask ask) ds n k tree h is s = s.agrees
 stands_next : (a : Action) (ds : List Spec) → All IsSpec ds → (n : ℕ) (k : Ports)
     (tree : PluggedMap) → action_fits n ds tree a ≡ true → PlugsAtPort a → Stands ds n k tree
     → Stands ds n (after_change a ds k) (plugged_after a tree)
-stands_next a ds ruled n k tree h is s = record {
-  sane = sane_happened a ds ruled k s.sane;
-  row = happened_long a ds k ∙ s.row;
-  agrees = agrees_next a ds n k tree h is s;
-}
+stands_next a ds ruled n k tree h is s = grind (arith, agrees_next, happened_long, sane_happened)
 
 -- what stands is what the events that came left, and those that are left may come
 record Left (plan : PlanData) (past : List Event) (w : World) : Type 0 where
@@ -456,17 +441,8 @@ new_agrees ds n q = grind (arith, new_bare)
 
 left_opening : (plan : PlanData) → IsPlan plan → AtPorts plan.events → Left plan [] (opening plan)
 unfolding plugged_by
-left_opening plan is paths = record {
-  went = went_opening plan;
-  ruled = is.devices.ruled;
-  stands = record {
-    sane = sane_new_ports plan.roots;
-    row = new_long plan.roots;
-    agrees = new_agrees plan.devices plan.roots;
-  };
-  rest = is.events;
-  paths = paths;
-}
+left_opening plan is paths =
+    grind (arith, new_agrees, new_long, sane_new_ports, stands, went_opening)
 
 abbrev Left_on : PlanData → World → Type 0
 Left_on plan w = (past : List Event) × Left plan past w
@@ -505,13 +481,7 @@ unnamed_next : (w : World) (p : List ℕ) (past : List Event) (e : Event) (event
     (u : World) → u.left ≡ e ∷ events → Unnamed w p past u
     → Unnamed w p (past ++ e ∷ []) (after_event e events u)
 unfolding after_event
-unnamed_next w p past e events u s h = record {
-  split = h.split ∙ ap (λ l. past ++ l) s ∙ sym (append_assoc past (e ∷ []) events);
-  devices = h.devices;
-  so = λ n. let parts = none_parts w.devices past e p n in
-      happened_away e.action u.devices u.roots p (ap (λ ds. names_path ds e.action p) h.devices
-      ∙ parts.1) ∙ h.so parts.0;
-}
+unnamed_next w p past e events u s h = grind (arith, append_assoc, happened_away, none_parts)
 
 unnamed_rest : (w : World) (p : List ℕ) (past : List Event) (u v : World) → SameStands u v
     → Unnamed w p past u → Unnamed w p past v

@@ -27,7 +27,7 @@ use Rattle.usb_world.proofs.holders.OneDevice.{other_address, reach-full, full_s
 -- address still is, and each was before.
 
 -- forgetting what is remembered changes no port
-pub stays_reachable : (a : Attempt) (d : Option Damage) (k : Ports) (h : Holder a.addr k)
+stays_reachable : (a : Attempt) (d : Option Damage) (k : Ports) (h : Holder a.addr k)
     → reach_on (ports_in a d k) h.spot ≡ true
 unfolding ports_in
 stays_reachable a d k h =
@@ -131,7 +131,7 @@ module _ (a : Attempt) (w : World) (m : IsMade a w) (u : (after (attempt a) w).s
     ≡ true) (there : state_on (after (attempt a) w).roots j ≡ Some v) where
   rest_made : made_resets a (at_attempt w) (path_to j) ≡ false
   unfolding resets
-  rest_made = ap (λ x. x && made_resets a (at_attempt w) (path_to j)) (sym (made_true a w m)) ∙ rest
+  rest_made = grind (arith, made_true)
 
   on_ready : reach_on (at_attempt w).roots j ≡ true
   on_ready = made_reach a (at_attempt w) (path_to j) rest_made
@@ -273,9 +273,7 @@ pub each_holder : (a : Attempt) (w : World) → IsMade a w → is_setup a.kind �
     → ((j : Location) (s v : State) → (address_of s == a.addr) ≡ false → v ≡ s → R j s v)
     → ((h : HolderIn a w) (v : State) → state_on (after (attempt a) w).roots h.spot ≡ Some v
     → R h.spot h.own v) → EachWas R w (after (attempt a) w)
-each_holder a w m kind u R other itself j v on there =
-    at_place a w m u j v (data_resets_none a w m kind j) on there R (λ s. other j s v)
-    (λ h. itself h v)
+each_holder a w m kind u R other itself = grind (arith, at_place, data_resets_none)
 
 pub each_in : (a : Attempt) (w : World) → IsMade a w → IsIn a → (after (attempt a) w).shared ≡ false
     → EachWas (DidIn a w) w (after (attempt a) w)

@@ -47,7 +47,7 @@ pub calm_asked : (o : Option Sent) → CalmOut o → (deep : Bool) (s : State)
 calm_asked o c deep s = grind arith
 
 -- the same, by how the packet comes
-abbrev pub asked_through : Way → State → Packet → Effect
+abbrev asked_through : Way → State → Packet → Effect
 asked_through whole s p = asks s p
 asked_through broken s p = Leaves
 asked_through lost s p = Leaves
@@ -151,9 +151,9 @@ module _ (a : Attempt) (d : Option Damage) (k : Ports) (h : Holder a.addr k) whe
 
   placed_with : (r : Reply) (e : Effect) → effect a d k h ≡ e → ExchangedWithHolder a d k h r
       → place_at (ports_in a d k) j p ≡ Some (full b r.1 (acted e below))
-  placed_with r e is x = placed a d k h r x ∙ ap (λ y. Some (full b r.1 (acted y below))) is
+  placed_with r e is x = grind (arith, placed)
 
-  pub setup_place : s.spec.silent ≡ false → (bytes : List ℕ) → IsSetup a bytes
+  setup_place : s.spec.silent ≡ false → (bytes : List ℕ) → IsSetup a bytes
       → place_at (ports_in a d k) j p ≡ Some
       (full b (setup_alone a d k (deep_at false p) s (row_of below) bytes).1
       (acted (setup_asked a d (deep_at false p) s bytes) below))
@@ -161,7 +161,7 @@ module _ (a : Attempt) (d : Option Damage) (k : Ports) (h : Holder a.addr k) whe
       placed_with _ _ (setup_effect loud bytes i)
       (setup_one a d k h loud bytes i)
 
-  pub silent_place : s.spec.silent ≡ true → place_at (ports_in a d k) j p ≡ Some (full b s below)
+  silent_place : s.spec.silent ≡ true → place_at (ports_in a d k) j p ≡ Some (full b s below)
   silent_place silent = placed_with (None, s) Leaves (silent_effect silent)
       (silent_one a d k h silent)
 
@@ -222,7 +222,7 @@ ends_there (x ∷ y) u v r h = ends_there y u v r (ap tail h)
 module _ (a : Attempt) (w : World) (h : HolderIn a w) where
   open h use {spot.{row as j, rest as p}}
 
-  abbrev k : Ports
+  abbrev pub k : Ports
   k = (at_attempt w).roots
 
   -- the tree when the host's data go out
@@ -303,12 +303,12 @@ module _ (a : Attempt) (w : World) (h : HolderIn a w) where
         ∙ and_false (is_made w.fault w);
     leaves = one_leaves i x sent (λ m r z. not_under i x u m r z);
   }
-  elsewhere x u = record { spares = refl; rests = and_false (is_made w.fault w); leaves = refl }
+  elsewhere x u = grind (arith, and_false, rests)
 
   -- SetPortFeature and ClearPortFeature
 
   module _ (bytes : List ℕ) (is : IsSetup a bytes) where
-    abbrev r0 : Setup
+    abbrev pub r0 : Setup
     r0 = setup_of bytes
 
     data_allows : (T : Effect → Bool) → Allows T r0 → IfOut (AllowsOut T) sent
@@ -321,17 +321,14 @@ module _ (a : Attempt) (w : World) (h : HolderIn a w) where
       way_number : (y : List ℕ) (m : ℕ) (r : List ℕ) → is_way (y ++ (n ∷ [])) (y ++ (m ∷ r))
           ≡ same_number n m
       unfolding is_way
-      way_number [] m r = elim (same_number n m)
-          as (λ x. (x && true) ≡ x) [ true ↦ refl | false ↦ refl ]
+      way_number [] m r = grind arith
       way_number (u ∷ y) m r = ap (λ z. z && is_way (y ++ (n ∷ [])) (y ++ (m ∷ r))) (self_number u)
           ∙ way_number y m r
 
       path_number : (y : List ℕ) (m : ℕ) → same_path (y ++ (n ∷ [])) (y ++ (m ∷ []))
           ≡ same_number n m
-      path_number [] m = elim (same_number n m)
-          as (λ x. (x && true) ≡ x) [ true ↦ refl | false ↦ refl ]
-      path_number (u ∷ y) m = ap (λ z. z && same_path (y ++ (n ∷ [])) (y ++ (m ∷ [])))
-          (self_number u) ∙ path_number y m
+      path_number [] m = grind arith
+      path_number (u ∷ y) m = grind (arith, path_number y m, self_number)
 
       other_number : (m i : ℕ) → same_number n (suc m) ≡ false → r0.index ≡ suc i
           → same_number i m ≡ false
@@ -388,13 +385,12 @@ module _ (a : Attempt) (w : World) (h : HolderIn a w) where
           leaves = one_leaves i x sent (λ m r z. data_allows (leave_test m r)
               (leave_there m r (number_apart (suc i ∷ x) m r d z)));
         }
-        others_asked_nothing x d =
-            record { spares = refl; rests = and_false (is_made w.fault w); leaves = refl }
+        others_asked_nothing x d = grind (arith, and_false, rests)
 
         self_there : is_sparing r0 ≡ true → (m : ℕ) → Allows (spare_test m []) r0
         self_there y m = grind arith
 
-        pub self_spared : is_sparing r0 ≡ true → step_keeps_pending (attempt a) w port_path ≡ true
+        self_spared : is_sparing r0 ≡ true → step_keeps_pending (attempt a) w port_path ≡ true
         unfolding step_keeps_pending
         self_spared y = one_spares j (p ++ (n ∷ [])) sent (λ m r z. data_allows (spare_test m r)
             (subst (λ v. Allows (spare_test m v) r0) (sym (ends_there (suc j ∷ p) n (suc m) r z))

@@ -134,7 +134,7 @@ Resting q on t = on ≡ true → IsRested q t
 -- Where the packet is for nobody
 
 -- it changes nothing, and nothing is answered
-abbrev Unmoved : Sent → Bool → Ports → Type 0
+abbrev pub Unmoved : Sent → Bool → Ports → Type 0
 Unmoved q deep k = (after_packet q deep k ≡ k) × (answers q deep k ≡ [])
 
 rest_device : (q : Sent) (deep : Bool) (b : PortState) (s : State) (a k : Ports)
@@ -158,12 +158,12 @@ rest_all q deep (taken b s a k) c =
 -- Where it is for one device at most
 
 -- it changes the place of that device alone, and that device's is the answer
-pub record LonePacket (q : Sent) (deep : Bool) (k : Ports) (j : ℕ) (p : List ℕ) : Type 0 where
-  pub ports : after_packet q deep k ≡ changed_at (sent_in q (deep_at deep p)) k j p
-  pub answer : answers q deep k ≡ answer_at q (deep_at deep p) (place_at k j p)
-  pub on : reach_at (after_packet q deep k) j p ≡ true
+record LonePacket (q : Sent) (deep : Bool) (k : Ports) (j : ℕ) (p : List ℕ) : Type 0 where
+  ports : after_packet q deep k ≡ changed_at (sent_in q (deep_at deep p)) k j p
+  answer : answers q deep k ≡ answer_at q (deep_at deep p) (place_at k j p)
+  on : reach_at (after_packet q deep k) j p ≡ true
 
-pub lone_packet : (q : Sent) (deep : Bool) (k : Ports) (j : ℕ) (p : List ℕ)
+lone_packet : (q : Sent) (deep : Bool) (k : Ports) (j : ℕ) (p : List ℕ)
     → reach_at k j p ≡ true → Others (Resting q) k j p → LonePacket q deep k j p
 unfolding after_packet answers changed_at place_at reach_at
 lone_packet q = along_way {S = Resting q} {P = LonePacket q} (record {
@@ -323,13 +323,7 @@ pub others_rest : (q : Sent) (k : Ports) (x : Location) → Alone (Some q) k x
 others_rest q k x h i e t d f on = (h.forgot i e t d f, h.uncalled q refl i e t d f on)
 
 pub sent_to_one : (o : Option Sent) (k : Ports) (x : Location) → Alone o k x → SentToOne o k x
-sent_to_one None k x h = record {
-  ports = sym (changed_at-same k x.row x.rest);
-  on = h.on;
-  answer = refl;
-  forgot = h.forgot;
-  others = λ i e d. reset_if-false (state_at k i e);
-}
+sent_to_one None k x h = grind (arith, changed_at-same, reset_if-false)
 sent_to_one (Some q) k x h = record {
   ports = lone.ports;
   on = lone.on;
@@ -351,12 +345,7 @@ sent_to_one (Some q) k x h = record {
 
 pub alone_holder : (n : ℕ) (t : Option Sent) → IfOut (IsTokenFor n) t → (k : Ports) (x : Location)
     → IsSettled k → OneHolds n k x → Alone t k x
-alone_holder n t is k x s o = record {
-  on = o.on;
-  forgot = λ i e v w h. settled_memory k i e v s h;
-  uncalled = λ q eq i e v w h on. token_calls n q.content v (subst (IfOut (IsTokenFor n)) eq is)
-      (other_address n k x.row x.rest o i e v w h on);
-}
+alone_holder n t is k x s o = grind (arith, other_address, settled_memory, token_calls)
 
 pub alone_sent : (o : Option Sent) (k : Ports) (p : List ℕ) → AloneAt o k p
     → AloneAt None (after_sent o k) p
@@ -380,7 +369,7 @@ alone_ack o k p h is = grind arith
 
 module _ (n : ℕ) (t d r : Option Sent) (is : IsAttemptAt n t d r) (k : Ports) (x : Location)
     (one : Alone t k x) where
-  abbrev deep : Bool
+  abbrev pub deep : Bool
   deep = deep_at false x.rest
 
   pub second_alone : Alone d (after_sent t k) x
@@ -407,10 +396,7 @@ module _ (n : ℕ) (t d r : Option Sent) (is : IsAttemptAt n t d r) (k : Ports) 
       ∙ changed_at-twice (step_in r deep) (λ y. step_in d deep (step_in t deep y)) k x.row x.rest
 
   pub all_is : after_attempt t d r k ≡ changed_at (place_after t d r deep) k x.row x.rest
-  all_is = others_forget (after_sent r (after_sent d (after_sent t k))) x.row x.rest last_alone.on
-      last_alone.forgot ∙ ap (λ y. changed_at forgotten_in y x.row x.rest) end_is
-      ∙ changed_at-twice forgotten_in (λ y. step_in r deep (step_in d deep (step_in t deep y))) k
-      x.row x.rest
+  all_is = grind (arith, changed_at-twice, end_is, last_alone, others_forget)
 
 pub one_device : (n : ℕ) (t d r : Option Sent) → IsAttemptAt n t d r → (k : Ports) (at : Location)
     → IsSettled k → OneHolds n k at → OneActs t d r k at

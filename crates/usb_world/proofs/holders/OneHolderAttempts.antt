@@ -23,8 +23,7 @@ use Rattle.usb_world.specs.{with_attempt, outcome_in, attempt, after, way_to, to
 use Rattle.usb_world.specs.{reply_way, out_alone, in_alone, IsSetup, IsOut, IsIn, hears_attempt}
 use Rattle.usb_world.specs.{IsMade, HolderIn, payload_way, got, AttemptAnswerer, reply_out}
 use Rattle.usb_world.specs.{exchange_in, made_in, IsAttempt, sends_data, Exchange, Mark, Whole}
-use Rattle.usb_world.specs.{lost_in, cleared_in, answered_in, is_lost, reply_of, Exchanged}
-use Rattle.usb_world.specs.{silent_exchange}
+use Rattle.usb_world.specs.{lost_in, cleared_in, reply_of, Exchanged, silent_exchange}
 use Rattle.usb_world.specs.declared.types.Outcome.TheVariants as outcome
 use Rattle.usb_world.specs.declared.wire.Mark.TheVariants as mark
 use Rattle.usb_tree.specs.{same_number, same_path, reset_if, heard_by, deep_at, attempt_resets}
@@ -62,7 +61,7 @@ pub record ExchangedIn (a : Attempt) (w : World) (h : HolderIn a w) (r : Reply) 
 
 -- A silent device
 
-pub silent_reply : (c : Content) (s : State) (row : List PortState) → s.spec.silent ≡ true
+silent_reply : (c : Content) (s : State) (row : List PortState) → s.spec.silent ≡ true
     → reply_to c s row ≡ (None, s)
 silent_reply c s row h = grind (arith, replied, silent-stays, silent-unread)
 
@@ -75,7 +74,7 @@ module _ (a : Attempt) (d : Option Damage) (k : Ports) (h : Holder a.addr k) whe
 
   module _ (silent : s.spec.silent ≡ true) where
     pub first_silent : first a d k h ≡ (None, s)
-    first_silent = silent_heard (token_out a d) (deep_at false p) s (row_of below) silent
+    first_silent = grind (arith, silent_heard)
 
     second_silent : second a d k h ≡ (None, s)
     second_silent = grind (arith, first_silent, silent_heard)
@@ -92,7 +91,7 @@ module _ (a : Attempt) (d : Option Damage) (k : Ports) (h : Holder a.addr k) whe
     }
 
   -- the other devices
-  pub others_one : (i : ℕ) (e : List ℕ) (v : State) → (same_number i j && same_path e p) ≡ false
+  others_one : (i : ℕ) (e : List ℕ) (v : State) → (same_number i j && same_path e p) ≡ false
       → state_at k i e ≡ Some v → state_at (ports_in a d k) i e ≡ Some
       (reset_if (attempt_resets (token_out a d) (payload_out a d) k i e) v)
   unfolding ports_in
@@ -177,7 +176,7 @@ module _ (a : Attempt) (k : Ports) (h : Holder a.addr k) (loud : h.own.spec.sile
   ways : AllWhole a None k (deep_at false p) s
   ways = undamaged a k (deep_at false p) s hears_it
 
-  pub setup_sound : (bytes : List ℕ) → IsSetup a bytes
+  setup_sound : (bytes : List ℕ) → IsSetup a bytes
       → ExchangedWithHolder a None k h (Some answer.Ack, accepted s (row_of below) (setup_of bytes))
   setup_sound bytes i =
       subst (ExchangedWithHolder a None k h)
@@ -196,7 +195,7 @@ pub made_is : (a : Attempt) (w : World) → IsMade a w
 unfolding after
 made_is a w m = rw (m.sound, unequal w.attempts w.limit m.within) refl
 
-pub after-limit_fault : (a : Attempt) (w : World) → w.fault ≡ None → w.attempts ≡ w.limit
+after-limit_fault : (a : Attempt) (w : World) → w.fault ≡ None → w.attempts ≡ w.limit
     → (after (attempt a) w).fault ≡ Some Limit
 unfolding after
 after-limit_fault a w s e = rw (s, same_equal w.attempts w.limit e) refl
@@ -238,7 +237,7 @@ module _ (a : Attempt) (w : World) (h : HolderIn a w) where
     found = h.found;
   }
 
-  pub exchanged_in : (r : Reply) → ExchangedWithHolder a (damage_in (at_attempt w))
+  exchanged_in : (r : Reply) → ExchangedWithHolder a (damage_in (at_attempt w))
       (at_attempt w).roots holder_in r → ExchangedIn a w h r
   unfolding outcome_in with_attempt
   exchanged_in r x = grind (arith, made_is)
@@ -401,7 +400,7 @@ marked_some-nothing d n pre m max = refl
 
 module _ (a : Attempt) (d : Option Damage) (k : Ports) (settled : IsSettled k)
     (nobody : NobodyHolds a.addr k) where
-  abbrev t : Option Sent
+  abbrev pub t : Option Sent
   t = token_out a d
 
   abbrev q : Option Sent
@@ -420,14 +419,14 @@ module _ (a : Attempt) (d : Option Damage) (k : Ports) (settled : IsSettled k)
 
   mark_whole : mark_in a d k ≡ Whole
   unfolding answer_mark
-  mark_whole = ap (answer_mark (harm_to d (place_of_answer a d))) heard_nothing
+  mark_whole = grind (arith, heard_nothing)
 
   replied_none : reply_in a d k ≡ None
   replied_none = grind (arith, heard_nothing, marked_some-nothing)
 
   lost_none : lost_in a d k ≡ false
   unfolding lost_in
-  lost_none = ap (λ o. is_lost o (goes_out a o) (answered_in a d k)) replied_none
+  lost_none = grind (arith, replied_none)
 
   cleared_none : cleared_in a d k ≡ false
   cleared_none = grind (arith, rest_clears, settled_memory, token_unheard)

@@ -1,8 +1,8 @@
 -- What packets, and the attempts that they make, do to reachable, live and pending, and to the
 -- devices and ports.
-use Rattle.std.proofs.Common.{◌||◌, arith, ◌≡◌, ℕ, zero, suc, ◌&&◌, not, if◌then◌else◌, inl, inr}
-use Rattle.std.proofs.Common.{Bool, true, false, List, [], ◌∷◌, Option, None, Some, option_map}
-use Rattle.std.proofs.Common.{refl, ap, sym, ◌∙◌}
+use Rattle.std.proofs.Common.{◌||◌, arith, ◌≡◌, ℕ, zero, suc, ◌&&◌, if◌then◌else◌, inl, inr, Bool}
+use Rattle.std.proofs.Common.{true, false, List, [], ◌∷◌, Option, None, Some, option_map, refl, ap}
+use Rattle.std.proofs.Common.{sym, ◌∙◌}
 use Rattle.usb_port.specs.{PortState, powered_off}
 use Rattle.usb_device.specs.{Effect, Leaves, Calls, PortsOff, State, Ports, ended, vacant, taken}
 use Rattle.usb_device.specs.{full, reach_at, state_at, place_at, acted, empty, answer_of, effect_of}
@@ -36,12 +36,12 @@ heard_state q deep on (Some (empty b)) = None
 heard_state q deep on (Some (full b s a)) = Some (if on then (answer_of q deep s a).1 else s)
 
 -- a device after a packet, which comes to it or does not
-abbrev pub met : Bool → Sent → Bool → PortState → State → Ports → Ports → Ports
+abbrev met : Bool → Sent → Bool → PortState → State → Ports → Ports → Ports
 met x q deep b s a k = if x then taken b (answer_of q deep s a).1
     (acted (effect_of q deep s) (after_packet q true a)) k else taken b s a k
 
 -- what is so in both cases
-pub met_either : (P : Ports → Type 0) (x : Bool) (q : Sent) (deep : Bool)
+met_either : (P : Ports → Type 0) (x : Bool) (q : Sent) (deep : Bool)
     (b : PortState) (s : State) (a k : Ports)
     → P (met true q deep b s a k) → P (met false q deep b s a k) → P (met x q deep b s a k)
 met_either P x q deep b s a k h g = grind arith
@@ -63,7 +63,7 @@ acted_kept PortsOff x j p h = false_true h
 
 -- Where a reset falls
 
-pub resets_nil : (q : Sent) (deep : Bool) (k : Ports) (j : ℕ) → resets_at q deep k j [] ≡ false
+resets_nil : (q : Sent) (deep : Bool) (k : Ports) (j : ℕ) → resets_at q deep k j [] ≡ false
 unfolding resets_at
 resets_nil q deep (vacant b k) (suc j) = resets_nil q deep k j
 resets_nil q deep (taken b s a k) (suc j) = resets_nil q deep k j
@@ -74,15 +74,8 @@ packet_takes : (q : Sent) (deep : Bool) (k : Ports) (j : ℕ)
     → takes_reset (place_at (after_packet q deep k) j []) ≡ takes_reset (place_at k j [])
 unfolding after_packet place_at
 packet_takes q deep (vacant b k) (suc j) = packet_takes q deep k j
-packet_takes q deep (taken b s a k) zero = elim b.enable
-    as (λ x. takes_reset (place_at (met x q deep b s a (after_packet q deep k)) zero [])
-    ≡ takes_reset (Some (full b s a))) [ true ↦ refl | false ↦ refl ]
-packet_takes q deep (taken b s a k) (suc j) = elim b.enable
-    as (λ x. takes_reset (place_at (met x q deep b s a (after_packet q deep k)) (suc j) [])
-    ≡ takes_reset (place_at k j [])) [
-      | true ↦ packet_takes q deep k j
-      | false ↦ packet_takes q deep k j
-    ]
+packet_takes q deep (taken b s a k) zero = grind arith
+packet_takes q deep (taken b s a k) (suc j) = grind (arith, packet_takes q deep k j)
 packet_takes q deep k j = refl
 
 packet_asks : (e : Effect) (q : Sent) (deep : Bool) (k : Ports) (j : ℕ) (p : List ℕ)
@@ -91,17 +84,12 @@ packet_asks e q deep k j p = grind (arith, packet_takes)
 
 -- A packet
 
-spared : (x y z : Bool) → x ≡ true → (not x || (y && z)) ≡ true → (y ≡ true) × (z ≡ true)
-spared x y z e h = grind arith
-
 -- what is live or pending, and spared, is so after a packet
-pub packet_kept : (q : Sent) (deep : Bool) (k : Ports) (j : ℕ) (p : List ℕ)
+packet_kept : (q : Sent) (deep : Bool) (k : Ports) (j : ℕ) (p : List ℕ)
     → packet_keeps_pending q deep k j p ≡ true → KeepsPending k (after_packet q deep k) j p
 unfolding after_packet has_power_at pending_at packet_keeps_pending
 packet_kept q deep ended j p h = (λ g. g, λ g. g)
-packet_kept q deep (vacant b k) zero p h =
-    pending_kept (vacant b k) _ zero p
-    (same_way-behind (empty b) k (after_packet q deep k) p).0
+packet_kept q deep (vacant b k) zero p h = grind (arith, pending_kept, same_way-behind)
 packet_kept q deep (vacant b k) (suc j) p h = packet_kept q deep k j p h
 packet_kept q deep (taken b s a k) zero (suc j ∷ p) h =
     grind (
@@ -153,7 +141,7 @@ HeardIf q deep on r k m j p =
     × (r ≡ false → reach_at m j p ≡ true → reach_at k j p ≡ true)
     × (r ≡ true → IsNew (place_at m j p))
 
-pub packet_way : (q : Sent) (deep : Bool) (k : Ports) (j : ℕ) (p : List ℕ)
+packet_way : (q : Sent) (deep : Bool) (k : Ports) (j : ℕ) (p : List ℕ)
     → HeardIf q (deep_at deep p) (reach_at k j p) (resets_at q deep k j p) k
     (after_packet q deep k) j p
 unfolding after_packet reach_at place_at resets_at state_at
@@ -284,7 +272,7 @@ calm_sent_spares o c k j p = grind (arith, spares_if)
 
 -- One packet
 
-pub sent_reach : (o : Option Sent) (k : Ports) (j : ℕ) (p : List ℕ) → sent_resets o k j p ≡ false
+sent_reach : (o : Option Sent) (k : Ports) (j : ℕ) (p : List ℕ) → sent_resets o k j p ≡ false
     → reach_at (after_sent o k) j p ≡ true → reach_at k j p ≡ true
 sent_reach None k j p f h = h
 sent_reach (Some q) k j p f h = (packet_way q false k j p).1 f h
@@ -304,12 +292,11 @@ sent_sane o k h = grind (arith, sane_packet)
 
 -- Forgetting
 
-pub forgotten_off : (k : Ports) → all_off (all_forgotten k) ≡ all_forgotten (all_off k)
+forgotten_off : (k : Ports) → all_off (all_forgotten k) ≡ all_forgotten (all_off k)
 unfolding all_forgotten all_off
 forgotten_off ended = refl
 forgotten_off (vacant b k) = ap (vacant (powered_off b)) (forgotten_off k)
-forgotten_off (taken b s a k) = ap (taken (powered_off b) (forgotten s) (all_forgotten a))
-    (forgotten_off k)
+forgotten_off (taken b s a k) = grind (arith, forgotten_off k)
 
 -- the way to a path where each device has forgotten what it remembered
 abbrev ForgottenWay : Ports → ℕ → List ℕ → Type 0
@@ -335,17 +322,15 @@ pub forgotten_state : (k : Ports) (j : ℕ) (p : List ℕ)
     → state_at (all_forgotten k) j p ≡ option_map forgotten (state_at k j p)
 forgotten_state k j p = (forgotten_way k j p).1
 
-pub forgotten_twice : (k : Ports) → all_forgotten (all_forgotten k) ≡ all_forgotten k
+forgotten_twice : (k : Ports) → all_forgotten (all_forgotten k) ≡ all_forgotten k
 unfolding all_forgotten
 forgotten_twice ended = refl
 forgotten_twice (vacant b k) = ap (vacant b) (forgotten_twice k)
-forgotten_twice (taken b s a k) =
-    ap (λ x. taken b (forgotten s) x (all_forgotten (all_forgotten k))) (forgotten_twice a)
-    ∙ ap (taken b (forgotten s) (all_forgotten a)) (forgotten_twice k)
+forgotten_twice (taken b s a k) = grind (arith, forgotten_twice a, forgotten_twice k)
 
 -- A device that remembers nothing stays as it is at what is no token for it
 
-pub rested_reply : (c : Content) (s : State) (row : List PortState) → s.memory ≡ Nothing
+rested_reply : (c : Content) (s : State) (row : List PortState) → s.memory ≡ Nothing
     → calls_on c s ≡ false → reply_to c s row ≡ (None, s)
 unfolding received unread
 rested_reply c s row n own = grind arith
@@ -448,15 +433,15 @@ abbrev pub NoneAsks : Option Sent → Ports → Type 0
 NoneAsks o k = (q : Sent) → o ≡ Some q → (j : ℕ) (e : List ℕ) (t : State) → state_at k j e ≡ Some t
     → (dp : Bool) → effect_of q dp t ≡ Leaves
 
-pub none_spares : (o : Option Sent) (k : Ports) → NoneAsks o k → (j : ℕ) (p : List ℕ)
+none_spares : (o : Option Sent) (k : Ports) → NoneAsks o k → (j : ℕ) (p : List ℕ)
     → sent_keeps_pending o k j p ≡ true
 none_spares o k c j p = grind (arith, spares_if)
 
-pub none_leaves : (o : Option Sent) (k : Ports) → NoneAsks o k → (j : ℕ) (p : List ℕ)
+none_leaves : (o : Option Sent) (k : Ports) → NoneAsks o k → (j : ℕ) (p : List ℕ)
     → sent_leaves o k j p ≡ true
 none_leaves o k c j p = grind (arith, way_leaves-on_way)
 
-pub none_resets : (o : Option Sent) (k : Ports) → NoneAsks o k → (j : ℕ) (p : List ℕ)
+none_resets : (o : Option Sent) (k : Ports) → NoneAsks o k → (j : ℕ) (p : List ℕ)
     → sent_resets o k j p ≡ false
 none_resets o k c j p = grind (arith, resets_if)
 

@@ -35,7 +35,7 @@ same_way-refl : (k : Ports) (j : ℕ) (p : List ℕ) → SameWay k k j p
 same_way-refl k j p = (same_ports k j p, refl)
 
 -- further on in the row
-pub same_way-other_port : (x y : Place) (k : Ports) (j : ℕ) (p : List ℕ)
+same_way-other_port : (x y : Place) (k : Ports) (j : ℕ) (p : List ℕ)
     → SameWay (before x k) (before y k) (suc j) p
 unfolding reach_at has_power_at pending_at port_at state_at
 same_way-other_port x y k j p = grind arith
@@ -126,7 +126,7 @@ root_there c m k _ h = (refl, refl, refl)
 
 -- What a call at a port does to reachable, live and pending, and to the devices and ports.
 
-pub all_off_twice : (k : Ports) → all_off (all_off k) ≡ all_off k
+all_off_twice : (k : Ports) → all_off (all_off k) ≡ all_off k
 unfolding all_off
 all_off_twice ended = refl
 all_off_twice (vacant b k) = ap (vacant (powered_off b)) (all_off_twice k)
@@ -199,11 +199,11 @@ pub call_state : (c : PortCall) (k : Ports) (i j : ℕ) (p : List ℕ)
     ≡ option_map (reset_if (call_resets c k i j p)) (state_at k j p)
 call_state c k i j p = (call_way c k i j p).0
 
-pub called_power : (c : PortCall) (b : PortState) (p : List ℕ) → keeps_pending c p ≡ true
+called_power : (c : PortCall) (b : PortState) (p : List ℕ) → keeps_pending c p ≡ true
     → b.power ≡ true → (called_port c b).power ≡ true
 called_power c b p h g = grind arith
 
-pub called_change : (c : PortCall) (b : PortState) (p : List ℕ) → keeps_pending c p ≡ true
+called_change : (c : PortCall) (b : PortState) (p : List ℕ) → keeps_pending c p ≡ true
     → b.connection_changed ≡ true → (called_port c b).connection_changed ≡ true
 called_change c b p h g = grind arith
 

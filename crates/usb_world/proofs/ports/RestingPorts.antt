@@ -72,8 +72,7 @@ last_step : (x q : List ℕ) (n : ℕ) → is_way x q ≡ false → is_way x (q 
     → x ≡ q ++ (n ∷ [])
 unfolding is_way
 last_step [] q n w h = false_true (sym w)
-last_step (m ∷ []) [] n w h = ap (λ y. y ∷ [])
-    (sym (same_number-is m n (both (same_number m n) true h).0))
+last_step (m ∷ []) [] n w h = grind (arith, both, same_number-is)
 last_step (m ∷ y ∷ x) [] n w h = false_true (both (same_number m n) false h).1
 last_step (m ∷ x) (k ∷ q) n w h =
     grind (arith, last_step x q, same_number-is)
@@ -118,7 +117,7 @@ sent_ports : (o : Option Sent) (k : Ports) (j : ℕ) (p : List ℕ)
 sent_ports None k j p h = same_ports k j p
 sent_ports (Some q) k j p h = way_ports q false k j p h
 
-pub attempt_ports : (n : ℕ) (t d r : Option Sent) → IsAttemptAt n t d r
+attempt_ports : (n : ℕ) (t d r : Option Sent) → IsAttemptAt n t d r
     → (k : Ports) (j : ℕ) (p : List ℕ)
     → sent_leaves d (after_sent t k) j p ≡ true → SamePorts k (after_attempt t d r k) j p
 attempt_ports n t d r is k j p h =
@@ -221,11 +220,11 @@ course_bits q n c on = (over_course (bits_steps q n) c on).1
 -- A port of which nothing is asked stands as it stood, or a change of connection is pending on its
 -- way.
 
-pub same_self : (k : Ports) (p : List ℕ) → SameAt k k p
+same_self : (k : Ports) (p : List ℕ) → SameAt k k p
 same_self k p = record { port = refl; on = refl; what = refl }
 
-pub same_then : (k l m : Ports) (p : List ℕ) → SameAt k l p → SameAt l m p → SameAt k m p
-same_then k l m p x y = record { port = y.port ∙ x.port; on = y.on ∙ x.on; what = y.what ∙ x.what }
+same_then : (k l m : Ports) (p : List ℕ) → SameAt k l p → SameAt l m p → SameAt k m p
+same_then k l m p x y = grind arith
 
 -- Events
 

@@ -84,25 +84,25 @@ module _ (a : Attempt) (d : Option Damage) (k : Ports) (j : ℕ) (p : List ℕ)
   abbrev deep_here : Bool
   deep_here = deep_at false p
 
-  abbrev sent_token : Option Sent
+  abbrev pub sent_token : Option Sent
   sent_token = token_out a d
 
-  abbrev sent_data : Option Sent
+  abbrev pub sent_data : Option Sent
   sent_data = payload_out a d
 
   abbrev sent_reply : Option Sent
   sent_reply = reply_out a d k
 
-  abbrev x : Location
+  abbrev pub x : Location
   x = record { row = j; rest = p }
 
-  abbrev pub till_end : Place → Place
+  abbrev till_end : Place → Place
   till_end x = step_in sent_reply deep_here (step_in sent_data deep_here (step_in sent_token deep_here x))
 
   pub here : IsFull (place_at k j p)
   here = reach-full k j p one.on
 
-  pub left_is : ports_in a d k ≡ changed_at (λ y. forgotten_in (till_end y)) k j p
+  left_is : ports_in a d k ≡ changed_at (λ y. forgotten_in (till_end y)) k j p
   unfolding ports_in
   left_is = all_is a.addr sent_token sent_data sent_reply (goes a d k) k x one
 
@@ -221,7 +221,7 @@ index_beside a d h k m (suc j ∷ p) f s w e is =
 
 -- ---- one packet at the device
 
-abbrev place_plugged : PortState → Plugged → Place
+abbrev pub place_plugged : PortState → Plugged → Place
 place_plugged b t = full b t.own t.ports
 
 step_in-plugged : (o : Option Sent) (deep : Bool) (b : PortState) (t : Plugged)
@@ -322,7 +322,7 @@ module _ (a : Attempt) (k : Ports) (j : ℕ) (p : List ℕ)
   abbrev deep_there : Bool
   deep_there = deep_at false p
 
-  abbrev t : Option Sent
+  abbrev pub t : Option Sent
   t = token_out a None
 
   abbrev q : Option Sent
@@ -337,22 +337,22 @@ module _ (a : Attempt) (k : Ports) (j : ℕ) (p : List ℕ)
   abbrev spot : Location
   spot = record { row = j; rest = p }
 
-  pub two : Alone q (after_sent t k) spot
+  two : Alone q (after_sent t k) spot
   two = second_alone a.addr t q r (goes a None k) k spot one
 
-  pub three : Alone r (answered_in a None k) spot
+  three : Alone r (answered_in a None k) spot
   three = third_alone a.addr t q r (goes a None k) k spot one
 
-  pub four : Alone None (ended_in a None k) spot
+  four : Alone None (ended_in a None k) spot
   four = last_alone a.addr t q r (goes a None k) k spot one
 
-  abbrev b : PortState
+  abbrev pub b : PortState
   b = (here a None k j p one).port
 
   abbrev device : Plugged
   device = record { own = (here a None k j p one).own; ports = (here a None k j p one).below }
 
-  abbrev n : ℕ
+  abbrev pub n : ℕ
   n = place_of_answer a None + 1
 
   abbrev w : Bool
@@ -361,7 +361,7 @@ module _ (a : Attempt) (k : Ports) (j : ℕ) (p : List ℕ)
   stands : place_at k j p ≡ Some (place_plugged b device)
   stands = (here a None k j p one).at
 
-  pub there : plugged_at k j p ≡ Some device
+  there : plugged_at k j p ≡ Some device
   there = plugged_there t k j p b device one stands
 
   first_at : place_at (after_sent t k) j p
@@ -378,7 +378,7 @@ module _ (a : Attempt) (k : Ports) (j : ℕ) (p : List ℕ)
       there_then q (after_sent t k) j p b _ two
       first_at
 
-  pub heard_is : heard_in a None k ≡ heard_above (heard_of_both y q deep_there device)
+  heard_is : heard_in a None k ≡ heard_above (heard_of_both y q deep_there device)
   unfolding heard_of_both
   heard_is =
       sym (heard_all_of (answers_to t k ++ answers_to q (after_sent t k)))
@@ -390,10 +390,10 @@ module _ (a : Attempt) (k : Ports) (j : ℕ) (p : List ℕ)
       (heard_of-alone q (after_sent t k) j p b (after_token y deep_there device)
       two first_at))
 
-  pub mark_is : mark_in a None k ≡ Whole
+  mark_is : mark_in a None k ≡ Whole
   mark_is = sound_answer _ _
 
-  pub reply_is : reply_in a None k ≡ marked_some None n a.pre (ack_if w)
+  reply_is : reply_in a None k ≡ marked_some None n a.pre (ack_if w)
   reply_is = grind (arith, heard_is, mark_is, reply_taken)
 
   reply_out_is : r ≡ walk_ack y w
@@ -403,27 +403,23 @@ module _ (a : Attempt) (k : Ports) (j : ℕ) (p : List ℕ)
       after_packet_at r deep_there (after_data y q deep_there device) ≡ after_reply y q deep_there
       device
   unfolding after_reply
-  replied =
-      ap (λ o. after_packet_at o deep_there (after_data y q deep_there device)) reply_out_is
-      ∙ sent_to-ack y deep_there _ w
+  replied = grind (arith, reply_out_is, sent_to-ack)
 
   end_at : place_at (ended_in a None k) j p
       ≡ Some (place_plugged b (after_reply y q deep_there device))
-  end_at =
-      there_then r (answered_in a None k) j p b _ three second_at
-      ∙ ap (λ x. Some (place_plugged b x)) replied
+  end_at = grind (arith, replied, second_at, there_then, three)
 
-  pub end_there : plugged_at (ended_in a None k) j p ≡ Some (after_reply y q deep_there device)
+  end_there : plugged_at (ended_in a None k) j p ≡ Some (after_reply y q deep_there device)
   end_there =
       plugged_there None (ended_in a None k) j p b _ four end_at
 
-  pub cleared_is : cleared_in a None k ≡ asks_clearing (side_of y q deep_there device).effect
+  cleared_is : cleared_in a None k ≡ asks_clearing (side_of y q deep_there device).effect
   unfolding side_of
   cleared_is =
       clears_one q (after_sent t k) j p b _ two
       first_at
 
-  pub lost_is : lost_in a None k ≡ (side_of y q deep_there device).address_lost
+  lost_is : lost_in a None k ≡ (side_of y q deep_there device).address_lost
   unfolding lost_in side_of
   lost_is =
       ap (λ o. is_lost o (goes_out a o) (answered_in a None k)) reply_is
@@ -433,7 +429,7 @@ module _ (a : Attempt) (k : Ports) (j : ℕ) (p : List ℕ)
       (others_loss (ended_in a None k) j p four.on four.forgot
       ∙ ap loss_by end_there)
 
-  pub quiet_is : (port : ℕ) → keeps_others port (side_of y q deep_there device).effect ≡ true
+  quiet_is : (port : ℕ) → keeps_others port (side_of y q deep_there device).effect ≡ true
       → IsQuiet port q (after_sent t k) (suc j ∷ p)
   unfolding side_of
   quiet_is port h =
@@ -442,21 +438,15 @@ module _ (a : Attempt) (k : Ports) (j : ℕ) (p : List ℕ)
   till_end_is :
       till_end a None k j p one (place_plugged b device)
       ≡ place_plugged b (after_reply y q deep_there device)
-  till_end_is =
-      ap (λ x. step_in r deep_there (step_in q deep_there x))
-      (step_in-plugged t deep_there b device
-      ∙ ap (λ o. place_plugged b (after_packet_at o deep_there device)) (token_out-undamaged a))
-      ∙ ap (step_in r deep_there) (step_in-plugged q deep_there b _)
-      ∙ step_in-plugged r deep_there b _
-      ∙ ap (place_plugged b) replied
+  till_end_is = grind (arith, replied, step_in, step_in-plugged, token_out-undamaged)
 
-  pub walk_is : changed_at (left_in y q deep_there) k j p ≡ ports_in a None k
+  walk_is : changed_at (left_in y q deep_there) k j p ≡ ports_in a None k
   walk_is =
       changed_at-there (left_in y q deep_there) (λ x. forgotten_in (till_end a None k j p one x)) k
       j p _ stands (ap forgotten_in (sym till_end_is))
       ∙ sym (left_is a None k j p one)
 
-  pub cut_is : changed_at (cut_in y deep_there) k j p ≡ all_forgotten (after_sent t k)
+  cut_is : changed_at (cut_in y deep_there) k j p ≡ all_forgotten (after_sent t k)
   cut_is =
       let after : _ = alone_sent t k (suc j ∷ p) one in
       changed_at-there (cut_in y deep_there) (λ x. forgotten_in (step_in t deep_there x)) k j p
@@ -468,7 +458,7 @@ module _ (a : Attempt) (k : Ports) (j : ℕ) (p : List ℕ)
       ∙ ap (λ x. changed_at forgotten_in x j p) (sent_to_one t k spot one).ports
       ∙ changed_at-twice forgotten_in (step_in t deep_there) k j p)
 
-  pub stopped_is : RefusedFrom q deep_there (after_token y deep_there device)
+  stopped_is : RefusedFrom q deep_there (after_token y deep_there device)
       → IsStopped q (after_sent t k) (after_sent t k)
   stopped_is h =
       stopped_one q (after_sent t k) j p b _ two
@@ -508,14 +498,14 @@ module _ (a : Attempt) (k m : Ports) (j : ℕ) (p : List ℕ) (x : Exchange) (g 
   abbrev device_then : Plugged
   device_then = record { own = (here a None k j p one).own; ports = (here a None k j p one).below }
 
-  abbrev host : HostSide
+  abbrev pub host : HostSide
   host = host_side a
 
   abbrev data_sent : Option Sent
   data_sent = payload_out a None
 
   data_then : walked.data_out ≡ data_sent
-  data_then = walked.data_is ∙ ap (goes_out a) walked.payload
+  data_then = grind arith
 
   side_is : side ≡ side_of host data_sent (deep_at false p) device_then
   side_is = grind (arith, data_then, there)
@@ -531,7 +521,7 @@ module _ (a : Attempt) (k m : Ports) (j : ℕ) (p : List ℕ) (x : Exchange) (g 
   unfolding side_of
   address_is = ap (λ s. s.address) side_is ∙ ap address_by (sym (end_there a k j p one))
 
-  pub ports_there : m ≡ ports_in a None k
+  ports_there : m ≡ ports_in a None k
   ports_there = grind (arith, data_then, walk_is)
 
   answer_is : x.answer ≡ heard_in a None k
@@ -540,11 +530,11 @@ module _ (a : Attempt) (k m : Ports) (j : ℕ) (p : List ℕ) (x : Exchange) (g 
   reply_then : x.reply ≡ reply_in a None k
   reply_then = grind (arith, acknowledged_is, reply_is)
 
-  pub exchange_there : x ≡ exchange_in a None k
+  exchange_there : x ≡ exchange_in a None k
   unfolding exchange_in
   exchange_there = grind (arith, answer_is, cleared_is, lost_is, mark_is, reply_then, side_is)
 
-  pub kept_there : (port : ℕ) → keeps_others port side.effect ≡ true
+  kept_there : (port : ℕ) → keeps_others port side.effect ≡ true
       → option_eq nat_eq side.address (Some a.addr) ≡ true → KeptAt a.addr port k m (suc j ∷ p)
   kept_there port quiet same =
       kept_at port a None k (ended_in a None k) m (suc j ∷ p) side.address same
@@ -587,10 +577,10 @@ pub record CutShort (a : Attempt) (k m : Ports) (p : List ℕ) (o : Option Outgo
 module _ (a : Attempt) (k m : Ports) (j : ℕ) (p : List ℕ) (o : Option Outgoing)
     (one : Alone (token_out a None) k (record { row = j; rest = p }))
     (walked : CutShort a k m (suc j ∷ p) o) where
-  pub cut_there : m ≡ all_forgotten (after_sent (token_out a None) k)
+  cut_there : m ≡ all_forgotten (after_sent (token_out a None) k)
   cut_there = grind (arith, cut_is)
 
-  pub stopped_there :
+  stopped_there :
       IsStopped (payload_out a None) (after_sent (token_out a None) k)
       (after_sent (token_out a None) k)
   stopped_there =
