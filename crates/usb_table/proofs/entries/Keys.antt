@@ -1,29 +1,53 @@
 -- Entries that come and go under their keys.
-use Rattle.std.proofs.Common.{◌≡◌, ◌∙◌, refl, sym, ap, inl, inr, true, false, Bool, ℕ, cond, List}
-use Rattle.std.proofs.Common.{[], ◌∷◌, Option, Some, None, All, ◌⊎◌, ◌||◌, IsSome, IfSome}
+use Rattle.std.proofs.Common.{◌≡◌, ◌≢◌, ◌⊎◌, ◌∙◌, sym, subst, inl, inr, true, ℕ, List, refl, ap}
+use Rattle.std.proofs.Common.{false, Bool, cond, [], ◌∷◌, Option, Some, None, All, ◌||◌, IsSome}
+use Rattle.std.proofs.Common.{IfSome, option_map, arith, ◌+◌, length, not, is_some, nat_eq, ◌++◌}
+use Rattle.std.proofs.Common.{append_assoc}
+use Rattle.std.proofs.lemmas.Bool.{cases_Bool, eqb-true, eq-eqb, false_from_ne_true}
+use Rattle.std.specs.BTreeMap.{is_at, insert_entry}
+use Rattle.std.specs.Cmp.{eq_by_cmp_equiv, nat_cmp_total, unsigned_tied}
+use Rattle.std.specs.Cmp.Lexicographic.{nat_list_cmp_total, same_text, texts_ties, pointwise}
+use Rattle.usb_port.specs.{path_cmp, is_below}
 use Rattle.std.specs.Prelude.{unwrap_or}
 use Rattle.std.specs.Map.{lookup, keys_of, values_of, remove_entry}
-use Rattle.std.specs.BTreeMap.{is_at, insert_entry}
-use Rattle.std.specs.List.{list_any}
+use Rattle.std.specs.List.{list_any, filter, count_by, AllByRecursion}
 use Rattle.std.specs.List.Sorted.{IsStrictlySortedBy}
-use Rattle.std.specs.Option.{option_map}
-use Rattle.std.specs.Ordering.{nat_cmp, is_eq, match_ordering}
-use Rattle.std.specs.Cmp.{eq_by_cmp_equiv, nat_cmp_total, unsigned_tied}
-use Rattle.std.specs.Cmp.Lexicographic.{nat_list_cmp_total}
+use Rattle.std.specs.Ordering.{nat_cmp, is_eq, match_ordering, ordering_reverse}
 use Rattle.std.specs.declared.cmp.Ordering.{Ordering}
 use Rattle.std.specs.declared.cmp.Ordering.TheVariants.{Less, Equal, Greater}
-use Rattle.std.proofs.lemmas.Bool.{eqb-true}
-use Rattle.std.proofs.lemmas.List.Elements.{All-head, All-tail}
-use Rattle.std.proofs.lemmas.Map.Keys.{IsDistinct-from_sorted}
+use Rattle.std.proofs.lemmas.List.Elements.{All-head, All-tail, recursion_from_All}
+use Rattle.std.proofs.lemmas.Map.Keys.{IsDistinct-from_sorted, sorted_head, sorted_tail}
 use Rattle.std.proofs.lemmas.Map.Made.{lookup-map_values}
 use Rattle.std.proofs.lemmas.Map.Views.{All-values_from_lookup}
-use Rattle.usb_port.specs.{path_cmp}
 use Rattle.usb_enum.specs.{Silent, Finding}
-use Rattle.usb_enum.specs.declared.finding.Finding.TheVariants.{Refused}
+use Rattle.usb_enum.specs.declared.finding.Finding.TheVariants.{Refused, Device}
 use Rattle.usb_table.specs.{Pipes, Table, Entries, Rises, has_at, is_at_or_below, Entry, TableSlots}
 use Rattle.usb_table.specs.{Slots, PathKeys, AddressKeys, key_of_path, key_of_address, under}
 use Rattle.usb_table.specs.{values_by_path, findings, finding_under, entries_of, address_in}
-use Rattle.usb_table.specs.{with_address, without_address}
+use Rattle.usb_table.specs.{with_address, without_address, without, TakesOut, address_found}
+use Rattle.usb_table.specs.{HasDevice, HasNoDevice, AreIndexes, has_address, HasNewAddress}
+use Rattle.usb_table.specs.{no_pipes, pipings, table_of, with_entry}
+use Rattle.usb_tree.proofs.Interface.{neither}
+use Rattle.std.proofs.lemmas.List.Sums.{sum_by-cons}
+use Rattle.std.proofs.lemmas.List.{append-nil}
+
+-- Paths that tie are the same.
+
+pub path_tied : (q k : List ℕ) → is_at (path_cmp q) k ≡ true → q ≡ k
+path_tied q k tie = same_text q k (sym (texts_ties q k ∙ tie))
+
+pub path_itself : (q : List ℕ) → is_at (path_cmp q) q ≡ true
+path_itself q = (eq_by_cmp_equiv nat_list_cmp_total).refl q
+
+pub cases_path : (q path : List ℕ) → (q ≡ path) ⊎ (q ≢ path)
+cases_path q path = elim (cases_Bool (is_at (path_cmp path) q)) [
+  | inl tie ↦ inl (sym (path_tied path q tie))
+  | inr apart ↦
+      inr (λ e. let tie = subst (λ (r : List ℕ). is_at (path_cmp path) r ≡ true) (sym e)
+      (path_itself path) in cc (tie, apart))
+]
+
+-- Entries that come and go under their keys.
 
 -- Tests of keys
 
@@ -192,3 +216,365 @@ some_address (Some f) a h = refl
 pub none_or : (o : Option ℕ) → (o ≡ None) ⊎ ((k : ℕ) × (o ≡ Some k))
 none_or None = inl refl
 none_or (Some k) = inr (k, refl)
+
+-- Entries that are taken out.
+
+length_without : (test : List ℕ → Bool) (es : Entries) (v : Finding) → lookup test es ≡ Some v
+    → length (remove_entry test es) + 1 ≡ length es
+length_without test [] v h = absurd cc
+length_without test (e ∷ es) v h =
+    (elim (test e.0) as (λ b. cond b (Some e.1) (lookup test es) ≡ Some v
+    → length (cond b es (e ∷ remove_entry test es)) + 1 ≡ length (e ∷ es)) [
+      | true ↦ λ k. omega arith
+      | false ↦ λ k. omega (arith, length_without test es v k)
+    ]) h
+
+pub takes_one : (path : List ℕ) (finding : Finding) (old new : Table)
+    → TakesOut path finding old new → length new.entries + 1 ≡ length old.entries
+takes_one path finding old new t =
+    rw t.rest (length_without (is_at (path_cmp t.first)) old.entries finding t.found)
+
+-- a taken entry stood at the path or below it, so that what stands elsewhere is as before
+kept_step : (keep : List ℕ → Bool) (e : List ℕ × Finding) (es rest : Entries) (b : Bool)
+    → (b ≡ true → keep e.0 ≡ false) → filter (λ d. keep d.0) rest ≡ filter (λ d. keep d.0) es
+    → filter (λ d. keep d.0) (cond b es (e ∷ rest)) ≡ filter (λ d. keep d.0) (e ∷ es)
+kept_step keep e es rest true goes more = rw (goes refl) refl
+kept_step keep e es rest false goes more = ap (λ l. cond (keep e.0) (e ∷ l) l) more
+
+kept_apart : (keep test : List ℕ → Bool) → ((q : List ℕ) → test q ≡ true → keep q ≡ false)
+    → (es : Entries) → filter (λ d. keep d.0) (remove_entry test es) ≡ filter (λ d. keep d.0) es
+kept_apart keep test goes [] = refl
+kept_apart keep test goes (e ∷ es) = kept_step keep e es (remove_entry test es) (test e.0)
+    (goes e.0) (kept_apart keep test goes es)
+
+pub taken_apart : (path : List ℕ) (finding : Finding) (old new : Table)
+    → TakesOut path finding old new → without path new.entries ≡ without path old.entries
+taken_apart path finding old new t =
+    ap (λ (left : Table). without path left.entries) t.rest
+    ∙ kept_apart (λ q. not (is_at_or_below q path)) (is_at (path_cmp t.first))
+    (λ q tie. rw (← path_tied t.first q tie, t.at) refl) old.entries
+
+pub none_apart : (path : List ℕ) (es : Entries) → has_at path es ≡ false → without path es ≡ es
+none_apart path [] h = refl
+none_apart path (e ∷ es) h =
+    let parts = neither (is_at_or_below e.0 path) (has_at path es) h in
+    rw parts.0 (ap (λ l. e ∷ l) (none_apart path es parts.1))
+
+-- What the keys of addresses tell of the entries.
+
+pub addressed_stands : (found : Slots) (paths : PathKeys) (addresses : AddressKeys)
+    (address key : ℕ) → AreIndexes found paths addresses → key_of_address addresses address
+    ≡ Some key → IsSome (found key)
+addressed_stands found paths addresses address key are is =
+    some_address (found key) address ((are.addressed address key).0 is)
+
+pub has_device : (found : Slots) (paths : PathKeys) (addresses : AddressKeys) (address key : ℕ)
+    (finding : Finding) → AreIndexes found paths addresses → key_of_address addresses address
+    ≡ Some key → found key ≡ Some finding → HasDevice address finding (entries_of found paths)
+has_device found paths addresses address key finding are is stands =
+    let at = are.named key (ap is_some stands) in
+    record {
+      path = at.0;
+      found = entries_of-key found at.0 paths key finding at.1 stands;
+      addressed = sym (ap address_in stands) ∙ (are.addressed address key).0 is;
+    }
+
+some_or : (o : Option Finding) → IsSome o → (f : Finding) × (o ≡ Some f)
+some_or None s = absurd cc
+some_or (Some f) s = (f, refl)
+
+no_device_by : (found : Slots) (paths : PathKeys) (addresses : AddressKeys) (address : ℕ)
+    → AreIndexes found paths addresses → key_of_address addresses address ≡ None
+    → (path : List ℕ) (finding : Finding) (key : Option ℕ) → key_of_path paths path ≡ key
+    → option_map (finding_under found) key ≡ Some finding → address_found finding ≢ Some address
+no_device_by found paths addresses address are none path finding None at is = absurd cc
+no_device_by found paths addresses address are none path finding (Some key) at is = λ has.
+    let it = some_or (found key) (are.stands path key at) in
+    let same : it.0 ≡ finding = cc (is, finding_stands found key it.0 it.1) in
+    let here : key_of_address addresses address ≡ Some key =
+    (are.addressed address key).1 (ap address_in it.1 ∙ ap address_found same ∙ has) in
+    absurd (cc (here, none))
+
+pub key_of_address-no_device : (found : Slots) (paths : PathKeys) (addresses : AddressKeys)
+    (address : ℕ) → AreIndexes found paths addresses → key_of_address addresses address ≡ None
+    → HasNoDevice address (entries_of found paths)
+key_of_address-no_device found paths addresses address are none path finding is =
+    no_device_by found paths addresses address are none path finding (key_of_path paths path) refl
+    (sym (entries-lookup found path paths) ∙ is)
+
+-- An entry that is to come has no key yet, and so has its address.
+
+-- What is told of the entries, as the keys have it
+
+is_at-not_way : (path q : List ℕ) → is_at_or_below q path ≡ false → is_at (path_cmp path) q ≡ false
+is_at-not_way path q apart = false_from_ne_true _ (λ tie.
+    let yes : pointwise nat_eq q path ≡ true = texts_ties q path
+    ∙ rw (path_tied path q tie) (path_itself q) in
+    cc (yes, (neither (pointwise nat_eq q path) (is_below q path) apart).0))
+
+pub none_at : (path : List ℕ) (es : Entries) → has_at path es ≡ false
+    → lookup (is_at (path_cmp path)) es ≡ None
+none_at path [] none = refl
+none_at path (e ∷ es) none =
+    let parts = neither (is_at_or_below e.0 path) (has_at path es) none in
+    ap (λ b. cond b (Some e.1) (lookup (is_at (path_cmp path)) es))
+    (is_at-not_way path e.0 parts.0) ∙ none_at path es parts.1
+
+none_shown : (f : ℕ → Finding) (key : Option ℕ) → option_map f key ≡ None → key ≡ None
+none_shown f None none = refl
+none_shown f (Some key) none = absurd cc
+
+pub away_key : (found : Slots) (path : List ℕ) (paths : PathKeys)
+    → lookup (is_at (path_cmp path)) (entries_of found paths) ≡ None
+    → key_of_path paths path ≡ None
+away_key found path paths none =
+    none_shown (finding_under found) (key_of_path paths path)
+    (sym (entries-lookup found path paths) ∙ none)
+
+count_by-found : (a : ℕ) (path : List ℕ) (es : Entries) (f : Finding)
+    → lookup (is_at (path_cmp path)) es ≡ Some f → has_address a f ≡ true
+    → count_by (λ d. has_address a d.1) es ≡ 0 → ⊥
+count_by-found a path [] f is has none = absurd cc
+count_by-found a path (e ∷ es) f is has none =
+    let split : count_by (λ d. has_address a d.1) (e ∷ es) ≡ cond (has_address a e.1) 1 0 + count_by
+    (λ d. has_address a d.1) es = sum_by-cons (λ d. cond (has_address a d.1) 1 0) e es in
+    let rest : count_by (λ d. has_address a d.1) es ≡ 0 = omega (arith, split, none) in
+    (elim (is_at (path_cmp path) e.0) as (λ b. cond b (Some e.1) (lookup (is_at (path_cmp path)) es)
+    ≡ Some f → ⊥) [
+      | true ↦ λ h.
+          let same : e.1 ≡ f = cc h in
+          let one : ◌≡◌ {A = ℕ} (cond (has_address a e.1) 1 0) 1 =
+          ap (λ (g : Finding). cond (has_address a g) 1 0) same
+          ∙ ap (λ (b : Bool). cond b 1 0) has in
+          absurd (omega (arith, split, one, none))
+      | false ↦ λ h. count_by-found a path es f h has rest
+    ]) is
+
+pub has_its : (f : Finding) (a : ℕ) → address_found f ≡ Some a → has_address a f ≡ true
+unfolding has_address
+has_its (Device device) a is = eq-eqb device.address a (cc is)
+has_its (Refused cause) a is = absurd cc
+
+address_in-some : (o : Option Finding) (a : ℕ) → address_in o ≡ Some a → (f : Finding)
+    × (o ≡ Some f) × (address_found f ≡ Some a)
+address_in-some None a h = absurd cc
+address_in-some (Some f) a h = (f, refl, h)
+
+key_of_address-none : (found : Slots) (paths : PathKeys) (addresses : AddressKeys)
+    → AreIndexes found paths addresses → (a : ℕ)
+    → count_by (λ e. has_address a e.1) (entries_of found paths) ≡ 0
+    → key_of_address addresses a ≡ None
+key_of_address-none found paths addresses are a none = elim (none_or (key_of_address addresses a)) [
+  | inl nothing ↦ nothing
+  | inr some ↦
+      let k = some.0 in
+      let f = address_in-some (found k) a ((are.addressed a k).0 some.1) in
+      let at = are.named k (ap is_some f.1) in
+      absurd (count_by-found a at.0 (entries_of found paths) f.0
+      (entries_of-key found at.0 paths k f.0 at.1 f.1) (has_its f.0 a f.2) none)
+]
+
+pub free_key : (found : Slots) (paths : PathKeys) (addresses : AddressKeys) (finding : Finding)
+    → AreIndexes found paths addresses → HasNewAddress finding (entries_of found paths)
+    → IfSome (address_found finding) (λ a. key_of_address addresses a ≡ None)
+free_key found paths addresses (Device device) are fresh =
+    key_of_address-none found paths addresses are device.address fresh
+free_key found paths addresses (Refused cause) are fresh = tt
+
+-- A table that is copied entry by entry, by rising path.
+
+-- What comes next in a rising list goes behind what there is
+
+greater : (path q : List ℕ) → path_cmp q path ≡ Less → path_cmp path q ≡ Greater
+greater path q less = nat_list_cmp_total.antisymm path q ∙ ap ordering_reverse less
+
+module _ {A : Type 0} (path : List ℕ) where
+  -- the paths are less
+  abbrev AreBefore : List (List ℕ × A) → Type 0
+  AreBefore had = AllByRecursion (λ d. path_cmp d.0 path ≡ Less) had
+
+  pub insert_last : (had : List (List ℕ × A)) (value : A) → AreBefore had
+      → insert_entry path_cmp had path value ≡ had ++ (path, value) ∷ []
+  insert_last [] value less = refl
+  insert_last (d ∷ ds) value less =
+      ap (λ o. match_ordering o ((path, value) ∷ d ∷ ds) ((d.0, value) ∷ ds)
+      (d ∷ insert_entry path_cmp ds path value)) (greater path d.0 less.0)
+      ∙ ap (λ l. d ∷ l) (insert_last ds value less.1)
+
+  pub none_yet : (had : List (List ℕ × A)) → AreBefore had
+      → lookup (is_at (path_cmp path)) had ≡ None
+  none_yet [] less = refl
+  none_yet (d ∷ ds) less =
+      ap (λ b. cond b (Some d.1) (lookup (is_at (path_cmp path)) ds))
+      (ap is_eq (greater path d.0 less.0)) ∙ none_yet ds less.1
+
+module _ {A : Type 0} where
+  at_middle : (P : List ℕ → Type 0) (ds : List (List ℕ × A)) (e : List ℕ × A)
+      (rest : List (List ℕ × A)) → AllByRecursion P (keys_of (ds ++ e ∷ rest)) → P e.0
+  at_middle P [] e rest all = all.0
+  at_middle P (d ∷ ds) e rest all = at_middle P ds e rest all.1
+
+  pub before_next : (had : List (List ℕ × A)) (e : List ℕ × A) (rest : List (List ℕ × A))
+      → IsStrictlySortedBy path_cmp (keys_of (had ++ e ∷ rest)) → AreBefore e.0 had
+  before_next [] e rest rises = tt
+  before_next (d ∷ ds) e rest rises = (
+    at_middle (λ p. path_cmp d.0 p ≡ Less) ds e rest
+        (sorted_head path_cmp d.0 (keys_of (ds ++ e ∷ rest)) rises),
+    before_next ds e rest (sorted_tail path_cmp d.0 (keys_of (ds ++ e ∷ rest)) rises),
+  )
+
+prefix : {X : Type 0} (P : X → Type 0) (xs ys : List X) → AllByRecursion P (xs ++ ys)
+    → AllByRecursion P xs
+prefix P [] ys all = tt
+prefix P (x ∷ xs) ys all = (all.0, prefix P xs ys all.1)
+
+middle : {X : Type 0} (P : X → Type 0) (xs : List X) (x : X) (ys : List X)
+    → AllByRecursion P (xs ++ x ∷ ys) → P x
+middle P [] x ys all = all.0
+middle P (y ∷ xs) x ys all = middle P xs x ys all.1
+
+-- No entry before it has its address
+
+address_of_found : (o : Option Finding) (a : ℕ)
+    → has_address a (unwrap_or o (Refused Silent)) ≡ true → address_in o ≡ Some a
+unfolding has_address
+address_of_found None a has = absurd cc
+address_of_found (Some (Device device)) a has = ap Some (eqb-true device.address a has)
+address_of_found (Some (Refused cause)) a has = absurd cc
+
+module _ (found : Slots) (paths : PathKeys) (addresses : AddressKeys)
+    (are : AreIndexes found paths addresses) (path : List ℕ) (key a : ℕ)
+    (at : key_of_path paths path ≡ Some key) (has : address_in (found key) ≡ Some a) where
+  -- at another path, which is less
+  abbrev IsOther : List ℕ × ℕ → Type 0
+  IsOther d = (key_of_path paths d.0 ≡ Some d.1) × (path_cmp d.0 path ≡ Less)
+
+  not_its : (d : List ℕ × ℕ) → IsOther d → has_address a (finding_under found d.1) ≡ false
+  not_its d other = elim (cases_Bool (has_address a (finding_under found d.1))) [
+    | inl is ↦
+        let one = (are.addressed a d.1).1 (address_of_found (found d.1) a is) in
+        let two = (are.addressed a key).1 has in
+        let same : d.1 ≡ key = cc (one, two) in
+        let here : path ≡ d.0 = are.once d.0 path d.1 other.0 (at ∙ ap Some (sym same)) in
+        let less : path_cmp d.0 d.0 ≡ Less = rw here at other.1 in
+        let apart : is_at (path_cmp d.0) d.0 ≡ false = ap is_eq less in
+        let itself = path_itself d.0 in
+        absurd (cc (apart, itself))
+    | inr not ↦ not
+  ]
+
+  pub none_has : (ds : PathKeys) → AllByRecursion IsOther ds
+      → count_by (λ e. has_address a e.1) (entries_of found ds) ≡ 0
+  none_has [] all = refl
+  none_has (d ∷ ds) all =
+      let e : List ℕ × Finding = (d.0, finding_under found d.1) in
+      let first : ◌≡◌ {A = ℕ} (cond (has_address a (finding_under found d.1)) 1 0) 0 =
+      ap (λ (b : Bool). cond b 1 0) (not_its d all.0) in
+      let split : count_by (λ e. has_address a e.1) (entries_of found (d ∷ ds))
+      ≡ cond (has_address a (finding_under found d.1)) 1 0
+      + count_by (λ e. has_address a e.1) (entries_of found ds) =
+      sum_by-cons (λ e. cond (has_address a e.1) 1 0) e (entries_of found ds) in
+      let more = none_has ds all.1 in
+      omega (arith, split, first, more)
+
+both : {X : Type 0} (P Q : X → Type 0) (xs : List X) → AllByRecursion P xs → AllByRecursion Q xs
+    → AllByRecursion (λ x. P x × Q x) xs
+both P Q [] p q = tt
+both P Q (x ∷ xs) p q = ((p.0, q.0), both P Q xs p.1 q.1)
+
+new_address : (found : Slots) (paths : PathKeys) (addresses : AddressKeys)
+    → AreIndexes found paths addresses → (path : List ℕ) (key : ℕ) (finding : Finding)
+    → key_of_path paths path ≡ Some key → found key ≡ Some finding → (ds : PathKeys)
+    → AllByRecursion (λ d. (key_of_path paths d.0 ≡ Some d.1) × (path_cmp d.0 path ≡ Less)) ds
+    → HasNewAddress finding (entries_of found ds)
+new_address found paths addresses are path key (Device device) at stands ds others =
+    none_has found paths addresses are path key device.address at (ap address_in stands) ds others
+new_address found paths addresses are path key (Refused cause) at stands ds others = tt
+
+-- The copy as far as it has come
+
+shown : {A : Type 0} (none : A) (slots : ℕ → Option A) (ds : PathKeys) (e : List ℕ × ℕ)
+    → values_by_path none slots (ds ++ e ∷ [])
+    ≡ values_by_path none slots ds ++ (e.0, under none slots e.1) ∷ []
+shown none slots [] e = refl
+shown none slots (d ∷ ds) e = ap (λ l. (d.0, under none slots d.1) ∷ l) (shown none slots ds e)
+
+before_shown : {A : Type 0} (none : A) (slots : ℕ → Option A) (path : List ℕ) (ds : PathKeys)
+    → AreBefore path ds → AreBefore path (values_by_path none slots ds)
+before_shown none slots path [] less = tt
+before_shown none slots path (d ∷ ds) less = (less.0, before_shown none slots path ds less.1)
+
+-- the entries before the rest are in it
+pub record Copied (standings : TableSlots) (paths rest : PathKeys) (copy : Table) : Type 0 where
+  before : PathKeys
+  split : before ++ rest ≡ paths
+  is : copy ≡ table_of standings before
+
+pub copied_none : (standings : TableSlots) (paths rest : PathKeys) (copy : Table) → rest ≡ paths
+    → copy ≡ table_of standings [] → Copied standings paths rest copy
+copied_none standings paths rest copy all none = record { before = []; split = all; is = none }
+
+pub copied_all : (standings : TableSlots) (paths rest : PathKeys) (copy : Table)
+    → Copied standings paths rest copy → rest ≡ [] → copy ≡ table_of standings paths
+copied_all standings paths rest copy d none =
+    d.is ∙ ap (table_of standings)
+    (sym (append-nil d.before) ∙ ap (λ l. d.before ++ l) (sym none) ∙ d.split)
+
+-- what comes next
+module _ (standings : TableSlots) (paths left rest : PathKeys) (path : List ℕ) (key : ℕ)
+    (copy : Table) (rises : IsStrictlySortedBy path_cmp (keys_of paths))
+    (each : All (λ e. key_of_path paths e.0 ≡ Some e.1) paths)
+    (so_far : Copied standings paths left copy) (step : left ≡ (path, key) ∷ rest) where
+  d : Copied standings paths ((path, key) ∷ rest) copy
+  d = rw step at so_far
+
+  abbrev IsFound : List ℕ × ℕ → Type 0
+  IsFound e = key_of_path paths e.0 ≡ Some e.1
+
+  found : AllByRecursion IsFound (d.before ++ (path, key) ∷ rest)
+  found = rw d.split (recursion_from_All IsFound paths each)
+
+  pub next_at : key_of_path paths path ≡ Some key
+  next_at = middle IsFound d.before (path, key) rest found
+
+  less : AreBefore path d.before
+  less = before_next d.before (path, key) rest
+      (rw d.split rises)
+
+  pub next_away : lookup (is_at (path_cmp path)) copy.entries ≡ None
+  next_away =
+      ap (λ (t : Table). lookup (is_at (path_cmp path)) t.entries) d.is
+      ∙ none_yet path (table_of standings d.before).entries
+      (before_shown (Refused Silent) (findings standings) path d.before less)
+
+  pub next_address : (addresses : AddressKeys) (s : Entry) → standings key ≡ Some s
+      → AreIndexes (findings standings) paths addresses → HasNewAddress s.finding copy.entries
+  next_address addresses s stands are =
+      rw d.is
+      (new_address (findings standings) paths addresses are path key s.finding next_at
+      (findings-standing standings key s stands) d.before
+      (both IsFound (λ e. path_cmp e.0 path ≡ Less) d.before
+      (prefix IsFound d.before ((path, key) ∷ rest) found) less))
+
+  -- one list with one more value
+  one_more : {A : Type 0} (none : A) (slots : ℕ → Option A) (value : A) → slots key ≡ Some value
+      → insert_entry path_cmp (values_by_path none slots d.before) path value
+      ≡ values_by_path none slots (d.before ++ (path, key) ∷ [])
+  one_more none slots value at =
+      insert_last path (values_by_path none slots d.before) value
+      (before_shown none slots path d.before less)
+      ∙ ap (λ o. values_by_path none slots d.before ++ (path, unwrap_or o none) ∷ []) (sym at)
+      ∙ sym (shown none slots d.before (path, key))
+
+  pub copied_more : (s : Entry) (new : Table) → standings key ≡ Some s
+      → new ≡ with_entry path s.finding s.pipes copy → Copied standings paths rest new
+  copied_more s new stands put = record {
+    before = d.before ++ (path, key) ∷ [];
+    split = append_assoc d.before ((path, key) ∷ []) rest ∙ d.split;
+    is = put ∙ ap (with_entry path s.finding s.pipes) d.is
+        ∙ same_table _ _ _ _
+        (one_more (Refused Silent) (findings standings) s.finding
+        (findings-standing standings key s stands))
+        (one_more no_pipes (pipings standings) s.pipes
+        (ap (option_map (λ (t : Entry). t.pipes)) stands));
+  }

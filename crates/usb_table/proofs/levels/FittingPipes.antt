@@ -1,4 +1,5 @@
--- What each call through pipes leaves of the device at their other ends: it is as far as the pipes.
+-- What calls and transfers through pipes leave of the device at their other ends: it is as far as
+-- the pipes.
 use Rattle.usb_device.specs.{Location, EndpointData, EndpointState, Registers, bulk_at, data_by}
 use Rattle.usb_device.specs.{SourceAt, PollAt, NeverTold, OnlyStage, OnlySink, OnlySource}
 use Rattle.usb_device.specs.{OnlyWrite, Spec, State, OutEnd, InEnd, endpoint_row, in_data, in_end}
@@ -9,11 +10,11 @@ use Rattle.usb_descriptor.specs.{max_of_usable}
 use Rattle.usb_request.specs.{DIRECTION_IN}
 use Rattle.std.proofs.Common.{◌≡◌, ◌∙◌, refl, sym, ap, subst, true, false, ℕ, ◌+◌, ◌==◌, ◌≤◌, ◌&&◌}
 use Rattle.std.proofs.Common.{List, [], Option, None, Some, Result, Ok, Err, IsOk, is_some, Bool}
-use Rattle.std.proofs.Common.{IfSome, eqb-true, length}
+use Rattle.std.proofs.Common.{IfSome, eqb-true, length, ◌≢◌}
 use Rattle.arrayvec.specs.ArrayVec.{ArrayVec}
 use Rattle.usb_packet.specs.{Toggle}
 use Rattle.usb_tree.specs.{address_of}
-use Rattle.usb_world.specs.{World}
+use Rattle.usb_world.specs.{World, BusFault, Relation, EachWas}
 use Rattle.usb_transaction.specs.{IsStatusEndpoint, Target}
 use Rattle.usb_pipe.specs.{PipeFault, PipeState, Interrupt, OutPipeInSync, InPipeInSync, pipe_known}
 use Rattle.usb_pipe.specs.{got_after, SendLeaves, ClearLeaves, PollLeaves, interrupt_made}
@@ -23,8 +24,14 @@ use Rattle.usb_table.specs.{AreInPlace, FunctionInSync, FunctionPipes, pipe_at, 
 use Rattle.usb_table.specs.{Hub, Function, Absent, StatusPipeInSync, FitsOut, FitsIn, PipesInSync}
 use Rattle.usb_table.specs.{SameSettings}
 use Rattle.usb_table.proofs.levels.StandingPipes.{at_elsewhere, at_with, same_number, same_way}
-use Rattle.usb_table.proofs.transfers.HaltClears.{in_cleared, out_cleared}
-use Rattle.usb_table.proofs.transfers.DevicesKept.{RanAs}
+use Rattle.usb_table.proofs.levels.StandingPipes.{IsPipeOf, addressed}
+use Rattle.usb_table.proofs.transfers.FreeRequests.{in_cleared, out_cleared}
+use Rattle.usb_table.proofs.transfers.DevicesKept.{RanAs, PipeKeeps}
+use Rattle.usb_pipe.specs.declared.fault.PipeFault.TheVariants as pipe_fault
+use Rattle.usb_enum.proofs.Interface.{each_joint}
+
+-- What each call through pipes leaves of the device at their other ends: it is as far as the
+-- pipes.
 
 -- An endpoint that nothing moved at
 
@@ -434,3 +441,40 @@ module _ (device : Accepted) (ends : Type 0) (pipes : FunctionPipes) (placed : A
                 (x.source there into level.0 level.1).0,
           )
           only.outs (λ a apart. only.others a (apart_of a apart))
+
+-- What transfers leave of the pipes to a device.
+
+-- each device over a call, where no address was held twice
+abbrev pub EachMoves : Accepted → ℕ → Type 0 → Pipes → Pipes → World → World → Type 0
+EachMoves device address ends pipes left old new = new.shared ≡ false
+    → EachWas (PipesMove device address ends pipes left) old new
+
+-- Where the bus is at work, the answer is not its own
+
+pub known_left : {A : Type 0} (answer : Result A PipeFault) (left : PipeState)
+    → ((fault : BusFault) → answer ≢ Err (pipe_fault.Bus fault)) → pipe_known answer left ≡ left
+known_left (Err (pipe_fault.Bus fault)) left other = absurd (other fault refl)
+known_left _ left other = refl
+
+pub sound_known : {A : Type 0} (old : World) (answer : Result A PipeFault) (left : PipeState)
+    (w : World)
+    → PipeKeeps old answer w → w.fault ≡ None → pipe_known answer left ≡ left
+sound_known old answer left w kept sound =
+    known_left answer left (λ fault e. let is = (kept.told fault e).told in cc (is, sound))
+
+-- Through one pipe to a device that was found, by what is left of each device
+module _ {device : Accepted} {below_hub : Bool} {pipes : FunctionPipes} (pipe left : PipeState)
+    (of : IsPipeOf device below_hub pipes pipe) where
+  pub call_each : {A : Type 0} (old : World) (answer : Result A PipeFault) (new : World)
+      (L : Relation) → PipeKeeps old answer new → (new.shared ≡ false → EachWas L old new)
+      → ((j : Location) (s v : State) → (new.fault ≡ None → pipe_known answer left ≡ left)
+      → L j s v → SameSettings j s v → PipesMove device pipe.target.addr (new.fault ≡ None)
+      (Function pipes) (Function (with_pipe left pipes)) j s v)
+      → EachMoves device device.address (new.fault ≡ None) (Function pipes)
+      (Function (with_pipe left pipes)) old new
+  call_each old answer new L kept leaves moves =
+      subst (λ a. EachMoves device a (new.fault ≡ None) (Function pipes)
+      (Function (with_pipe left pipes)) old new) (addressed pipe of)
+      (λ single. each_joint L SameSettings _
+      (λ j s v. moves j s v (sound_known old answer left new kept)) old new (leaves single)
+      (kept.worlds.devices.same single))

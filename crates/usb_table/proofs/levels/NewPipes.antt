@@ -1,17 +1,26 @@
--- New pipes to a device that was just configured are level.
-use Rattle.std.proofs.Common.{◌≡◌, ◌∙◌, refl, sym, ap, subst, arith, Bool, true, false, ℕ, ◌==◌}
-use Rattle.std.proofs.Common.{◌≤◌, ◌&&◌, not, if◌then◌else◌, List, [], length, Option, None, Some}
-use Rattle.std.proofs.Common.{map, min, take, get_or, nat_lt, slice_index, slice_index_or, is_some}
-use Rattle.std.proofs.Common.{inl, inr}
+-- New pipes to a device that was just configured, and its endpoint 0.
+use Rattle.std.proofs.Common.{◌≡◌, ap, true, ℕ, List, Option, None, Some, is_some, arith, ◌≤◌, ◌<◌}
+use Rattle.std.proofs.Common.{Bool, ◌∙◌, refl, sym, subst, false, ◌==◌, ◌&&◌, not, if◌then◌else◌}
+use Rattle.std.proofs.Common.{[], length, map, min, take, get_or, nat_lt, slice_index}
+use Rattle.std.proofs.Common.{slice_index_or, inl, inr}
+use Rattle.usb_descriptor.specs.{status_endpoint_of, UsableEndpoint, max_of_usable, usable_of}
+use Rattle.usb_descriptor.specs.{usable_under, default_settings}
+use Rattle.usb_enum.specs.{Accepted, HasFacts, HubFacts, configuration_of, target_of, IsAs}
+use Rattle.usb_enum.specs.{texts_of, is_good_hub, gives_hub, holds_changes, is_hub_device}
+use Rattle.usb_enum.specs.{HostOptions, IsOwn}
+use Rattle.usb_table.specs.{IsSoundDevice, Function, PipesInSync, new_status, pipe_at, lost_at}
+use Rattle.usb_table.specs.{none_lost, AreFunctionPipes, IsPipe, first_endpoint, first_number}
+use Rattle.usb_table.specs.{new_function, new_pipe, new_pipes, number_of, row_of_ends, usable_end}
+use Rattle.usb_table.specs.{end_under}
 use Rattle.std.proofs.lemmas.Bool.{and_parts, cases_lt}
+use Rattle.usb_transaction.specs.{IsTarget, Target}
+use Rattle.usb_enum.proofs.Interface.{device_fits, AcceptsChosen, HasChosen, accepts, has_chosen}
 use Rattle.std.proofs.lemmas.Bool.Decides.{nat_tests}
 use Rattle.std.proofs.lemmas.Option.{same_Some}
 use Rattle.std.proofs.lemmas.List.{get_or-map, get_or-replicate, get_or_past}
 use Rattle.std.proofs.lemmas.List.FromFn.{get_or-range_with_len}
 use Rattle.arrayvec.specs.ArrayVec.{ArrayVec}
 use Rattle.usb_request.specs.{HUB_CLASS}
-use Rattle.usb_descriptor.specs.{UsableEndpoint, max_of_usable, status_endpoint_of, usable_of}
-use Rattle.usb_descriptor.specs.{usable_under, default_settings}
 use Rattle.usb_descriptor.proofs.Interface.{length-default_settings, status_endpoint-wide}
 use Rattle.usb_descriptor.proofs.Interface.{usable_under-small}
 use Rattle.usb_device.specs.{rested, EndpointState, end_numbers, served_at, tells_changes, text_of}
@@ -19,18 +28,42 @@ use Rattle.usb_device.specs.{hub_ports, number_or_one, status_length, status_num
 use Rattle.usb_device.specs.{total_of, PollAt, SourceAt, State, Hub as HubSpec, IsSpec}
 use Rattle.usb_device.specs.{has_hub_class, hub_fits, in_end}
 use Rattle.usb_tree.proofs.Interface.{and_false}
-use Rattle.usb_transaction.specs.{Target}
 use Rattle.usb_pipe.specs.{PipeState}
 use Rattle.usb_hub.specs.{IsFresh}
-use Rattle.usb_enum.specs.{Accepted, HubFacts, IsAs, texts_of, is_good_hub, gives_hub, target_of}
-use Rattle.usb_enum.specs.{configuration_of, holds_changes, is_hub_device, HostOptions, IsOwn}
 use Rattle.usb_enum.specs.declared.finding.Finding.TheVariants.{Device}
-use Rattle.usb_table.specs.{Function, PipesInSync, new_status, pipe_at, lost_at, none_lost}
-use Rattle.usb_table.specs.{AreFunctionPipes, IsPipe, first_endpoint, first_number, new_function}
-use Rattle.usb_table.specs.{new_pipe, new_pipes, number_of, row_of_ends, usable_end, end_under}
-use Rattle.usb_enum.proofs.Interface.{AcceptsChosen, HasChosen, accepts, has_chosen}
 use Rattle.usb_pipe.proofs.Interface.{is_some_byte}
 use Rattle.usb_table.proofs.levels.FittingPipes.{FitsWay, state_at, way-none}
+
+-- A hub that is accepted has a status endpoint (11.12.1).
+
+has_by : (bytes text : List ℕ) (hub : Option HubFacts) → HasFacts bytes text hub
+    → is_some hub ≡ true → is_some (status_endpoint_of true text) ≡ true
+has_by bytes text None has hub = absurd (cc hub)
+has_by bytes text (Some facts) has hub = ap is_some has.2.is
+
+pub sound_status : (device : Accepted) → IsSoundDevice device → is_some device.hub ≡ true
+    → is_some (status_endpoint_of true (configuration_of device)) ≡ true
+sound_status device sound hub =
+    has_by device.bytes (configuration_of device) device.hub sound.hub hub
+
+-- Endpoint 0 of a device that was accepted.
+
+pub sound_target_fits : (device : Accepted) (below_hub : Bool) → IsSoundDevice device
+    → device.address < 128 → IsTarget (target_of device below_hub)
+sound_target_fits device below_hub sound address =
+    let fits = device_fits device.low device.bytes sound.head in
+    record {
+      addr_fits = address;
+      max_least = omega (arith, fits.0);
+      max_most = fits.1;
+      pre_low = λ h. (and_parts device.low below_hub h).0;
+    }
+
+pub sound_target_wide : (device : Accepted) (below_hub : Bool) → IsSoundDevice device
+    → 8 ≤ (target_of device below_hub).max
+sound_target_wide device below_hub sound = (device_fits device.low device.bytes sound.head).0
+
+-- New pipes to a device that was just configured are level.
 
 -- New pipes stand at the endpoints that a pipe can use
 

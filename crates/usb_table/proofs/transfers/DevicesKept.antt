@@ -41,7 +41,7 @@ use Rattle.usb_hub.proofs.Interface.{each_leaves, order_elsewhere, write_backlog
 use Rattle.usb_hub.proofs.Interface.{write_so}
 use Rattle.usb_enum.proofs.Interface.{ends_without_fault}
 use Rattle.usb_table.specs.{SameSettings, KeepsSettings, OnlyTransfers}
-use Rattle.usb_table.proofs.levels.KeptPipes.{broken_or_not, empty_or_not}
+use Rattle.usb_table.proofs.levels.StandingPipes.{broken_or_not, empty_or_not}
 
 -- Each device over such an attempt
 

@@ -1,7 +1,7 @@
--- What a request asks of a device that changes no address, no configuration, no toggle and no port.
+-- Requests and calls that leave endpoints as they were.
 use Rattle.std.proofs.Common.{◌≡◌, ◌⊎◌, inl, inr, refl, ◌∙◌, ap, ℕ, ◌/◌, ◌==◌, ◌≤◌, nat_lt, Bool}
 use Rattle.std.proofs.Common.{true, not, sym, false, arith, ◌&&◌, ◌||◌, if◌then◌else◌, List, Option}
-use Rattle.std.proofs.Common.{None, Some}
+use Rattle.std.proofs.Common.{None, Some, subst, eq-eqb, get_or}
 use Rattle.std.proofs.lemmas.Bool.{lt-ltb}
 use Rattle.std.proofs.lemmas.Bool.Decides.{nat_tests}
 use Rattle.usb_tree.proofs.Interface.{neither}
@@ -15,10 +15,17 @@ use Rattle.usb_device.specs.{Is, Outcome, Registers, Spec, stalled, halts, unhal
 use Rattle.usb_device.specs.{outcome, on_endpoint, endpoint_of, ServedEndpoint, told_port}
 use Rattle.usb_device.specs.{asked_descriptor, asked_hub_descriptor, answers_taken, takes}
 use Rattle.usb_device.specs.{tells_halt, told_halt, asked_endpoint_status, is_endpoint_0, items_at}
+use Rattle.usb_device.specs.{BulkIn, BulkOut, in_end, InEnd, no_in, no_out, NothingMoved, out_end}
+use Rattle.usb_device.specs.{OutEnd, State, with_at, OnlyChanges, OnlyStage, Location}
 use Rattle.usb_device.specs.Request.{answers}
 use Rattle.usb_descriptor.specs.{has_interface}
-use Rattle.usb_device.proofs.Interface.{asked_own-any}
+use Rattle.usb_device.proofs.Interface.{asked_own-any, at_each}
 use Rattle.usb_world.specs.{asks_no_port, is_harmless}
+use Rattle.usb_pipe.specs.{OnlyEndpoint}
+use Rattle.usb_table.specs.{SparesBulk}
+
+-- What a request asks of a device that changes no address, no configuration, no toggle and no
+-- port.
 
 request_type-other : (n type : ℕ) (b : Bool) → 128 ≤ n → nat_lt type 128 ≡ true
     → (n == type && b) ≡ false
@@ -187,3 +194,117 @@ module _ (to_hub : Bool) where
       (not_asked (Is r PORT_OUT SET_FEATURE) _ _ free.sets_port
       (not_asked (Is r PORT_OUT CLEAR_FEATURE) _ _ free.clears_port
       (asked_own-any Fine tt s.requests g r (λ bytes. tt) tt (λ kept. tt))))))))))))))))
+
+-- A clear of the halt of one endpoint moves no byte, and leaves all others.
+
+pub same_rows-moved : (s v : State) → v.outs ≡ s.outs → v.ins ≡ s.ins → NothingMoved s v
+same_rows-moved s v outs ins = record {
+  taken = λ e. (
+    ap (λ row. (get_or row e no_out).sink) outs,
+    ap (λ row. (get_or row e no_out).pace.until_halt) outs,
+  );
+  given = λ e. (
+    ap (λ row. (get_or row e no_in).place) ins,
+    ap (λ row. (get_or row e no_in).pace.until_halt) ins,
+  );
+}
+
+pub moved_then : (s u v : State) → NothingMoved s u → NothingMoved u v → NothingMoved s v
+moved_then s u v x y = record {
+  taken = λ e. ((y.taken e).0 ∙ (x.taken e).0, (y.taken e).1 ∙ (x.taken e).1);
+  given = λ e. ((y.given e).0 ∙ (x.given e).0, (y.given e).1 ∙ (x.given e).1);
+}
+
+-- one endpoint halts or begins again
+pub out_moved : (s v : State) (e : ℕ) (end : OutEnd) → end.sink ≡ (out_end s e).sink
+    → end.pace.until_halt ≡ (out_end s e).pace.until_halt → v.outs ≡ with_at no_out e end s.outs
+    → v.ins ≡ s.ins → NothingMoved s v
+out_moved s v e end sink until_halt outs ins = record {
+  taken = subst (λ row. (a : ℕ) → ((get_or row a no_out).sink ≡ (out_end s a).sink)
+      × ((get_or row a no_out).pace.until_halt ≡ (out_end s a).pace.until_halt)) (sym outs)
+      (at_each no_out (λ x y. (y.sink ≡ x.sink) × (y.pace.until_halt ≡ x.pace.until_halt))
+      (λ x. (refl, refl)) e end s.outs (sink, until_halt));
+  given = (same_rows-moved s (record s { ins = v.ins }) refl ins).given;
+}
+
+pub in_moved : (s v : State) (e : ℕ) (end : InEnd) → end.place ≡ (in_end s e).place
+    → end.pace.until_halt ≡ (in_end s e).pace.until_halt → v.outs ≡ s.outs
+    → v.ins ≡ with_at no_in e end s.ins → NothingMoved s v
+in_moved s v e end place until_halt outs ins = record {
+  taken = (same_rows-moved s (record s { outs = v.outs }) outs refl).taken;
+  given = subst (λ row. (a : ℕ) → ((get_or row a no_in).place ≡ (in_end s a).place)
+      × ((get_or row a no_in).pace.until_halt ≡ (in_end s a).pace.until_halt)) (sym ins)
+      (at_each no_in (λ x y. (y.place ≡ x.place) × (y.pace.until_halt ≡ x.pace.until_halt))
+      (λ x. (refl, refl)) e end s.ins (place, until_halt));
+}
+
+-- what a clear through an OUT pipe leaves
+pub record OutCleared (e : ℕ) (s v : State) : Type 0 where
+  pub moved : NothingMoved s v
+  pub ins : (a : ℕ) → in_end v a ≡ in_end s a
+  pub others : (a : ℕ) → (a == e) ≡ false → out_end v a ≡ out_end s a
+
+pub out_cleared : (e : ℕ) (s v : State) → OnlyEndpoint (BulkOut e) s v → OutCleared e s v
+out_cleared e s v only = record {
+  moved = only.moved;
+  ins = λ a. only.ins a (λ same. cc same);
+  others = λ a apart. only.outs a (λ same. let at : a ≡ e = cc same in
+      cc (eq-eqb a e at, apart));
+}
+
+-- and one through an IN pipe
+pub record InCleared (e : ℕ) (s v : State) : Type 0 where
+  pub moved : NothingMoved s v
+  pub outs : (a : ℕ) → out_end v a ≡ out_end s a
+  pub others : (a : ℕ) → (a == e) ≡ false → in_end v a ≡ in_end s a
+
+pub in_cleared : (e : ℕ) (s v : State) → OnlyEndpoint (BulkIn e) s v → InCleared e s v
+in_cleared e s v only = record {
+  moved = only.moved;
+  outs = λ a. only.outs a (λ same. cc same);
+  others = λ a apart. only.ins a (λ same. let at : a ≡ e = cc same in
+      cc (eq-eqb a e at, apart));
+}
+
+-- What leaves the bulk endpoints of devices as they were.
+
+-- a device that stays as it was
+pub spares-same : (j : Location) (s v : State) → v ≡ s → SparesBulk j s v
+spares-same j s v e = e ∙ ap (λ (u : State). record s {
+  memory = u.memory;
+  naks = u.naks;
+  stage = u.stage;
+  changes = u.changes;
+  held = u.held;
+}) (sym e)
+
+-- one of which only the status endpoint moved
+pub spares-changes : (j : Location) (s v : State) → OnlyChanges s v → SparesBulk j s v
+spares-changes j s v e = e ∙ ap (λ (u : State). record s {
+  memory = v.memory;
+  naks = u.naks;
+  stage = u.stage;
+  changes = v.changes;
+  held = v.held;
+}) (sym e)
+
+-- one of which only the control transfer moved
+pub spares-stage : (j : Location) (s v : State) → OnlyStage s v → SparesBulk j s v
+spares-stage j s v e = e ∙ ap (λ (u : State). record s {
+  memory = v.memory;
+  naks = v.naks;
+  stage = v.stage;
+  changes = u.changes;
+  held = u.held;
+}) (sym e)
+
+-- one thing after the other
+pub spares-then : (j : Location) (s u v : State) → SparesBulk j s u → SparesBulk j u v
+    → SparesBulk j s v
+spares-then j s u v d e = e ∙ ap (λ (t : State). record t {
+  memory = v.memory;
+  naks = v.naks;
+  stage = v.stage;
+  changes = v.changes;
+  held = v.held;
+}) d

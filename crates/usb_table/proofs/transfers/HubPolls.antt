@@ -27,11 +27,10 @@ use Rattle.usb_table.specs.{StatusPipeInSync, InSyncAt, IsHeld, KeepsInSync, Bit
 use Rattle.usb_table.specs.{IsListening, KeepsPolled, TablePolls, SparesBulk, IsStatusPipe}
 use Rattle.usb_table.specs.{ArePipesIf, ArePipesTo, Table, pipes_at, GoesThrough, NotPolled}
 use Rattle.usb_table.specs.{OnlyTransfers, PipesPolled, PollTook, PolledThrough}
-use Rattle.usb_table.proofs.levels.FittingPipes.{PipesMove, poll_moves}
-use Rattle.usb_table.proofs.levels.Levels.{held_address, moved_levels, single, stands_there}
-use Rattle.usb_table.proofs.levels.Levels.{still_levels, stood_at}
-use Rattle.usb_table.proofs.levels.MovedPipes.{EachMoves}
-use Rattle.usb_table.proofs.transfers.SparedBulk.{spares-changes, spares-same}
+use Rattle.usb_table.proofs.levels.FittingPipes.{PipesMove, poll_moves, EachMoves}
+use Rattle.usb_table.proofs.levels.PathCalls.{held_address, moved_levels, single, stands_there}
+use Rattle.usb_table.proofs.levels.PathCalls.{still_levels, stood_at}
+use Rattle.usb_table.proofs.transfers.FreeRequests.{spares-changes, spares-same}
 use Rattle.usb_table.proofs.transfers.DevicesKept.{RanAs, polls_only, polls_spare, same_spares}
 
 -- INs ask nothing of any port

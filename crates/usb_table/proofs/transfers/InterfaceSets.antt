@@ -24,14 +24,13 @@ use Rattle.usb_table.specs.{TableFault, TableSetsInterface, TransferFault, accep
 use Rattle.usb_table.specs.{function_set, interface_asked, interface_target, is_below_hub, pipes_at}
 use Rattle.usb_table.specs.{pipes_set}
 use Rattle.usb_table.proofs.TransferLeaves.{told_answer}
-use Rattle.usb_table.proofs.levels.FittingPipes.{PipesMove, still_level}
-use Rattle.usb_table.proofs.levels.Levels.{moved_levels, still_levels}
+use Rattle.usb_table.proofs.levels.FittingPipes.{PipesMove, still_level, EachMoves}
+use Rattle.usb_table.proofs.levels.PathCalls.{moved_levels, still_levels}
 use Rattle.usb_table.proofs.levels.SetLevels.{loss_kept, loss_level, set_level}
 use Rattle.usb_table.proofs.levels.StandingPipes.{in_place}
 use Rattle.usb_table.proofs.transfers.DevicesKept.{same_spares}
 use Rattle.usb_table.proofs.transfers.PathTransfers.{changes_there}
 use Rattle.usb_table.proofs.transfers.PlainRequests.{bus_told}
-use Rattle.usb_table.proofs.levels.MovedPipes.{EachMoves}
 
 -- Each device
 

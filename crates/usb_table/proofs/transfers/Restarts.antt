@@ -22,19 +22,18 @@ use Rattle.usb_pipe.specs.declared.fault.PipeFault.TheVariants as pipe_fault
 use Rattle.usb_enum.specs.{Accepted}
 use Rattle.usb_table.specs.declared.fault.TableFault.TheVariants as table_fault
 use Rattle.usb_table.proofs.levels.FittingPipes.{PipesMove, clear_moves, in_of, out_of, state_at}
-use Rattle.usb_table.proofs.transfers.HaltClears.{in_cleared, moved_then, out_cleared}
-use Rattle.usb_table.proofs.transfers.HaltClears.{same_rows-moved}
-use Rattle.usb_table.proofs.levels.KeptPipes.{function_to}
-use Rattle.usb_table.proofs.levels.MovedPipes.{EachMoves, known_left}
-use Rattle.usb_table.proofs.levels.StandingPipes.{IsPipeOf, IsRest, addressed, first_beside}
-use Rattle.usb_table.proofs.levels.StandingPipes.{first_picks, first_way, first_ways, in_place}
-use Rattle.usb_table.proofs.levels.StandingPipes.{pipe_of, rest_again, rest_made, rest_same}
-use Rattle.usb_table.proofs.levels.StandingPipes.{rest_way, same_rest, same_way, to_picks, one_way}
-use Rattle.usb_table.proofs.levels.StandingPipes.{way_to-one}
+use Rattle.usb_table.proofs.levels.FittingPipes.{EachMoves, known_left}
+use Rattle.usb_table.proofs.transfers.FreeRequests.{in_cleared, moved_then, out_cleared}
+use Rattle.usb_table.proofs.transfers.FreeRequests.{same_rows-moved}
+use Rattle.usb_table.proofs.levels.StandingPipes.{function_to, IsPipeOf, IsRest, addressed}
+use Rattle.usb_table.proofs.levels.StandingPipes.{first_beside, first_picks, first_way, first_ways}
+use Rattle.usb_table.proofs.levels.StandingPipes.{in_place, pipe_of, rest_again, rest_made}
+use Rattle.usb_table.proofs.levels.StandingPipes.{rest_same, rest_way, same_rest, same_way}
+use Rattle.usb_table.proofs.levels.StandingPipes.{to_picks, one_way, way_to-one}
 use Rattle.usb_table.proofs.transfers.PathTransfers.{PathReaches, changes_there, done_through}
 use Rattle.usb_table.proofs.transfers.PathTransfers.{levels_there, not_bus, reaches_synced}
 use Rattle.usb_table.proofs.transfers.PathTransfers.{synced_if, Synced, none_there, through_path}
-use Rattle.usb_table.proofs.ThroughPipes.{through_both}
+use Rattle.usb_table.proofs.levels.PathCalls.{through_both}
 use Rattle.usb_table.proofs.transfers.DevicesKept.{clears_single, sent_or_not, clear_keeps}
 use Rattle.std.proofs.Math.Path.{fun_ext}
 

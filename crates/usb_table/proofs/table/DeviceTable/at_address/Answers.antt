@@ -1,8 +1,7 @@
 -- The slab has what the address's key names.
 use Rattle.std.proofs.Common.{◌∙◌, sym, ap, Some}
 use Rattle.slab.specs.Slab.{get}
-use Rattle.usb_table.proofs.entries.Addresses.{addressed_stands, has_device}
-use Rattle.usb_table.proofs.entries.Addresses.{key_of_address-no_device}
+use Rattle.usb_table.proofs.entries.Keys.{addressed_stands, has_device, key_of_address-no_device}
 use Rattle.usb_table.proofs.entries.Keys.{findings-standing, some_standing}
 use Rattle.usb_table.proofs.table.DeviceTable.at_address.Goals as goal
 
