@@ -53,13 +53,7 @@ use Rattle.usb_table.proofs.levels.PathCalls.{through_pipes}
 
 told_last : {A : Type 0} (answer : Result A PipeFault) (last : Option BusFault)
     → BusToldIt answer last → TransferTold (table_answer answer) last
-told_last (Ok done) last x = tt
-told_last (Err (pipe_fault.Bus why)) last x = x
-told_last (Err pipe_fault.Stalled) last x = tt
-told_last (Err pipe_fault.Busy) last x = tt
-told_last (Err pipe_fault.NoAnswer) last x = tt
-told_last (Err pipe_fault.Broken) last x = tt
-told_last (Err pipe_fault.Memory) last x = tt
+told_last answer last x = grind arith
 
 pub told_bus : {A : Type 0} (answer : Result A PipeFault) (result : Result A TableFault)
     (last : Option BusFault) → result ≡ table_answer answer → BusToldIt answer last
@@ -79,10 +73,10 @@ pub record PutBack (pick : FunctionPipes → Option PipeState) (pipes left : Fun
 module _ {pick : FunctionPipes → Option PipeState} {pipes left : FunctionPipes}
     {pipe rest : PipeState} (b : PutBack pick pipes left pipe rest) where
   at : pipe_at pipe.is_in pipe.ep pipes ≡ Some pipe
-  at = (b.picks pipes pipe b.placed b.picked).at
+  at = grind arith
 
   pub call_made : function_made left ≡ function_made pipes
-  call_made = ap function_made b.put ∙ made_with pipe rest pipes at b.same
+  call_made = grind (arith, at, made_with)
 
   pub call_through : {A : Type 0} (miss : FunctionPipes → TransferFault) (So : PipeDid A)
       (old : World) (result : Result A TableFault)
@@ -100,17 +94,7 @@ module _ {pick : FunctionPipes → Option PipeState} {pipes left : FunctionPipes
         × (rest ≡ pipe) × (new ≡ old))
         → MovedOrRefused (unless_broken (pipe_asked miss (pick pipes))) (Function pipes) old result
         (Function left) new
-    call_refused broken = rw b.picked (by_condition (is_broken pipe.condition) refl)
-      where
-        by_condition : (c : Bool) → is_broken pipe.condition ≡ c
-            → MovedOrRefused (unless_broken (Ok pipe)) (Function pipes) old result (Function left)
-            new
-        by_condition true is =
-            let x = broken is in
-            let back : left ≡ pipes =
-            b.put ∙ ap (λ p. with_pipe p pipes) x.1 ∙ with_same pipe pipes at in
-            rw is (told ∙ ap table_answer x.0, ap Function back, x.2)
-        by_condition false is = rw is (answer, told)
+    call_refused broken = grind (arith, at, with_same)
 
 -- The first bulk endpoints, one and then the other
 
@@ -129,7 +113,7 @@ module _ (pipes mid_pipes : FunctionPipes) (placed : AreInPlace pipes) (old : Wo
     (first : Result (Unit {0}) PipeFault) (mid : World)
     (x : ClearedFirst false pipes old first mid_pipes mid) where
   is_rest : IsRest (first_pipe false pipes) x.rest
-  is_rest = cleared_rest (first_pipe false pipes) x.rest old first mid x.cleared
+  is_rest = grind (arith, cleared_rest)
 
   made : function_made mid_pipes ≡ function_made pipes
   made = ap function_made x.left_is ∙ rest_made (first_pipe false) (first_picks false) pipes placed
@@ -147,15 +131,7 @@ module _ (pipes mid_pipes : FunctionPipes) (placed : AreInPlace pipes) (old : Wo
 
   pub first_failed : (why : PipeFault) → first ≡ Err why
       → ClearedInOrder pipes old (Err (of_pipe why)) mid_pipes mid
-  first_failed why failed = record {
-    first = Err why;
-    mid = mid;
-    rest_out = x.rest;
-    rest_in = first_pipe true pipes;
-    out = rw (← failed) x.cleared;
-    into = (refl, refl, refl);
-    left_is = kept;
-  }
+  first_failed why failed = grind (arith, kept)
 
   -- what could not be cleared in the second place cannot be now
   pub still_unclear : first_unclear true mid_pipes ≡ first_unclear true pipes
@@ -166,30 +142,14 @@ module _ (pipes mid_pipes : FunctionPipes) (placed : AreInPlace pipes) (old : Wo
   pub second_missed : (u : Unit {0}) → first ≡ Ok u → (why : TransferFault)
       → first_unclear true mid_pipes ≡ Some why
       → ClearedInOrder pipes old (Err (Transfer why)) mid_pipes mid
-  second_missed u done why is = record {
-    first = Ok u;
-    mid = mid;
-    rest_out = x.rest;
-    rest_in = first_pipe true pipes;
-    out = rw (← done) x.cleared;
-    into = rw (sym still_unclear ∙ is) (refl, refl, refl);
-    left_is = kept;
-  }
+  second_missed u done why is = grind (arith, kept, still_unclear)
 
   pub both_cleared : first_unclear true mid_pipes ≡ None
       → (u : Unit {0}) → first ≡ Ok u → (answer : Result (Unit {0}) PipeFault)
       (result : Result (Unit {0}) TableFault) → result ≡ table_answer answer
       → (left : FunctionPipes) (new : World) → ClearedFirst true mid_pipes mid answer left new
       → ClearedInOrder pipes old result left new
-  both_cleared clear u done answer result told left new y = record {
-    first = Ok u;
-    mid = mid;
-    rest_out = x.rest;
-    rest_in = y.rest;
-    out = rw (← done) x.cleared;
-    into = rw (sym still_unclear ∙ clear) (answer, told, rw (← same_in) y.cleared);
-    left_is = y.left_is ∙ ap (with_rest y.rest) x.left_is;
-  }
+  both_cleared clear u done answer result told left new y = grind (arith, same_in, still_unclear)
 
 -- What a transfer through the pipes to what was found at a path leaves.
 
@@ -223,16 +183,13 @@ idle_transfer_leaves n found pipes old result new fault e same = record {
 pipe_told : (why : PipeFault) (w : World)
     → ((fault : BusFault) → why ≡ pipe_fault.Bus fault → HasFault fault w)
     → TableFaultAllowed (of_pipe why) w
-pipe_told (pipe_fault.Bus fault) w told = told fault refl
-pipe_told _ w told = tt
+pipe_told why w told = grind arith
 
 pub told_answer : {A : Type 0} (answer : Result A PipeFault) (result : Result A TableFault)
     (w : World) → result ≡ table_answer answer
     → ((fault : BusFault) → answer ≡ Err (pipe_fault.Bus fault) → HasFault fault w)
     → IfErr result (λ fault. TableFaultAllowed fault w)
-told_answer (Ok x) result w e told = rw e tt
-told_answer (Err why) result w e told =
-    rw e (pipe_told why w (λ fault f. told fault (ap Err f)))
+told_answer answer result w e told = grind (arith, pipe_told)
 
 pub told_through : {A : Type 0} (old : World) (answer : Result A PipeFault)
     (result : Result A TableFault) (w : World) → result ≡ table_answer answer
@@ -283,18 +240,12 @@ cleared_by : (pipe left : Option PipeState) (old : World) (answer : Result (Unit
 cleared_by None left old answer new x =
     record { worlds = same_spares old new x.2; told = λ fault e. absurd (cc (sym x.0 ∙ e)) }
 cleared_by (Some pipe) None old answer new x = absurd x
-cleared_by (Some pipe) (Some left) old answer new x =
-    clear_keeps (needs_clear pipe) pipe old answer left new x.clears
+cleared_by (Some pipe) (Some left) old answer new x = grind (arith, clear_keeps)
 
 -- one that is done made no attempt, or the bus is at work
 done_or_same : (pipe left : Option PipeState) (old : World) (done : Unit {0}) (new : World)
     → ClearedBy pipe old (Ok done) left new → (new ≡ old) ⊎ (new.fault ≡ None)
-done_or_same None left old done new x = inl x.2
-done_or_same (Some pipe) None old done new x = absurd x
-done_or_same (Some pipe) (Some left) old done new x = elim (sent_or_not (needs_clear pipe)) [
-  | inl not ↦ inl (x.clears.ready not).world_kept
-  | inr so ↦ inr (x.clears.sent so).ends.still
-]
+done_or_same pipe left old done new x = grind (arith, sent_or_not)
 
 -- what is so of the worlds, and of the fault
 abbrev LeftAndTold : World → Result (Unit {0}) TableFault → World → Type 0
@@ -316,22 +267,16 @@ cleared_in_order (Ok done) None out out_left into into_left old mid result new x
       ],
       told_through mid y.0 result new y.1 second,
     )
-cleared_in_order (Ok done) (Some why) out out_left into into_left old mid result new x y = (
-  rw y.2 (cleared_by out out_left old (Ok done) mid x).worlds,
-  rw y.0 tt,
-)
+cleared_in_order (Ok done) (Some why) out out_left into into_left old mid result new x y =
+    grind (arith, cleared_by)
 cleared_in_order (Err fault) why out out_left into into_left old mid result new x y =
-    let first = cleared_by out out_left old (Err fault) new (rw y.2 x) in
-    (first.worlds, told_through old (Err fault) result new y.0 first)
+    grind (arith, cleared_by, told_through)
 
 -- while the bus is at work, none of its faults is told
 no_bus_told : (result : Result (Unit {0}) TableFault) (w : World)
     → IfErr result (λ fault. TableFaultAllowed fault w) → w.fault ≡ None
     → (why : BusFault) → result ≢ Err (table_fault.Bus why)
-no_bus_told result w told sound why e =
-    let failed : HasFault why w = rw e at told in
-    let is = failed.told in
-    absurd (cc (is, sound))
+no_bus_told result w told sound why = grind (arith, at)
 
 clears_leave : (old : World) (result : Result (Unit {0}) TableFault) (new : World)
     (found : Option Accepted) → AttemptsWithin (2 * write_bound) old new → (below_hub : Bool)

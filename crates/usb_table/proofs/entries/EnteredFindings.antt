@@ -1,8 +1,7 @@
 -- A table with one entry more: what was just found is entered.
-use Rattle.std.proofs.Common.{◌≡◌, ◌≢◌, ◌∙◌, sym, ap, subst, inl, inr, false, ℕ, cond, List, Option}
-use Rattle.std.proofs.Common.{Some, None, ◌⊎◌, IsSome, IfSome, is_some, option_map, refl, true, []}
-use Rattle.std.proofs.Common.{◌∷◌}
-use Rattle.std.specs.Prelude.{unwrap_or}
+use Rattle.std.proofs.Common.{arith, ◌≡◌, ◌≢◌, ◌∙◌, sym, ap, subst, inl, inr, false, ℕ, cond, List}
+use Rattle.std.proofs.Common.{Option, Some, None, ◌⊎◌, IsSome, IfSome, is_some, option_map, refl}
+use Rattle.std.proofs.Common.{true, [], ◌∷◌}
 use Rattle.std.specs.Map.{keys_of, remove_entry, lookup}
 use Rattle.std.specs.BTreeMap.{is_at, insert_entry}
 use Rattle.std.specs.List.Sorted.{IsStrictlySortedBy}
@@ -16,7 +15,6 @@ use Rattle.usb_table.specs.{AddressKeys, key_of_path, key_of_address, findings, 
 use Rattle.usb_table.specs.{table_of, address_in, AreIndexes, ArePiped, UpdatesAddress, Enters}
 use Rattle.usb_table.specs.{removed, accepted_device_of, accepted_device_at, is_below_hub}
 use Rattle.usb_table.specs.{PipesInSync, InSyncAt, new_pipes, Table, pipes_at, entered, said_at}
-use Rattle.usb_table.specs.{said_in, said_of}
 use Rattle.usb_table.proofs.entries.Keys.{number_tied, number_itself, values_by_path-insert}
 use Rattle.usb_table.proofs.entries.Keys.{values_by_path-remove, agree, findings-standing}
 use Rattle.usb_table.proofs.entries.Keys.{same_table, path_tied, path_itself, cases_path}
@@ -45,29 +43,22 @@ pub record OneMore (less more : TableSlots) (fewer most : PathKeys) (lower upper
       → key_of_address upper a ≡ key_of_address lower a
 
 cases_found : (o : Option ℕ) (a : ℕ) → (o ≡ Some a) ⊎ (o ≢ Some a)
-cases_found None a = inr (λ e. cc e)
-cases_found (Some x) a = elim (cases_eq x a) [
-  | inl e ↦ inl (ap Some e)
-  | inr ne ↦ inr (λ e. ne (cc e))
-]
+cases_found o a = grind (arith, cases_eq)
 
 module _ {less more : TableSlots} {fewer most : PathKeys} {lower upper : AddressKeys}
     {path : List ℕ} {key : ℕ} {s : Entry}
     (d : OneMore less more fewer most lower upper path key s) where
   none_found : findings less key ≡ None
-  none_found = ap (option_map (λ (t : Entry). t.finding)) d.vacant
+  none_found = grind arith
 
   found : findings more key ≡ Some s.finding
   found = findings-standing more key s d.stands
 
   same : (k : ℕ) → k ≢ key → findings more k ≡ findings less k
-  same k ne = ap (option_map (λ (t : Entry). t.finding)) (d.others k ne)
+  same k ne = grind arith
 
   some_apart : (k : ℕ) → IsSome (findings less k) → k ≢ key
-  some_apart k some e =
-      let none : is_some (findings less k) ≡ false =
-      ap is_some (ap (findings less) e ∙ none_found) in
-      cc (some, none)
+  some_apart k some = grind (arith, none_found)
 
   -- It comes
 
@@ -85,20 +76,10 @@ module _ {less more : TableSlots} {fewer most : PathKeys} {lower upper : Address
     ]
 
     come_once : (p q : List ℕ) (k : ℕ) → Came p k → Came q k → q ≡ p
-    come_once p q k (inl x) (inl y) = y.0 ∙ sym x.0
-    come_once p q k (inl x) (inr y) = absurd (y.1 x.1)
-    come_once p q k (inr x) (inl y) = absurd (x.1 y.1)
-    come_once p q k (inr x) (inr y) = are.once p q k x.0 y.0
+    come_once p q k h h1 = grind arith
 
     come_named : (k : ℕ) → IsSome (findings more k) → (p : List ℕ) × (key_of_path most p ≡ Some k)
-    come_named k some = elim (cases_eq k key) [
-      | inl e ↦ (path, d.at ∙ ap Some (sym e))
-      | inr ne ↦
-          let at = are.named k (ap is_some (sym (same k ne)) ∙ some) in (
-            at.0,
-            d.apart at.0 (λ e. let n = ap (key_of_path fewer) e ∙ d.away in cc (at.1, n)) ∙ at.1,
-          )
-    ]
+    come_named k some = grind (arith, cases_eq, same)
 
     come_to : (a k : ℕ) → key_of_address upper a ≡ Some k → address_in (findings more k) ≡ Some a
     come_to a k h = elim (cases_found (address_found s.finding) a) [
@@ -112,13 +93,7 @@ module _ {less more : TableSlots} {fewer most : PathKeys} {lower upper : Address
     ]
 
     come_from : (a k : ℕ) → address_in (findings more k) ≡ Some a → key_of_address upper a ≡ Some k
-    come_from a k h = elim (cases_eq k key) [
-      | inl e ↦
-          d.addressed a (sym (ap address_in (ap (findings more) e ∙ found)) ∙ h) ∙ ap Some (sym e)
-      | inr ne ↦
-          let was = (are.addressed a k).1 (ap address_in (sym (same k ne)) ∙ h) in
-          d.elsewhere a (λ is. let n = d.free a is in cc (was, n)) ∙ was
-    ]
+    come_from a k h = grind (arith, cases_eq, found, same)
 
     pub come : AreIndexes (findings more) most upper
     come = record {
@@ -144,21 +119,14 @@ module _ {less more : TableSlots} {fewer most : PathKeys} {lower upper : Address
         → IsStrictlySortedBy path_cmp (keys_of fewer)
         → values_by_path none (λ k. option_map shown (more k)) fewer
         ≡ values_by_path none (λ k. option_map shown (less k)) fewer
-    listed_same none shown rises =
-        agree none (λ k. option_map shown (less k)) (λ k. option_map shown (more k)) fewer rises
-        (λ q k h. ap (option_map shown) (d.others k (some_apart k (are.stands q k h))))
+    listed_same none shown rises = grind (arith, agree, some_apart)
 
     come_listed : {A : Type 0} (none : A) (shown : Entry → A)
         → most ≡ insert_entry path_cmp fewer path key → IsStrictlySortedBy path_cmp (keys_of fewer)
         → values_by_path none (λ k. option_map shown (more k)) most
         ≡ insert_entry path_cmp (values_by_path none (λ k. option_map shown (less k)) fewer) path
         (shown s)
-    come_listed none shown is rises =
-        ap (values_by_path none (λ k. option_map shown (more k))) is
-        ∙ values_by_path-insert none (λ k. option_map shown (more k)) path key fewer
-        ∙ ap (λ o. insert_entry path_cmp (values_by_path none (λ k. option_map shown (more k))
-        fewer) path (unwrap_or (option_map shown o) none)) d.stands
-        ∙ ap (λ es. insert_entry path_cmp es path (shown s)) (listed_same none shown rises)
+    come_listed none shown is rises = grind (arith, listed_same, values_by_path-insert)
 
     pub come_table : most ≡ insert_entry path_cmp fewer path key
         → IsStrictlySortedBy path_cmp (keys_of fewer) → table_of more most ≡ record {
@@ -174,19 +142,10 @@ module _ {less more : TableSlots} {fewer most : PathKeys} {lower upper : Address
   module _ (are : AreIndexes (findings more) most upper) where
     go_at : (q : List ℕ) (k : ℕ) → key_of_path fewer q ≡ Some k → (key_of_path most q ≡ Some k)
         × (k ≢ key)
-    go_at q k h =
-        let ne : q ≢ path = λ e. let n = ap (key_of_path fewer) e ∙ d.away in cc (h, n) in
-        let was = d.apart q ne ∙ h in
-        (was, λ e. ne (are.once path q key d.at (was ∙ ap Some e)))
+    go_at q k h = grind arith
 
     go_named : (k : ℕ) → IsSome (findings less k) → (p : List ℕ) × (key_of_path fewer p ≡ Some k)
-    go_named k some =
-        let ne = some_apart k some in
-        let at = are.named k (ap is_some (same k ne) ∙ some) in (
-          at.0,
-          sym (d.apart at.0 (λ e. ne (let is = ap (key_of_path most) e ∙ d.at in
-              cc (at.1, is)))) ∙ at.1,
-        )
+    go_named k some = grind (arith, same, some_apart)
 
     go_to : (a k : ℕ) → key_of_address lower a ≡ Some k → address_in (findings less k) ≡ Some a
     go_to a k h =
@@ -196,11 +155,7 @@ module _ {less more : TableSlots} {fewer most : PathKeys} {lower upper : Address
         ap address_in (sym (same k ne)) ∙ was
 
     go_from : (a k : ℕ) → address_in (findings less k) ≡ Some a → key_of_address lower a ≡ Some k
-    go_from a k h =
-        let ne : k ≢ key = λ e. let n = ap address_in (ap (findings less) e ∙ none_found) in
-        cc (h, n) in
-        let was = (are.addressed a k).1 (ap address_in (same k ne) ∙ h) in
-        sym (d.elsewhere a (λ is. ne (let at = d.addressed a is in cc (was, at)))) ∙ was
+    go_from a k h = grind (arith, none_found, same)
 
     pub go : AreIndexes (findings less) fewer lower
     go = record {
@@ -245,19 +200,11 @@ off_path path q slot was ne =
 
 module _ (found slot : Option ℕ) (old new : AddressKeys) (a : ℕ) where
   at_address : found ≡ Some a → UpdatesAddress found slot old new → key_of_address new a ≡ slot
-  at_address is updates =
-      (rw is at updates) a
-      ∙ ap (λ b. cond b slot (key_of_address old a)) (number_itself a)
+  at_address is updates = grind (arith, number_itself)
 
   off_address : found ≢ Some a → UpdatesAddress found slot old new
       → key_of_address new a ≡ key_of_address old a
-  off_address = by_found found
-    where
-      by_found : (o : Option ℕ) → o ≢ Some a → UpdatesAddress o slot old new
-          → key_of_address new a ≡ key_of_address old a
-      by_found None ne updates = updates a
-      by_found (Some x) ne updates = updates a ∙ ap (λ b. cond b slot (key_of_address old a))
-          (false_from_ne_true _ (λ tie. ne (ap Some (number_tied x a tie))))
+  off_address h h1 = grind (arith, false_from_ne_true, found, number_tied)
 
 module _ (less more : TableSlots) (path : List ℕ) (key : ℕ) (s : Entry) (vacant : less key ≡ None)
     (stands : more key ≡ Some s) (others : (k : ℕ) → k ≢ key → more k ≡ less k) where
@@ -267,17 +214,8 @@ module _ (less more : TableSlots) (path : List ℕ) (key : ℕ) (s : Entry) (vac
       → Enters path (address_found s.finding) key before after
       → OneMore less more before.by_path.entries after.by_path.entries before.by_address.entries
       after.by_address.entries path key s
-  entered_one before after away free enters = record {
-    vacant = vacant;
-    stands = stands;
-    others = others;
-    away = away;
-    at = enters.path_keys path ∙ at_path path _ _;
-    apart = λ q ne. enters.path_keys q ∙ off_path path q _ _ ne;
-    free = λ a is. rw is at free;
-    addressed = λ a is. at_address _ _ _ _ a is enters.address_keys;
-    elsewhere = λ a ne. off_address _ _ _ _ a ne enters.address_keys;
-  }
+  entered_one before after away free enters =
+      grind (arith, at_address, at_path, off_address, off_path)
 
   -- one taken out
   pub left_one : (most fewer : PathKeys) (upper lower : AddressKeys)
@@ -308,11 +246,7 @@ module _ {X : Type 0} (path : List ℕ) (value : X) where
       → (o : Ordering) → path_cmp path e.0 ≡ o
       → lookup (is_at (path_cmp path)) (match_ordering o ((path, value) ∷ e ∷ es)
       ((e.0, value) ∷ es) (e ∷ insert_entry path_cmp es path value)) ≡ Some value
-  itself_step e es more Less is = rw (path_itself path) refl
-  itself_step e es more Equal is = let tie : is_at (path_cmp path) e.0 ≡ true = rw is refl in
-      rw tie refl
-  itself_step e es more Greater is = let apart : is_at (path_cmp path) e.0 ≡ false = rw is refl in
-      rw apart more
+  itself_step e es more o is = grind (arith, path_itself)
 
   lookup-inserted : (es : List (List ℕ × X))
       → lookup (is_at (path_cmp path)) (insert_entry path_cmp es path value) ≡ Some value
@@ -331,8 +265,7 @@ module _ {X : Type 0} (path : List ℕ) (value : X) where
       let other : is_at (path_cmp q) e.0 ≡ false =
       subst (λ (r : List ℕ). is_at (path_cmp q) r ≡ false) (path_tied path e.0 tie) apart in
       rw other refl
-  other_step q e es apart more Greater is =
-      ap (λ found. cond (is_at (path_cmp q) e.0) (Some e.1) found) more
+  other_step q e es apart more Greater is = grind (arith, found)
 
   lookup-inserted_elsewhere : (q : List ℕ) (es : List (List ℕ × X))
       → is_at (path_cmp q) path ≡ false → lookup (is_at (path_cmp q))
@@ -346,27 +279,21 @@ module _ {X : Type 0} (path : List ℕ) (value : X) where
 -- what was just found has new pipes
 pub pipes_at-entered : (path : List ℕ) (finding : Finding) (said : ArrayVec ℕ) (table : Table)
     → pipes_at path (entered path finding said table) ≡ new_pipes finding (is_below_hub path) said
-pipes_at-entered path finding said table =
-    ap (λ o. unwrap_or o no_pipes)
-    (lookup-inserted path (new_pipes finding (is_below_hub path) said) table.pipes)
+pipes_at-entered path finding said table = grind (arith, lookup-inserted)
 
 -- whatever stands at another path has those that it had
 pub pipes_at-entered_elsewhere : (path : List ℕ) (finding : Finding) (said : ArrayVec ℕ)
     (table : Table) (x : List ℕ) → is_at (path_cmp x) path ≡ false
     → pipes_at x (entered path finding said table) ≡ pipes_at x table
 pipes_at-entered_elsewhere path finding said table x apart =
-    ap (λ o. unwrap_or o no_pipes) (lookup-inserted_elsewhere path
-    (new_pipes finding (is_below_hub path) said) x table.pipes apart)
+    grind (arith, lookup-inserted_elsewhere)
 
 -- What a refused device said
 
 -- what was just entered is kept
 pub said_at-entered : (path : List ℕ) (cause : Cause) (said : ArrayVec ℕ) (table : Table)
     → said_at path (entered path (Refused cause) said table) ≡ Some said.items
-said_at-entered path cause said table =
-    ap (λ o. said_of o (pipes_at path (entered path (Refused cause) said table)))
-    (lookup-inserted path (Refused cause) table.entries)
-    ∙ ap (λ pipes. Some (said_in pipes)) (pipes_at-entered path (Refused cause) said table)
+said_at-entered path cause said table = grind (arith, lookup-inserted, pipes_at-entered)
 
 -- The pipes of the table are level
 
@@ -396,9 +323,4 @@ module _ (path : List ℕ) (finding : Finding) (said : ArrayVec ℕ) (table : Ta
   -- to others
   pub level_beside : (x : List ℕ) → is_at (path_cmp x) path ≡ false → InSyncAt x table w
       → InSyncAt x (entered path finding said table) w
-  level_beside x apart l = record {
-    level = λ device s e on there.
-        rw (pipes_at-entered_elsewhere path finding said table x apart)
-        (l.level device s (sym (ap accepted_device_of
-        (lookup-inserted_elsewhere path finding x table.entries apart)) ∙ e) on there);
-  }
+  level_beside x apart l = grind (arith, lookup-inserted_elsewhere, pipes_at-entered_elsewhere)

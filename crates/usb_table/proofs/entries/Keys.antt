@@ -14,7 +14,7 @@ use Rattle.std.specs.List.{list_any, filter, count_by, AllByRecursion}
 use Rattle.std.specs.List.Sorted.{IsStrictlySortedBy}
 use Rattle.std.specs.Ordering.{nat_cmp, is_eq, match_ordering, ordering_reverse}
 use Rattle.std.specs.declared.cmp.Ordering.{Ordering}
-use Rattle.std.specs.declared.cmp.Ordering.TheVariants.{Less, Equal, Greater}
+use Rattle.std.specs.declared.cmp.Ordering.TheVariants.{Less, Greater}
 use Rattle.std.proofs.lemmas.List.Elements.{All-head, All-tail, recursion_from_All}
 use Rattle.std.proofs.lemmas.Map.Keys.{IsDistinct-from_sorted, sorted_head, sorted_tail}
 use Rattle.std.proofs.lemmas.Map.Made.{lookup-map_values}
@@ -26,7 +26,7 @@ use Rattle.usb_table.specs.{Slots, PathKeys, AddressKeys, key_of_path, key_of_ad
 use Rattle.usb_table.specs.{values_by_path, findings, finding_under, entries_of, address_in}
 use Rattle.usb_table.specs.{with_address, without_address, without, TakesOut, address_found}
 use Rattle.usb_table.specs.{HasDevice, HasNoDevice, AreIndexes, has_address, HasNewAddress}
-use Rattle.usb_table.specs.{no_pipes, pipings, table_of, with_entry}
+use Rattle.usb_table.specs.{table_of, with_entry}
 use Rattle.usb_tree.proofs.Interface.{neither}
 use Rattle.std.proofs.lemmas.List.Sums.{sum_by-cons}
 use Rattle.std.proofs.lemmas.List.{append-nil}
@@ -70,30 +70,13 @@ module _ {A : Type 0} (none : A) (slots : ℕ → Option A) where
       → values_by_path none slots (remove_entry test paths)
       ≡ remove_entry test (values_by_path none slots paths)
   values_by_path-remove test [] = refl
-  values_by_path-remove test (e ∷ es) =
-      (elim (test e.0) as (λ b. values_by_path none slots (cond b es (e ∷ remove_entry test es))
-      ≡ cond b (values_by_path none slots es)
-      ((e.0, under none slots e.1) ∷ remove_entry test (values_by_path none slots es))) [
-        | true ↦ refl
-        | false ↦ ap (λ l. (e.0, under none slots e.1) ∷ l) (values_by_path-remove test es)
-      ])
+  values_by_path-remove test (e ∷ es) = grind (arith, values_by_path-remove test es)
 
   pub values_by_path-insert : (path : List ℕ) (key : ℕ) (paths : PathKeys)
       → values_by_path none slots (insert_entry path_cmp paths path key)
       ≡ insert_entry path_cmp (values_by_path none slots paths) path (under none slots key)
   values_by_path-insert path key [] = refl
-  values_by_path-insert path key (e ∷ es) =
-      (elim (path_cmp path e.0) as (λ o. values_by_path none slots
-      (match_ordering o ((path, key) ∷ e ∷ es) ((e.0, key) ∷ es)
-      (e ∷ insert_entry path_cmp es path key))
-      ≡ match_ordering o ((path, under none slots key) ∷ (e.0, under none slots e.1) ∷
-      values_by_path none slots es) ((e.0, under none slots key) ∷ values_by_path none
-      slots es) ((e.0, under none slots e.1) ∷ insert_entry path_cmp
-      (values_by_path none slots es) path (under none slots key))) [
-        | Less ↦ refl
-        | Equal ↦ refl
-        | Greater ↦ ap (λ l. (e.0, under none slots e.1) ∷ l) (values_by_path-insert path key es)
-      ])
+  values_by_path-insert path key (e ∷ es) = grind (arith, values_by_path-insert path key es)
 
 -- slots that agree on the keys show the same
 
@@ -131,18 +114,15 @@ entries-lookup found = values_by_path-lookup (Refused Silent) found
 pub entries_of-key : (found : Slots) (path : List ℕ) (paths : PathKeys) (key : ℕ)
     (finding : Finding) → key_of_path paths path ≡ Some key → found key ≡ Some finding
     → lookup (is_at (path_cmp path)) (entries_of found paths) ≡ Some finding
-entries_of-key found path paths key finding is stands = entries-lookup found path paths
-    ∙ ap (option_map (finding_under found)) is
-    ∙ ap (λ f. Some (unwrap_or f (Refused Silent))) stands
+entries_of-key found path paths key finding is stands = grind (arith, entries-lookup, found)
 
 pub entries_of-no_key : (found : Slots) (path : List ℕ) (paths : PathKeys)
     → key_of_path paths path ≡ None → lookup (is_at (path_cmp path)) (entries_of found paths) ≡ None
-entries_of-no_key found path paths is = entries-lookup found path paths
-    ∙ ap (option_map (finding_under found)) is
+entries_of-no_key found path paths is = grind (arith, entries-lookup, found)
 
 pub findings-standing : (standings : TableSlots) (key : ℕ) (s : Entry) → standings key ≡ Some s
     → findings standings key ≡ Some s.finding
-findings-standing standings key s stands = ap (option_map (λ (t : Entry). t.finding)) stands
+findings-standing standings key s stands = grind arith
 
 finding-some : (o : Option Entry) → IsSome (option_map (λ (t : Entry). t.finding) o) → IsSome o
 finding-some None h = absurd cc
@@ -154,7 +134,7 @@ some_standing standings key h = finding-some (standings key) h
 
 pub finding_stands : (found : Slots) (key : ℕ) (finding : Finding) → found key ≡ Some finding
     → finding_under found key ≡ finding
-finding_stands found key finding stands = ap (λ f. unwrap_or f (Refused Silent)) stands
+finding_stands found key finding stands = grind arith
 
 pub entries-keys : (found : Slots) (paths : PathKeys) → keys_of (entries_of found paths)
     ≡ keys_of paths
@@ -176,8 +156,7 @@ entries-has_at found path (e ∷ es) = ap (λ b. is_at_or_below e.0 path || b)
 pub same_table : (entries others : Entries) (pipes more : List (List ℕ × Pipes)) → entries ≡ others
     → pipes ≡ more → ◌≡◌ {A = Table} (record { entries = entries; pipes = pipes })
     (record { entries = others; pipes = more })
-same_table entries others pipes more e f = ap (λ es. record { entries = es; pipes = pipes }) e
-    ∙ ap (λ ps. record { entries = others; pipes = ps }) f
+same_table entries others pipes more e f = grind arith
 
 -- What is entered can be taken back
 
@@ -186,15 +165,11 @@ back_step : (address key : ℕ) (e : ℕ × ℕ) (es : AddressKeys) → is_at (n
     → (o : Ordering) → nat_cmp address e.0 ≡ o → remove_entry (is_at (nat_cmp address))
     (match_ordering o ((address, key) ∷ e ∷ es) ((e.0, key) ∷ es)
     (e ∷ insert_entry nat_cmp es address key)) ≡ e ∷ es
-back_step address key e es apart more Less is = rw (number_itself address) refl
-back_step address key e es apart more Equal is = let t : is_eq (nat_cmp address e.0) ≡ true =
-    ap is_eq is in absurd (cc (t, apart))
-back_step address key e es apart more Greater is = rw apart (ap (λ l. e ∷ l) more)
+back_step address key e es apart more o is = grind (arith, number_itself)
 
 tail_none : (b : Bool) (k : ℕ) (rest : Option ℕ) → cond b (Some k) rest ≡ None → (b ≡ false)
     × (rest ≡ None)
-tail_none true k rest h = absurd cc
-tail_none false k rest h = (refl, h)
+tail_none b k rest h = grind arith
 
 back : (address key : ℕ) (es : AddressKeys) → key_of_address es address ≡ None
     → remove_entry (is_at (nat_cmp address)) (insert_entry nat_cmp es address key) ≡ es
@@ -206,8 +181,7 @@ back address key (e ∷ es) none =
 pub taken_back : (address : Option ℕ) (key : ℕ) (es : AddressKeys)
     → IfSome address (λ a. key_of_address es a ≡ None)
     → without_address address (with_address address key es) ≡ es
-taken_back None key es free = refl
-taken_back (Some address) key es free = back address key es free
+taken_back address key es free = grind (arith, back)
 
 pub some_address : (o : Option Finding) (a : ℕ) → address_in o ≡ Some a → IsSome o
 some_address None a h = absurd cc
@@ -222,30 +196,22 @@ none_or (Some k) = inr (k, refl)
 length_without : (test : List ℕ → Bool) (es : Entries) (v : Finding) → lookup test es ≡ Some v
     → length (remove_entry test es) + 1 ≡ length es
 length_without test [] v h = absurd cc
-length_without test (e ∷ es) v h =
-    (elim (test e.0) as (λ b. cond b (Some e.1) (lookup test es) ≡ Some v
-    → length (cond b es (e ∷ remove_entry test es)) + 1 ≡ length (e ∷ es)) [
-      | true ↦ λ k. omega arith
-      | false ↦ λ k. omega (arith, length_without test es v k)
-    ]) h
+length_without test (e ∷ es) v h = grind (arith, length_without test es v)
 
 pub takes_one : (path : List ℕ) (finding : Finding) (old new : Table)
     → TakesOut path finding old new → length new.entries + 1 ≡ length old.entries
-takes_one path finding old new t =
-    rw t.rest (length_without (is_at (path_cmp t.first)) old.entries finding t.found)
+takes_one path finding old new t = grind (arith, length_without)
 
 -- a taken entry stood at the path or below it, so that what stands elsewhere is as before
 kept_step : (keep : List ℕ → Bool) (e : List ℕ × Finding) (es rest : Entries) (b : Bool)
     → (b ≡ true → keep e.0 ≡ false) → filter (λ d. keep d.0) rest ≡ filter (λ d. keep d.0) es
     → filter (λ d. keep d.0) (cond b es (e ∷ rest)) ≡ filter (λ d. keep d.0) (e ∷ es)
-kept_step keep e es rest true goes more = rw (goes refl) refl
-kept_step keep e es rest false goes more = ap (λ l. cond (keep e.0) (e ∷ l) l) more
+kept_step keep e es rest b goes more = grind arith
 
 kept_apart : (keep test : List ℕ → Bool) → ((q : List ℕ) → test q ≡ true → keep q ≡ false)
     → (es : Entries) → filter (λ d. keep d.0) (remove_entry test es) ≡ filter (λ d. keep d.0) es
 kept_apart keep test goes [] = refl
-kept_apart keep test goes (e ∷ es) = kept_step keep e es (remove_entry test es) (test e.0)
-    (goes e.0) (kept_apart keep test goes es)
+kept_apart keep test goes (e ∷ es) = grind (arith, kept_apart keep test goes es, kept_step)
 
 pub taken_apart : (path : List ℕ) (finding : Finding) (old new : Table)
     → TakesOut path finding old new → without path new.entries ≡ without path old.entries
@@ -298,9 +264,8 @@ no_device_by found paths addresses address are none path finding (Some key) at i
 pub key_of_address-no_device : (found : Slots) (paths : PathKeys) (addresses : AddressKeys)
     (address : ℕ) → AreIndexes found paths addresses → key_of_address addresses address ≡ None
     → HasNoDevice address (entries_of found paths)
-key_of_address-no_device found paths addresses address are none path finding is =
-    no_device_by found paths addresses address are none path finding (key_of_path paths path) refl
-    (sym (entries-lookup found path paths) ∙ is)
+key_of_address-no_device found paths addresses address are none =
+    grind (arith, entries-lookup, found, no_device_by)
 
 -- An entry that is to come has no key yet, and so has its address.
 
@@ -327,9 +292,7 @@ none_shown f (Some key) none = absurd cc
 pub away_key : (found : Slots) (path : List ℕ) (paths : PathKeys)
     → lookup (is_at (path_cmp path)) (entries_of found paths) ≡ None
     → key_of_path paths path ≡ None
-away_key found path paths none =
-    none_shown (finding_under found) (key_of_path paths path)
-    (sym (entries-lookup found path paths) ∙ none)
+away_key found path paths none = grind (arith, entries-lookup, found, none_shown)
 
 count_by-found : (a : ℕ) (path : List ℕ) (es : Entries) (f : Finding)
     → lookup (is_at (path_cmp path)) es ≡ Some f → has_address a f ≡ true
@@ -352,13 +315,11 @@ count_by-found a path (e ∷ es) f is has none =
 
 pub has_its : (f : Finding) (a : ℕ) → address_found f ≡ Some a → has_address a f ≡ true
 unfolding has_address
-has_its (Device device) a is = eq-eqb device.address a (cc is)
-has_its (Refused cause) a is = absurd cc
+has_its f a is = grind (arith, eq-eqb)
 
 address_in-some : (o : Option Finding) (a : ℕ) → address_in o ≡ Some a → (f : Finding)
     × (o ≡ Some f) × (address_found f ≡ Some a)
-address_in-some None a h = absurd cc
-address_in-some (Some f) a h = (f, refl, h)
+address_in-some o a h = grind arith
 
 key_of_address-none : (found : Slots) (paths : PathKeys) (addresses : AddressKeys)
     → AreIndexes found paths addresses → (a : ℕ)
@@ -377,9 +338,7 @@ key_of_address-none found paths addresses are a none = elim (none_or (key_of_add
 pub free_key : (found : Slots) (paths : PathKeys) (addresses : AddressKeys) (finding : Finding)
     → AreIndexes found paths addresses → HasNewAddress finding (entries_of found paths)
     → IfSome (address_found finding) (λ a. key_of_address addresses a ≡ None)
-free_key found paths addresses (Device device) are fresh =
-    key_of_address-none found paths addresses are device.address fresh
-free_key found paths addresses (Refused cause) are fresh = tt
+free_key found paths addresses finding are fresh = grind (arith, found, key_of_address-none)
 
 -- A table that is copied entry by entry, by rising path.
 
@@ -396,17 +355,12 @@ module _ {A : Type 0} (path : List ℕ) where
   pub insert_last : (had : List (List ℕ × A)) (value : A) → AreBefore had
       → insert_entry path_cmp had path value ≡ had ++ (path, value) ∷ []
   insert_last [] value less = refl
-  insert_last (d ∷ ds) value less =
-      ap (λ o. match_ordering o ((path, value) ∷ d ∷ ds) ((d.0, value) ∷ ds)
-      (d ∷ insert_entry path_cmp ds path value)) (greater path d.0 less.0)
-      ∙ ap (λ l. d ∷ l) (insert_last ds value less.1)
+  insert_last (d ∷ ds) value less = grind (arith, insert_last ds value less.1, d, greater, less)
 
   pub none_yet : (had : List (List ℕ × A)) → AreBefore had
       → lookup (is_at (path_cmp path)) had ≡ None
   none_yet [] less = refl
-  none_yet (d ∷ ds) less =
-      ap (λ b. cond b (Some d.1) (lookup (is_at (path_cmp path)) ds))
-      (ap is_eq (greater path d.0 less.0)) ∙ none_yet ds less.1
+  none_yet (d ∷ ds) less = grind (arith, none_yet ds less.1, d, greater, less)
 
 module _ {A : Type 0} where
   at_middle : (P : List ℕ → Type 0) (ds : List (List ℕ × A)) (e : List ℕ × A)
@@ -438,9 +392,7 @@ middle P (y ∷ xs) x ys all = middle P xs x ys all.1
 address_of_found : (o : Option Finding) (a : ℕ)
     → has_address a (unwrap_or o (Refused Silent)) ≡ true → address_in o ≡ Some a
 unfolding has_address
-address_of_found None a has = absurd cc
-address_of_found (Some (Device device)) a has = ap Some (eqb-true device.address a has)
-address_of_found (Some (Refused cause)) a has = absurd cc
+address_of_found o a has = grind (arith, eqb-true)
 
 module _ (found : Slots) (paths : PathKeys) (addresses : AddressKeys)
     (are : AreIndexes found paths addresses) (path : List ℕ) (key a : ℕ)
@@ -466,16 +418,7 @@ module _ (found : Slots) (paths : PathKeys) (addresses : AddressKeys)
   pub none_has : (ds : PathKeys) → AllByRecursion IsOther ds
       → count_by (λ e. has_address a e.1) (entries_of found ds) ≡ 0
   none_has [] all = refl
-  none_has (d ∷ ds) all =
-      let e : List ℕ × Finding = (d.0, finding_under found d.1) in
-      let first : ◌≡◌ {A = ℕ} (cond (has_address a (finding_under found d.1)) 1 0) 0 =
-      ap (λ (b : Bool). cond b 1 0) (not_its d all.0) in
-      let split : count_by (λ e. has_address a e.1) (entries_of found (d ∷ ds))
-      ≡ cond (has_address a (finding_under found d.1)) 1 0
-      + count_by (λ e. has_address a e.1) (entries_of found ds) =
-      sum_by-cons (λ e. cond (has_address a e.1) 1 0) e (entries_of found ds) in
-      let more = none_has ds all.1 in
-      omega (arith, split, first, more)
+  none_has (d ∷ ds) all = grind (arith, none_has ds all.1, d, found, not_its, sum_by-cons)
 
 both : {X : Type 0} (P Q : X → Type 0) (xs : List X) → AllByRecursion P xs → AllByRecursion Q xs
     → AllByRecursion (λ x. P x × Q x) xs
@@ -512,13 +455,11 @@ pub record Copied (standings : TableSlots) (paths rest : PathKeys) (copy : Table
 
 pub copied_none : (standings : TableSlots) (paths rest : PathKeys) (copy : Table) → rest ≡ paths
     → copy ≡ table_of standings [] → Copied standings paths rest copy
-copied_none standings paths rest copy all none = record { before = []; split = all; is = none }
+copied_none standings paths rest copy all none = grind arith
 
 pub copied_all : (standings : TableSlots) (paths rest : PathKeys) (copy : Table)
     → Copied standings paths rest copy → rest ≡ [] → copy ≡ table_of standings paths
-copied_all standings paths rest copy d none =
-    d.is ∙ ap (table_of standings)
-    (sym (append-nil d.before) ∙ ap (λ l. d.before ++ l) (sym none) ∙ d.split)
+copied_all standings paths rest copy d none = grind (arith, append-nil, d)
 
 -- what comes next
 module _ (standings : TableSlots) (paths left rest : PathKeys) (path : List ℕ) (key : ℕ)
@@ -538,43 +479,23 @@ module _ (standings : TableSlots) (paths left rest : PathKeys) (path : List ℕ)
   next_at = middle IsFound d.before (path, key) rest found
 
   less : AreBefore path d.before
-  less = before_next d.before (path, key) rest
-      (rw d.split rises)
+  less = grind (arith, before_next, d)
 
   pub next_away : lookup (is_at (path_cmp path)) copy.entries ≡ None
-  next_away =
-      ap (λ (t : Table). lookup (is_at (path_cmp path)) t.entries) d.is
-      ∙ none_yet path (table_of standings d.before).entries
-      (before_shown (Refused Silent) (findings standings) path d.before less)
+  next_away = grind (arith, before_shown, d, less, none_yet)
 
   pub next_address : (addresses : AddressKeys) (s : Entry) → standings key ≡ Some s
       → AreIndexes (findings standings) paths addresses → HasNewAddress s.finding copy.entries
   next_address addresses s stands are =
-      rw d.is
-      (new_address (findings standings) paths addresses are path key s.finding next_at
-      (findings-standing standings key s stands) d.before
-      (both IsFound (λ e. path_cmp e.0 path ≡ Less) d.before
-      (prefix IsFound d.before ((path, key) ∷ rest) found) less))
+      grind (arith, both, d, findings-standing, found, less, new_address, next_at, prefix)
 
   -- one list with one more value
   one_more : {A : Type 0} (none : A) (slots : ℕ → Option A) (value : A) → slots key ≡ Some value
       → insert_entry path_cmp (values_by_path none slots d.before) path value
       ≡ values_by_path none slots (d.before ++ (path, key) ∷ [])
-  one_more none slots value at =
-      insert_last path (values_by_path none slots d.before) value
-      (before_shown none slots path d.before less)
-      ∙ ap (λ o. values_by_path none slots d.before ++ (path, unwrap_or o none) ∷ []) (sym at)
-      ∙ sym (shown none slots d.before (path, key))
+  one_more none slots value at = grind (arith, before_shown, d, insert_last, less, shown)
 
   pub copied_more : (s : Entry) (new : Table) → standings key ≡ Some s
       → new ≡ with_entry path s.finding s.pipes copy → Copied standings paths rest new
-  copied_more s new stands put = record {
-    before = d.before ++ (path, key) ∷ [];
-    split = append_assoc d.before ((path, key) ∷ []) rest ∙ d.split;
-    is = put ∙ ap (with_entry path s.finding s.pipes) d.is
-        ∙ same_table _ _ _ _
-        (one_more (Refused Silent) (findings standings) s.finding
-        (findings-standing standings key s stands))
-        (one_more no_pipes (pipings standings) s.pipes
-        (ap (option_map (λ (t : Entry). t.pipes)) stands));
-  }
+  copied_more s new stands put =
+      grind (arith, append_assoc, d, findings-standing, one_more, same_table)

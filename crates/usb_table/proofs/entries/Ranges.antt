@@ -19,8 +19,7 @@ use Rattle.usb_port.specs.{path_cmp, is_below, parent_of, port_on_hub}
 use Rattle.usb_port.proofs.Interface.{is_below-extension, rejoined}
 use Rattle.usb_table.specs.{is_at_or_below, PathKeys, Entries, Rises, Slots, entries_of}
 use Rattle.usb_table.specs.{finding_under, start_after, ComesAfter, Stands, IsNext, IsLast, without}
-use Rattle.usb_table.specs.{known_port, port_below, port_found, is_below_hub, port_of_hub}
-use Rattle.usb_table.specs.{KnownPort}
+use Rattle.usb_table.specs.{known_port, port_below, port_found, port_of_hub, KnownPort}
 use Rattle.usb_tree.proofs.Interface.{or_left, or_right}
 use Rattle.std.specs.BTreeMap.{is_at}
 use Rattle.std.specs.declared.cmp.Ordering.{Ordering}
@@ -43,11 +42,7 @@ abbrev Extends : List ℕ → List ℕ → Type 0
 Extends path above = (rest : List ℕ) × (path ≡ above ++ rest)
 
 extends_if : (path above : List ℕ) → is_at_or_below path above ≡ true → Extends path above
-extends_if path above h =
-    elim (or_cases (pointwise nat_eq path above) (is_below path above) h) [
-      | inl same ↦ ([], same_text path above (sym same) ∙ sym (append-nil above))
-      | inr further ↦ let on = (is_below-extension path above).0 further in (on.0, on.1)
-    ]
+extends_if path above h = grind (arith, append-nil, is_below-extension, or_cases, same_text)
 
 -- a path comes no later than what goes on from it
 from_front : (path rest : List ℕ) → is_le (path_cmp path (path ++ rest)) ≡ true
@@ -81,45 +76,27 @@ extends_between (x ∷ path) (y ∷ other) rest from less =
 
 pointwise-refl : (path : List ℕ) → pointwise nat_eq path path ≡ true
 pointwise-refl [] = refl
-pointwise-refl (n ∷ path) =
-    and_from (nat_eq n n) (pointwise nat_eq path path) (eq-eqb n n refl) (pointwise-refl path)
+pointwise-refl (n ∷ path) = grind (arith, pointwise-refl path, and_from, eq-eqb)
 
 below_is_from : (path above : List ℕ) → is_at_or_below path above ≡ true
     → is_le (path_cmp above path) ≡ true
-below_is_from path above h =
-    let on = extends_if path above h in
-    rw on.1 (from_front above on.0)
+below_is_from path above h = grind (arith, extends_if, from_front)
 
 -- a path that comes before another is not at or below it
 not_before : (path above : List ℕ) → is_le (path_cmp above path) ≡ false
     → is_at_or_below path above ≡ false
-not_before path above early =
-    elim (cases_Bool (is_at_or_below path above)) [
-      | inl at ↦ let from = below_is_from path above at in absurd cc
-      | inr not_at ↦ not_at
-    ]
+not_before path above early = grind (arith, below_is_from, cases_Bool)
 
 extends_is : (path above : List ℕ) → Extends path above → is_at_or_below path above ≡ true
-extends_is path above ([], whole) =
-    rw (whole ∙ append-nil above)
-    (or_left (pointwise nat_eq above above) (is_below above above) (pointwise-refl above))
-extends_is path above (n ∷ rest, whole) =
-    or_right (pointwise nat_eq path above) (is_below path above)
-    ((is_below-extension path above).1 (n ∷ rest, whole, omega arith))
+extends_is path above ([], whole) = grind (arith, append-nil, or_left, pointwise-refl)
+extends_is path above (n ∷ rest, whole) = grind (arith, is_below-extension, or_right)
 
 -- nothing behind a path that is not at or below another is there either
 later_one : (above first path : List ℕ) → is_le (path_cmp above first) ≡ true
     → is_at_or_below first above ≡ false → path_cmp first path ≡ Less
     → is_at_or_below path above ≡ false
 later_one above first path from away less =
-    elim (cases_Bool (is_at_or_below path above)) [
-      | inl at ↦
-          let on = extends_if path above at in
-          let at_first = extends_is first above
-          (extends_between above first on.0 from (rw on.1 at less)) in
-          absurd cc
-      | inr not_at ↦ not_at
-    ]
+    grind (arith, cases_Bool, extends_between, extends_if, extends_is)
 
 -- ---- entries
 
@@ -132,8 +109,7 @@ later_ones : (above first : List ℕ) (paths : PathKeys) → is_le (path_cmp abo
     → has_path_below above paths ≡ false
 later_ones above first [] from away all = refl
 later_ones above first (e ∷ paths) from away all =
-    or_from (is_at_or_below e.0 above) (has_path_below above paths)
-    (later_one above first e.0 from away all.0) (later_ones above first paths from away all.1)
+    grind (arith, later_ones above first paths from away all.1, later_one, or_from)
 
 abbrev pub from_path : List ℕ → PathKeys → PathKeys
 from_path above paths = entries_between path_cmp (Included above) Unbounded paths
@@ -147,12 +123,8 @@ away_step : (above : List ℕ) (e : List ℕ × ℕ) (paths : PathKeys)
     → (b : Bool) → is_le (path_cmp above e.0) ≡ b
     → FirstIsAway above (cond (b && not false) (e ∷ from_path above paths) (from_path above paths))
     → has_path_below above (e ∷ paths) ≡ false
-away_step above e paths rises more true from away =
-    or_from (is_at_or_below e.0 above) (has_path_below above paths) away
-    (later_ones above e.0 paths from away (sorted_head path_cmp e.0 (keys_of paths) rises))
-away_step above e paths rises more false from away =
-    or_from (is_at_or_below e.0 above) (has_path_below above paths) (not_before e.0 above from)
-    (more away)
+away_step above e paths rises more b from away =
+    grind (arith, later_ones, not_before, or_from, sorted_head)
 
 -- where the first entry from a path on is not at or below it, none is
 pub away_if_first : (above : List ℕ) (paths : PathKeys)
@@ -160,9 +132,12 @@ pub away_if_first : (above : List ℕ) (paths : PathKeys)
     → has_path_below above paths ≡ false
 away_if_first above [] rises away = refl
 away_if_first above (e ∷ paths) rises away =
-    away_step above e paths rises
-    (away_if_first above paths (sorted_tail path_cmp e.0 (keys_of paths) rises))
-    (is_le (path_cmp above e.0)) refl away
+    grind (
+      arith,
+      away_if_first above paths (sorted_tail path_cmp e.0 (keys_of paths) rises),
+      away_step,
+      sorted_tail,
+    )
 
 -- The next entry of a kind is the first one after the last path.
 
@@ -209,25 +184,10 @@ not_head q e es f rises found = false_from_ne_true _ (λ tie.
 module _ (kind : Finding → Bool) (last : Option (List ℕ)) (e : List ℕ × Finding) (es : Entries)
   where
     here : (is_after last e.0 && kind e.1) ≡ true → Stands kind last (e ∷ es) e.0
-    here pass =
-        let parts = and_parts (is_after last e.0) (kind e.1) pass in
-        record {
-          finding = e.1;
-          found = lookup_head (is_at (path_cmp e.0)) e es (path_itself e.0);
-          fits = parts.1;
-          after = after_if last e.0 parts.0;
-        }
+    here pass = grind (arith, after_if, and_parts, lookup_head, path_itself)
 
     later : (q : List ℕ) → Rises (e ∷ es) → Stands kind last es q → Stands kind last (e ∷ es) q
-    later q rises s =
-        record {
-          finding = s.finding;
-          found =
-              lookup_tail (is_at (path_cmp q)) e es (not_head q e es s.finding rises s.found)
-              ∙ s.found;
-          fits = s.fits;
-          after = s.after;
-        }
+    later q rises s = grind (arith, lookup_tail, not_head)
 
     in_tail_by : (q : List ℕ) → (is_after last e.0 && kind e.1) ≡ false
         → Stands kind last (e ∷ es) q
@@ -240,13 +200,7 @@ module _ (kind : Finding → Bool) (last : Option (List ℕ)) (e : List ℕ × F
         let kind_is : kind e.1 ≡ true = rw finding at s.fits in
         let after_is : is_after last e.0 ≡ true = if_after last e.0 (rw same at s.after) in
         absurd (cc (and_from (is_after last e.0) (kind e.1) after_is kind_is, fails))
-    in_tail_by q fails s false tie =
-        record {
-          finding = s.finding;
-          found = sym (lookup_tail (is_at (path_cmp q)) e es tie) ∙ s.found;
-          fits = s.fits;
-          after = s.after;
-        }
+    in_tail_by q fails s false tie = grind (arith, lookup_tail)
 
     in_tail : (q : List ℕ) → (is_after last e.0 && kind e.1) ≡ false → Stands kind last (e ∷ es) q
         → Stands kind last es q
@@ -254,24 +208,17 @@ module _ (kind : Finding → Bool) (last : Option (List ℕ)) (e : List ℕ × F
 
     next_here : Rises (e ∷ es) → (is_after last e.0 && kind e.1) ≡ true
         → IsNext kind last (e ∷ es) e.0
-    next_here rises pass = record {
-      stands = here pass;
-      least = λ other s. path_cmp-not_less other e es s.finding rises s.found;
-    }
+    next_here rises pass = grind (arith, here, path_cmp-not_less)
 
     next_later : (path : List ℕ) → Rises (e ∷ es) → (is_after last e.0 && kind e.1) ≡ false
         → IsNext kind last es path → IsNext kind last (e ∷ es) path
-    next_later path rises fails next = record {
-      stands = later path rises next.stands;
-      least = λ other s. next.least other (in_tail other fails s);
-    }
+    next_later path rises fails next = grind (arith, in_tail, later)
 
     next_step : (path : List ℕ) → Rises (e ∷ es)
         → (first_from kind last es ≡ Some path → IsNext kind last es path) → (b : Bool)
         → (is_after last e.0 && kind e.1) ≡ b → cond b (Some e.0) (first_from kind last es)
         ≡ Some path → IsNext kind last (e ∷ es) path
-    next_step path rises more true pass is =
-        let same : e.0 ≡ path = cc is in rw (← same) (next_here rises pass)
+    next_step path rises more true pass is = grind (arith, next_here)
     next_step path rises more false fails is = next_later path rises fails (more is)
 
     last_step : ((first_from kind last es) ≡ None → IsLast kind last es) → (b : Bool)
@@ -336,15 +283,12 @@ is_below-short hub path shorter true under is is_under =
     let e : length hub ≡ length path = ap length (same_text hub path (sym is)) in
     absurd (omega (arith, e, shorter))
 is_below-short hub path shorter false true is is_under =
-    let on = (is_below-extension hub path).0 is_under in
-    let e : length hub ≡ length path + length on.0 = ap length on.1 ∙ length-append path on.0 in
-    absurd (omega (arith, e, shorter))
+    grind (arith, is_below-extension, length-append)
 is_below-short hub path shorter false false is is_under = refl
 
 is_at_or_below-short : (hub path : List ℕ) → length hub < length path
     → is_at_or_below hub path ≡ false
-is_at_or_below-short hub path shorter = is_below-short hub path shorter (pointwise nat_eq hub path)
-    (is_below hub path) refl refl
+is_at_or_below-short hub path shorter = grind (arith, is_below-short)
 
 kept_hub : (path hub : List ℕ) (es : Entries) → length hub < length path
     → lookup (is_at (path_cmp hub)) (without path es) ≡ lookup (is_at (path_cmp hub)) es
@@ -361,10 +305,7 @@ parent_shorter path hub is =
 port_below-without : (path : List ℕ) (es : Entries) (parent : Option (List ℕ))
     → parent_of path ≡ parent → port_below parent (port_on_hub path) (without path es)
     ≡ port_below parent (port_on_hub path) es
-port_below-without path es None is = refl
-port_below-without path es (Some hub) is =
-    ap (λ found. port_found found (is_below_hub hub) (port_on_hub path))
-    (kept_hub path hub es (parent_shorter path hub is))
+port_below-without path es parent is = grind (arith, kept_hub, parent_shorter)
 
 -- what stands at a port and below it says nothing of the port
 pub known_port-without : (path : List ℕ) (es : Entries) → known_port path (without path es)
@@ -404,6 +345,4 @@ port_of_hub-some device below_hub n port (Some facts) told e = pick (nat_le n fa
 
 pub port_found-some : (found : Option Finding) (below_hub : Bool) (n : ℕ) (port : KnownPort)
     → port_found found below_hub n ≡ Some port → FoundPort found below_hub n port
-port_found-some (Some (Device device)) below_hub n port e =
-    port_of_hub-some device below_hub n port device.hub refl e
-port_found-some _ below_hub n port e = absurd (cc e)
+port_found-some found below_hub n port e = grind (arith, port_of_hub-some)

@@ -8,12 +8,10 @@ use Rattle.usb_bus.proofs.Interface.{went_none, went_wider}
 use Rattle.arrayvec.specs.ArrayVec.{ArrayVec}
 use Rattle.usb_pipe.specs.{PipeState, pipe_made}
 use Rattle.usb_enum.specs.{Accepted, Finding}
-use Rattle.usb_enum.specs.declared.finding.Finding.TheVariants.{Device, Refused}
-use Rattle.usb_table.specs.{TableFault, Transfer, TransferFault, NoDevice, NoEndpoint}
-use Rattle.usb_table.specs.{FunctionPipes, Pipes, Hub, Function, Absent, AreFunctionPipes}
-use Rattle.usb_table.specs.{ArePipesIf, ArePipesOf, ArePipesTo, ArePlaced, ClearedIf}
-use Rattle.usb_table.specs.{ClearedInOrder, NotTried, PipeDid, PipesCleared, PipesThrough}
-use Rattle.usb_table.specs.{ThroughIf, clear_miss, through, with_pipe, with_rest, Entries}
+use Rattle.usb_table.specs.{TableFault, Transfer, TransferFault, FunctionPipes, Pipes, Function}
+use Rattle.usb_table.specs.{Absent, AreFunctionPipes, ArePipesIf, ArePipesOf, ArePipesTo, ArePlaced}
+use Rattle.usb_table.specs.{ClearedIf, ClearedInOrder, NotTried, PipeDid, PipesCleared}
+use Rattle.usb_table.specs.{PipesThrough, ThroughIf, through, with_pipe, with_rest, Entries}
 use Rattle.usb_table.specs.{accepted_device_of, accepted_device_at, address_in, PipesInSync}
 use Rattle.usb_table.specs.{InSyncAt, AllInSync, IsHeld, KeepsLevels, finding_at, entry_address}
 use Rattle.usb_table.specs.{Table, pipes_at, GoesThrough, Indexes, SetOrRefused, interface_asked}
@@ -55,14 +53,11 @@ idle_steps n w text = went_wider 0 n went_none (omega arith)
 
 placed_to : (device : Accepted) (below_hub : Bool) (pipes : Pipes)
     → ArePipesTo device below_hub pipes → ArePlaced pipes
-placed_to device below_hub (Hub pipe) are = tt
-placed_to device below_hub (Function pipes) are = in_place device below_hub pipes are
-placed_to device below_hub (Absent said) are = absurd are
+placed_to device below_hub pipes are = grind (arith, in_place)
 
 pub placed_of : (finding : Finding) (below_hub : Bool) (pipes : Pipes)
     → ArePipesOf finding below_hub pipes → ArePlaced pipes
-placed_of (Device device) below_hub pipes are = placed_to device below_hub pipes are
-placed_of (Refused cause) below_hub pipes none = rw none.1 tt
+placed_of finding below_hub pipes are = grind (arith, placed_to)
 
 -- A call goes through no pipes where no device was found
 
@@ -72,10 +67,7 @@ pub if_found : (P R : Pipes → Pipes → Type 0) (found : Option Accepted) (bel
     → ((device : Accepted) (pipes left : Pipes) → found ≡ Some device
     → ArePipesTo device below_hub pipes → P pipes left → R pipes left)
     → (pipes left : Pipes) → ArePipesIf found below_hub pipes → P pipes left → R pipes left
-if_found P R None below_hub absent there pipes left none x =
-    rw none.1 (absent none.0 left refl (rw none.1 at x))
-if_found P R (Some device) below_hub absent there pipes left are x =
-    there device pipes left refl are x
+if_found P R found below_hub absent there pipes left none x = grind arith
 
 -- The two cases of a call through the pipe that is picked
 
@@ -102,7 +94,7 @@ module _ {A : Type 0} (pick : FunctionPipes → Option PipeState)
     → So pipe old result left new → R (Function pipes) (Function (with_pipe left pipes))) where
   none_picked : (pipes left : Pipes) (fault : TransferFault) → through pick pipes ≡ None
       → NotTried fault pipes old result left new → R pipes left
-  none_picked pipes left fault none x = rw x.1 (idle pipes fault none x.0 x.2)
+  none_picked pipes left fault none x = grind arith
 
   one_picked : (device : Accepted) (pipes : FunctionPipes) → found ≡ Some device
       → AreFunctionPipes device below_hub pipes → (o rest : Option PipeState) → pick pipes ≡ o
@@ -125,16 +117,11 @@ module _ {A : Type 0} (pick : FunctionPipes → Option PipeState)
   picked_there : (device : Accepted) (pipes left : Pipes) → found ≡ Some device
       → ArePipesTo device below_hub pipes → PipesThrough pick miss So pipes old result left new
       → R pipes left
-  picked_there device (Hub pipe) left e are x = none_picked (Hub pipe) left NoEndpoint refl x
-  picked_there device (Function pipes) left e are x =
-      rw x.1 (one_picked device pipes e are (pick pipes) x.0 refl x.2)
-  picked_there device (Absent said) left e are x = absurd are
+  picked_there device pipes left e are x = grind (arith, none_picked, one_picked)
 
   pub through_pipes : (pipes left : Pipes) → ArePipesIf found below_hub pipes
       → PipesThrough pick miss So pipes old result left new → R pipes left
-  through_pipes =
-      if_found (λ p l. PipesThrough pick miss So p old result l new) R found below_hub
-      (λ said left e. none_picked (Absent said) left NoDevice refl) picked_there
+  through_pipes pipes left h h1 = grind (arith, if_found, none_picked, picked_there)
 
 -- The two cases of a clear of both
 
@@ -159,25 +146,18 @@ module _ (old : World) (result : Result (Unit {0}) TableFault) (new : World)
 
   both_there : (device : Accepted) (pipes left : Pipes) → found ≡ Some device
       → ArePipesTo device below_hub pipes → PipesCleared pipes old result left new → R pipes left
-  both_there device (Hub pipe) left e are x = both_idle (Hub pipe) left NoEndpoint x
-  both_there device (Function pipes) left e are x =
-      rw x.1 (both_if device e (clear_miss pipes) pipes x.0 are x.2)
-  both_there device (Absent said) left e are x = absurd are
+  both_there device pipes left e are x = grind (arith, both_idle, both_if)
 
   pub through_both : (pipes left : Pipes) → ArePipesIf found below_hub pipes
       → PipesCleared pipes old result left new → R pipes left
-  through_both =
-      if_found (λ p l. PipesCleared p old result l new) R found below_hub
-      (λ said left e. both_idle (Absent said) left NoDevice) both_there
+  through_both pipes left h h1 = grind (arith, both_idle, both_there, if_found)
 
 -- Calls through the pipes at a path leave the pipes of the table level.
 
 -- the address of an accepted device is that of its path
 device_address : (found : Option Finding) (device : Accepted)
     → accepted_device_of found ≡ Some device → address_in found ≡ Some device.address
-device_address (Some (Device d)) device e =
-    ap (λ (x : Option Accepted). option_map (λ (y : Accepted). y.address) x) e
-device_address _ device e = absurd (cc e)
+device_address found device e = grind arith
 
 pub address_found : (path : List ℕ) (entries : Entries) (device : Accepted)
     → accepted_device_at path entries ≡ Some device
@@ -196,15 +176,13 @@ at_some_port : (table : Table) (w : World) (path : List ℕ) → InSyncFrom path
 at_some_port table w (suc j ∷ p) f = record {
   level = λ device s e on there. f (record { row = j; rest = p }) refl device s e on there;
 }
-at_some_port table w _ f = record { level = λ device s e on there. false_true on }
+at_some_port table w _ f = grind (arith, false_true)
 
 -- what is reached at a path holds the address of the path's entry
 pub held_address : (table : Table) (w : World) (path : List ℕ) (device : Accepted) (s : State)
     → IsHeld table w → accepted_device_at path table.entries ≡ Some device
     → reach w.roots path ≡ true → state_there w.roots path ≡ Some s → address_of s ≡ device.address
-held_address table w path device s held e on there =
-    same_Some (address_of s) device.address (sym (ap (option_map address_of) there)
-    ∙ held.own path on ∙ address_found path table.entries device e)
+held_address table w path device s held e on there = grind (arith, address_found, same_Some)
 
 -- two paths of one address are one
 pub entry_address-one_path : (table : Table) (w : World) (x path : List ℕ) (a : ℕ) → IsHeld table w
@@ -227,7 +205,7 @@ stands_there path table w held device found a is j s on there at =
 pub stood_at : {R : Relation} (path : List ℕ) (old : World) (j : Location) (v : State)
     → path ≡ path_to j → (w : Was R old j v)
     → (reach old.roots path ≡ true) × (state_there old.roots path ≡ Some w.before)
-stood_at path old j v e w = (ap (reach old.roots) e ∙ w.on, ap (state_there old.roots) e ∙ w.stands)
+stood_at path old j v e w = grind arith
 
 apart_or : (path x : List ℕ) → is_at (path_cmp path) x ≡ false → x ≢ path
 apart_or path x apart e = false_true (sym apart
@@ -245,7 +223,7 @@ module _ (path : List ℕ) (device : Accepted) (ends : Type 0) (pipes left : Pip
 
   same_device : (x : List ℕ) (d : Accepted) → accepted_device_at x new.entries ≡ Some d
       → accepted_device_at x old.entries ≡ Some d
-  same_device x d e = ap (accepted_device_at x) (sym goes.entries) ∙ e
+  same_device x d e = grind arith
 
   others : IsHeld old before → (x : List ℕ) → is_at (path_cmp path) x ≡ false
       → InSyncAt x old before → InSyncAt x new after
@@ -277,37 +255,26 @@ module _ (path : List ℕ) (device : Accepted) (ends : Type 0) (pipes left : Pip
 
   pub moved_levels : (Worlds : World → World → Type 0) → Worlds before after
       → KeepsLevels Worlds path ends old before new after
-  moved_levels Worlds keeps = record { worlds = keeps; others = others; itself = itself }
+  moved_levels Worlds keeps = grind (arith, itself, others)
 
 -- A call that does nothing
 
 level_at-same : (x : List ℕ) (old new : Table) (w : World) → new.entries ≡ old.entries
     → pipes_at x new ≡ pipes_at x old → InSyncAt x old w → InSyncAt x new w
-level_at-same x old new w e same l = record {
-  level = λ device s found on there.
-      rw same (l.level device s (ap (accepted_device_at x) (sym e) ∙ found) on there);
-}
+level_at-same x old new w e same l = grind arith
 
 pub still_levels : (Worlds : World → World → Type 0) (path : List ℕ) (ends : Type 0)
     (old new : Table) (before after : World) → GoesThrough path old new
     → pipes_at path new ≡ pipes_at path old → after ≡ before → Worlds before after
     → KeepsLevels Worlds path ends old before new after
-still_levels Worlds path ends old new before after goes same none keeps = record {
-  worlds = keeps;
-  others = λ held x apart l.
-      rw none (level_at-same x old new before goes.entries (goes.others x apart) l);
-  itself = λ held e l. rw none (level_at-same path old new before goes.entries same l);
-}
+still_levels Worlds path ends old new before after goes same none keeps =
+    grind (arith, itself, level_at-same, others)
 
 -- what a call through the pipes at a path leaves of all of them
 pub all_kept : {Worlds : World → World → Type 0} (path : List ℕ) (ends : Type 0)
     (old new : Table) (before after : World) → KeepsLevels Worlds path ends old before new after
     → IsHeld old before → ends → AllInSync old before → AllInSync new after
-all_kept path ends old new before after k held e all x = by_test (is_at (path_cmp path) x) refl
-  where
-    by_test : (b : Bool) → is_at (path_cmp path) x ≡ b → InSyncAt x new after
-    by_test true at = rw (← path_tied path x at) (k.itself held e (all path))
-    by_test false apart = k.others held x apart (all x)
+all_kept path ends old new before after k held e all = grind (arith, path_tied)
 
 -- A call that is not through the pipes
 
@@ -332,8 +299,7 @@ module _ (table : Table) (old new : World) where
   -- where each does that is not at a path nor below it
   pub level_elsewhere : (path : List ℕ) → EachElsewhere path StaysAs old new → (x : List ℕ)
       → is_way path x ≡ false → InSyncAt x table old → InSyncAt x table new
-  level_elsewhere path was x apart = level_if x (λ j e s on there. was j s (ap (is_way path) (sym e)
-      ∙ apart) on there)
+  level_elsewhere path was x apart h = grind (arith, level_if)
 
 -- Calls through the pipes at a path, as the keys show them.
 
@@ -342,15 +308,12 @@ module _ (table : Table) (old new : World) where
 pipes_by : (standings : TableSlots) (path : List ℕ) (paths : PathKeys) (key : Option ℕ)
     → key_of_path paths path ≡ key → pipes_at path (table_of standings paths)
     ≡ unwrap_or (option_map (under no_pipes (pipings standings)) key) no_pipes
-pipes_by standings path paths key at =
-    ap (λ o. unwrap_or o no_pipes) (values_by_path-lookup no_pipes (pipings standings) path paths
-    ∙ ap (option_map (under no_pipes (pipings standings))) at)
+pipes_by standings path paths key at = grind (arith, values_by_path-lookup)
 
 pub pipes_found : (standings : TableSlots) (path : List ℕ) (paths : PathKeys) (key : ℕ) (s : Entry)
     → key_of_path paths path ≡ Some key → standings key ≡ Some s
     → pipes_at path (table_of standings paths) ≡ s.pipes
-pipes_found standings path paths key s at stands = pipes_by standings path paths (Some key) at
-    ∙ ap (λ o. unwrap_or (option_map (λ (t : Entry). t.pipes) o) no_pipes) stands
+pipes_found standings path paths key s at stands = grind (arith, pipes_by)
 
 pub pipes_none : (standings : TableSlots) (path : List ℕ) (paths : PathKeys)
     → key_of_path paths path ≡ None → pipes_at path (table_of standings paths) ≡ no_pipes
@@ -372,9 +335,7 @@ said_found standings path paths key s at stands =
 
 pub said_none : (standings : TableSlots) (path : List ℕ) (paths : PathKeys)
     → key_of_path paths path ≡ None → said_at path (table_of standings paths) ≡ None
-said_none standings path paths none =
-    ap (λ o. said_of o (pipes_at path (table_of standings paths)))
-    (entries_of-no_key (findings standings) path paths none)
+said_none standings path paths none = grind (arith, entries_of-no_key)
 
 -- They are those to what was found there
 
@@ -387,8 +348,7 @@ module _ (standings : TableSlots) (paths : PathKeys) (addresses : AddressKeys)
 
   are_by : (key : Option ℕ) → key_of_path paths path ≡ key
       → AreTo (finding_at path (table_of standings paths).entries)
-  are_by None at = rw (entries_of-no_key (findings standings) path paths at)
-      (none_absent _ (pipes_none standings path paths at))
+  are_by None at = grind (arith, entries_of-no_key, none_absent, pipes_none)
   are_by (Some key) at = by_entry (standings key) refl
     where
       by_entry : (o : Option Entry) → standings key ≡ o
@@ -417,22 +377,17 @@ device_found standings path paths key s at stands =
 pub device_none : (standings : TableSlots) (path : List ℕ) (paths : PathKeys)
     → key_of_path paths path ≡ None
     → accepted_device_at path (table_of standings paths).entries ≡ None
-device_none standings path paths none =
-    ap accepted_device_of (entries_of-no_key (findings standings) path paths none)
+device_none standings path paths none = grind (arith, entries_of-no_key)
 
 -- A call leaves what a refused device said
 
 said-made : (pipes : Pipes) → said_in (pipes_made pipes) ≡ said_in pipes
-said-made (Hub pipe) = refl
-said-made (Function pipes) = refl
-said-made (Absent said) = refl
+said-made pipes = grind arith
 
 -- where the pipes are to the same endpoints
 made_said : (finding : Finding) (pipes left : Pipes) → pipes_made left ≡ pipes_made pipes
     → said_of (Some finding) left ≡ said_of (Some finding) pipes
-made_said (Device device) pipes left made = refl
-made_said (Refused cause) pipes left made =
-    ap Some (sym (said-made left) ∙ ap said_in made ∙ said-made pipes)
+made_said finding pipes left made = grind (arith, said-made)
 
 -- where an interface was set
 pub set_said : {W : Type 0} (finding : Finding) (below_hub : Bool) (interface setting : ℕ)
@@ -441,9 +396,7 @@ pub set_said : {W : Type 0} (finding : Finding) (below_hub : Bool) (interface se
     (accepted_device_of (Some finding)))
     (pipes_set (accepted_device_of (Some finding)) below_hub interface setting) pipes old result
     left new → said_of (Some finding) left ≡ said_of (Some finding) pipes
-set_said (Device device) below_hub interface setting pipes left result old new x = refl
-set_said (Refused cause) below_hub interface setting pipes left result old new x =
-    ap (λ p. Some (said_in p)) x.1
+set_said finding below_hub interface setting pipes left result old new x = grind arith
 
 -- A call leaves other pipes at the path
 
@@ -471,12 +424,7 @@ module _ (path : List ℕ) {standings after : TableSlots} {paths : PathKeys}
     (fits : ArePipesOf s.finding (is_below_hub path) left)
     (said : said_of (Some s.finding) left ≡ said_of (Some s.finding) s.pipes) where
   same_finding : (k : ℕ) → findings after k ≡ findings standings k
-  same_finding k = elim (cases_eq k key) [
-    | inl e ↦
-        ap (findings after) e ∙ ap (option_map (λ (x : Entry). x.finding)) changed
-        ∙ sym (ap (option_map (λ (x : Entry). x.finding)) held) ∙ ap (findings standings) (sym e)
-    | inr ne ↦ ap (option_map (λ (x : Entry). x.finding)) (others k ne)
-  ]
+  same_finding k = grind (arith, cases_eq, others)
 
   still_piped : ArePiped after paths
   still_piped q k x h stands = elim (cases_eq k key) [
@@ -493,21 +441,12 @@ module _ (path : List ℕ) {standings after : TableSlots} {paths : PathKeys}
 
   other_key : (other : List ℕ) (k : ℕ) → is_at (path_cmp path) other ≡ false
       → key_of_path paths other ≡ Some k → k ≢ key
-  other_key other k apart h e =
-      let is : other ≡ path = are.0.once path other key at (h ∙ ap Some e) in
-      let yes : is_at (path_cmp path) other ≡ true = rw is (path_itself path) in
-      absurd (cc (yes, apart))
+  other_key other k apart h = grind (arith, path_itself)
 
   other_pipes : (other : List ℕ) → is_at (path_cmp path) other ≡ false → (k : Option ℕ)
       → key_of_path paths other ≡ k → pipes_at other (table_of after paths)
       ≡ pipes_at other (table_of standings paths)
-  other_pipes other apart None h = pipes_none after other paths h
-      ∙ sym (pipes_none standings other paths h)
-  other_pipes other apart (Some k) h =
-      pipes_by after other paths (Some k) h
-      ∙ ap (λ o. unwrap_or (option_map (λ (x : Entry). x.pipes) o) no_pipes)
-      (others k (other_key other k apart h))
-      ∙ sym (pipes_by standings other paths (Some k) h)
+  other_pipes other apart k h = grind (arith, other_key, others, pipes_by, pipes_none)
 
   goes_through : CallThrough path standings after paths addresses s.pipes left
   goes_through =
@@ -558,18 +497,8 @@ pub through_none : (path : List ℕ) (standings : TableSlots) (paths : PathKeys)
     → AreIndexes (findings standings) paths addresses × ArePiped standings paths
     → key_of_path paths path ≡ None
     → CallThrough path standings standings paths addresses no_pipes no_pipes
-through_none path standings paths addresses are none = record {
-  indexes = are.0;
-  piped = are.1;
-  goes = record {
-    fits = are_pipes_at standings paths addresses are.0 are.1 path;
-    entries = refl;
-    others = λ other apart. refl;
-    said = refl;
-  };
-  was = pipes_none standings path paths none;
-  is = pipes_none standings path paths none;
-}
+through_none path standings paths addresses are none =
+    grind (arith, are_pipes_at, others, pipes_none)
 
 -- the pipes of an entry stand in their places
 pub placed_at : (path : List ℕ) (slab : Slab Entry) (paths : PathKeys) {key : ℕ} {s : Entry}

@@ -1,16 +1,16 @@
 -- What SET_INTERFACE makes of the pipes to a function: they are as far as the endpoints at their
 -- other ends.
-use Rattle.std.proofs.Common.{◌≡◌, inl, inr, ◌∙◌, refl, sym, ap, arith, Bool, true, false, ℕ, zero}
-use Rattle.std.proofs.Common.{suc, ◌+◌, ◌<◌, ◌≤◌, List, [], ◌∷◌, length, get_or, if◌then◌else◌, ◌⊎◌}
-use Rattle.std.proofs.Common.{Option, Some, None, ◌==◌, eq-eqb, IfSome}
+use Rattle.std.proofs.Common.{◌≡◌, ◌∙◌, refl, ap, arith, Bool, true, false, ℕ, zero, suc, ◌+◌, ◌<◌}
+use Rattle.std.proofs.Common.{◌≤◌, List, [], ◌∷◌, length, get_or, if◌then◌else◌, Option, Some, None}
+use Rattle.std.proofs.Common.{◌==◌, eq-eqb, IfSome}
 use Rattle.std.proofs.lemmas.Bool.{cases_lt}
 use Rattle.std.proofs.lemmas.List.{get_or_past}
 use Rattle.usb_descriptor.specs.{names_in, EndpointTable, IsTableOf, end_at, usable_under}
 use Rattle.usb_descriptor.specs.{EndpointKind, UsableEndpoint, default_settings, settable_in}
-use Rattle.usb_descriptor.specs.{with_setting, belongs_to, config_of, has_setting, max_of_usable}
-use Rattle.usb_device.specs.{numbered_from, InEnd, OutEnd, State, begun_if, in_data, in_end, in_max}
-use Rattle.usb_device.specs.{is_of_setting, items_in_text, out_end, out_max, rested, rested_in}
-use Rattle.usb_device.specs.{rested_out, served_at, set_to, tells_changes, text_of, with_interface}
+use Rattle.usb_descriptor.specs.{with_setting, max_of_usable}
+use Rattle.usb_device.specs.{numbered_from, InEnd, State, begun_if, in_data, in_end, in_max}
+use Rattle.usb_device.specs.{is_of_setting, out_end, out_max, rested, rested_in, rested_out}
+use Rattle.usb_device.specs.{served_at, set_to, tells_changes, text_of, with_interface}
 use Rattle.usb_table.specs.{replaced_if, replaced_row, AreFunctionPipes, AreWhole, FunctionPipes}
 use Rattle.usb_table.specs.{IsPlace, cleared_row, end_under, first_endpoint, first_number}
 use Rattle.usb_table.specs.{number_of, lost_at, lost_function, lost_row, mark_of, marked_row}
@@ -35,10 +35,7 @@ use Rattle.usb_table.proofs.levels.FittingPipes.{FitsWay, state_at, way-none}
 -- Rows in which the endpoints of an interface were replaced.
 
 none_below : {P : Type 0} (n : ℕ) → n < 0 → P
-none_below n h = absurd (lt_zero n h)
-  where
-    lt_zero : (n : ℕ) → n < 0 → ⊥
-    lt_zero n h = omega (arith, h)
+none_below n h = grind arith
 
 module _ {A : Type 0} where
   length-numbered_from : (change : ℕ → A → A) (first : ℕ) (row : List A)
@@ -55,87 +52,61 @@ module _ {A : Type 0} where
   numbered-within change none first e [] h = none_below e h
   numbered-within change none first zero (y ∷ row) h = ap (λ k. change k y) (omega arith)
   numbered-within change none first (suc e) (y ∷ row) h =
-      numbered-within change none (first + 1) e row (omega (arith, h))
-      ∙ ap (λ k. change k (get_or row e none)) (omega arith)
+      grind (arith, numbered-within change none (first + 1) e row (omega (arith, h)))
 
   module _ (text : List ℕ) (interface : ℕ) (is_in : Bool) (change : ℕ → A → A) (none : A)
       (row : List A) (e : ℕ) where
     within : e < length row → get_or (replaced_row text interface is_in change row) e none
         ≡ replaced_if text interface is_in change e (get_or row e none)
-    within h = numbered-within (replaced_if text interface is_in change) none 0 e row h
-        ∙ ap (λ k. replaced_if text interface is_in change k (get_or row e none)) (omega arith)
+    within h = grind (arith, numbered-within)
 
     pub replaced-past : length row ≤ e
         → get_or (replaced_row text interface is_in change row) e none ≡ none
-    replaced-past h =
-        let size = length-numbered_from (replaced_if text interface is_in change) 0 row in
-        get_or_past (replaced_row text interface is_in change row) e none (omega (arith, size, h))
+    replaced-past h = grind (arith, get_or_past, length-numbered_from)
 
     -- where the interface has an endpoint
     pub replaced-named : names_in interface is_in e text ≡ true → e < length row
         → get_or (replaced_row text interface is_in change row) e none
         ≡ change e (get_or row e none)
-    replaced-named named h =
-        within h ∙ ap (λ b. if b then change e (get_or row e none) else get_or row e none) named
+    replaced-named named h = grind (arith, within)
 
     -- and nothing is left there
     pub replaced-all : ((had : A) → change e had ≡ none) → names_in interface is_in e text ≡ true
         → get_or (replaced_row text interface is_in change row) e none ≡ none
-    replaced-all empties named = elim (cases_lt e (length row)) [
-      | inl h ↦ replaced-named named h ∙ empties (get_or row e none)
-      | inr h ↦ replaced-past h
-    ]
+    replaced-all empties named = grind (arith, cases_lt, replaced-named, replaced-past)
 
     -- and where it has none
     pub replaced-elsewhere : names_in interface is_in e text ≡ false
         → get_or (replaced_row text interface is_in change row) e none ≡ get_or row e none
-    replaced-elsewhere named = elim (cases_lt e (length row)) [
-      | inl h ↦
-          within h ∙ ap (λ b. if b then change e (get_or row e none) else get_or row e none) named
-      | inr h ↦ replaced-past h ∙ sym (get_or_past row e none h)
-    ]
+    replaced-elsewhere named = grind (arith, cases_lt, get_or_past, replaced-past, within)
 
   pub length-replaced_row : (text : List ℕ) (interface : ℕ) (is_in : Bool) (change : ℕ → A → A)
       (row : List A) → length (replaced_row text interface is_in change row) ≡ length row
-  length-replaced_row text interface is_in change row =
-      length-numbered_from (replaced_if text interface is_in change) 0 row
+  length-replaced_row text interface is_in change row = grind (arith, length-numbered_from)
 
 -- What SET_INTERFACE makes of the pipes to a function.
 
 -- What is made of endpoints that were found
 
-module _ (device : Accepted) (below_hub : Bool) (interface setting : ℕ) (settings config_text : List ℕ)
+module _ (device : Accepted) (below_hub : Bool) (interface setting : ℕ) (settings config_text :
+    List ℕ)
     (ends : EndpointTable) (target : Target) (text_is : config_text ≡ configuration_of device)
     (settings_are : settings ≡ with_setting interface setting default_settings)
     (found : IsTableOf (λ to_host e. usable_under settings device.low to_host e config_text) ends)
     (target_is : target ≡ target_of device below_hub) where
   end_is : (is_in : Bool) (e : ℕ) → end_at ends is_in e
       ≡ end_under (with_setting interface setting default_settings) device is_in e
-  end_is is_in e = found is_in e
-      ∙ ap (λ s. usable_under s device.low is_in e config_text) settings_are
-      ∙ ap (usable_under (with_setting interface setting default_settings) device.low is_in e)
-      text_is
+  end_is is_in e = grind (arith, text_is)
 
   pipe_is : (is_in : Bool) (e : ℕ) → get_or (row_of_ends target is_in (end_at ends is_in)) e None
       ≡ set_pipe device below_hub interface setting is_in e
-  pipe_is is_in e =
-      row_of_ends-at target is_in (end_at ends is_in)
-      (λ k beyond. end_is is_in k
-      ∙ none_at (with_setting interface setting default_settings) device is_in k beyond) e
-      ∙ ap (new_pipe target is_in e) (end_is is_in e)
-      ∙ ap (λ t. new_pipe t is_in e
-      (end_under (with_setting interface setting default_settings) device is_in e)) target_is
+  pipe_is is_in e = grind (arith, end_is, none_at, row_of_ends-at)
 
   pub row_is : (is_in : Bool) (new : List (Option PipeState))
       → new ≡ row_of_ends target is_in (end_at ends is_in) → (row now : List (Option PipeState))
       → now ≡ replaced_row config_text interface is_in (λ e had. get_or new e None) row
       → now ≡ set_row device below_hub interface setting is_in row
-  row_is is_in new made row now is =
-      is ∙ ap (λ n. replaced_row config_text interface is_in (λ e had. get_or n e None) row) made
-      ∙ ap (λ change. replaced_row config_text interface is_in change row)
-      (fun_ext (λ e. fun_ext (λ had. pipe_is is_in e)))
-      ∙ ap (λ t. replaced_row t interface is_in
-      (λ e had. set_pipe device below_hub interface setting is_in e) row) text_is
+  row_is is_in new made row now is = grind (arith, fun_ext, pipe_is, text_is)
 
 module _ (device : Accepted) (below_hub : Bool) (interface setting : ℕ) (pipes : FunctionPipes)
   where
@@ -172,60 +143,42 @@ module _ (device : Accepted) (below_hub : Bool) (interface setting : ℕ) (pipes
     loss_marks-at false = refl
 
     module _ (is_in : Bool) (e : ℕ) where
-      -- what stands at an endpoint of the interface then: a new pipe, or a mark of the one that did
-      abbrev put : ℕ → Option PipeState → Option PipeState
-      put k had = set_pipe device below_hub interface setting is_in k
-
       abbrev mark : ℕ → Option EndpointKind → Option EndpointKind
       mark k kind = mark_of (get_or (row_at is_in pipes) k None) kind
 
       module _ (apart : names_in interface is_in e config_text ≡ false) where
         pub set-elsewhere : pipe_at is_in e after_set ≡ pipe_at is_in e pipes
-        set-elsewhere = ap (λ row. get_or row e None) (set_row-at is_in)
-            ∙ replaced-elsewhere config_text interface is_in put None (row_at is_in pipes) e apart
+        set-elsewhere = grind (arith, replaced-elsewhere, set_row-at)
 
         set_mark-elsewhere : lost_at is_in e after_set ≡ lost_at is_in e pipes
-        set_mark-elsewhere = ap (λ row. get_or row e None) (set_marks-at is_in)
-            ∙ replaced-elsewhere config_text interface is_in (λ k had. None) None (lost_row is_in pipes) e
-            apart
+        set_mark-elsewhere = grind (arith, replaced-elsewhere, set_marks-at)
 
         pub loss-elsewhere : pipe_at is_in e after_loss ≡ pipe_at is_in e pipes
-        loss-elsewhere = ap (λ row. get_or row e None) (loss_row-at is_in)
-            ∙ replaced-elsewhere config_text interface is_in (λ k had. None) None (row_at is_in pipes) e
-            apart
+        loss-elsewhere = grind (arith, loss_row-at, replaced-elsewhere)
 
         loss_mark-elsewhere : lost_at is_in e after_loss ≡ lost_at is_in e pipes
-        loss_mark-elsewhere = ap (λ row. get_or row e None) (loss_marks-at is_in)
-            ∙ replaced-elsewhere config_text interface is_in mark None (lost_row is_in pipes) e apart
+        loss_mark-elsewhere = grind (arith, loss_marks-at, replaced-elsewhere)
 
       module _ (named : names_in interface is_in e config_text ≡ true) where
         pub set-named : e < length (row_at is_in pipes)
             → pipe_at is_in e after_set ≡ set_pipe device below_hub interface setting is_in e
-        set-named h = ap (λ row. get_or row e None) (set_row-at is_in)
-            ∙ replaced-named config_text interface is_in put None (row_at is_in pipes) e named h
+        set-named h = grind (arith, replaced-named, set_row-at)
 
         pub set-past : length (row_at is_in pipes) ≤ e → pipe_at is_in e after_set ≡ None
-        set-past h = ap (λ row. get_or row e None) (set_row-at is_in)
-            ∙ replaced-past config_text interface is_in put None (row_at is_in pipes) e h
+        set-past h = grind (arith, replaced-past, set_row-at)
 
         set_mark-named : lost_at is_in e after_set ≡ None
-        set_mark-named = ap (λ row. get_or row e None) (set_marks-at is_in)
-            ∙ replaced-all config_text interface is_in (λ k had. None) None (lost_row is_in pipes) e
-            (λ had. refl) named
+        set_mark-named = grind (arith, replaced-all, set_marks-at)
 
         pub loss-named : pipe_at is_in e after_loss ≡ None
-        loss-named = ap (λ row. get_or row e None) (loss_row-at is_in)
-            ∙ replaced-all config_text interface is_in (λ k had. None) None (row_at is_in pipes) e
-            (λ had. refl) named
+        loss-named = grind (arith, loss_row-at, replaced-all)
 
         loss_mark-named : e < length (lost_row is_in pipes) → lost_at is_in e after_loss
             ≡ mark_of (pipe_at is_in e pipes) (lost_at is_in e pipes)
-        loss_mark-named h = ap (λ row. get_or row e None) (loss_marks-at is_in)
-            ∙ replaced-named config_text interface is_in mark None (lost_row is_in pipes) e named h
+        loss_mark-named h = grind (arith, loss_marks-at, replaced-named)
 
       loss_mark-past : length (lost_row is_in pipes) ≤ e → lost_at is_in e after_loss ≡ None
-      loss_mark-past h = ap (λ row. get_or row e None) (loss_marks-at is_in)
-          ∙ replaced-past config_text interface is_in mark None (lost_row is_in pipes) e h
+      loss_mark-past h = grind (arith, loss_marks-at, replaced-past)
 
     -- They are those to a function
 
@@ -239,13 +192,7 @@ module _ (device : Accepted) (below_hub : Bool) (interface setting : ℕ) (pipes
           → end_under (with_setting interface setting default_settings) device is_in e
           ≡ end_under now device is_in e
       end-named is_in e named =
-          let was : interface < length are.settings = omega (arith, byte, are.all) in
-          let first : interface < length default_settings =
-          omega (arith, byte, length-default_settings) in
-          usable-named interface setting (with_setting interface setting default_settings) now
-          device.low is_in e config_text has named
-          (setting_of-with_setting interface setting default_settings first
-          ∙ sym (setting_of-with_setting interface setting are.settings was))
+          grind (arith, length-default_settings, setting_of-with_setting, usable-named)
 
       module _ (is_in : Bool) (e : ℕ) where
         abbrev Place : Option UsableEndpoint → Option EndpointKind → Option PipeState → Type 0
@@ -257,37 +204,26 @@ module _ (device : Accepted) (below_hub : Bool) (interface setting : ℕ) (pipes
 
         set_place : length (row_at is_in pipes) ≡ 16 → Place (end_under now device is_in e)
             (lost_at is_in e after_set) (pipe_at is_in e after_set)
-        set_place size = by_name (names_in interface is_in e config_text) refl
-          where
-            by_size : names_in interface is_in e config_text ≡ true
-                → (e < length (row_at is_in pipes)) ⊎ (length (row_at is_in pipes) ≤ e)
-                → Place (end_under now device is_in e) None (pipe_at is_in e after_set)
-            by_size named (inl h) = rw (set-named is_in e named h, ← end-named is_in e named)
-                (new_pipe_fits device below_hub is_in e
-                (end_under (with_setting interface setting default_settings) device is_in e))
-            by_size named (inr h) =
-                rw (set-past is_in e named h) (past (omega (arith, size, h)))
-
-            by_name : (b : Bool) → names_in interface is_in e config_text ≡ b
-                → Place (end_under now device is_in e) (lost_at is_in e after_set)
-                (pipe_at is_in e after_set)
-            by_name true named = rw (set_mark-named is_in e named)
-                (by_size named (cases_lt e (length (row_at is_in pipes))))
-            by_name false named =
-                rw (
-                  set_mark-elsewhere is_in e named,
-                  set-elsewhere is_in e named,
-                  usable-elsewhere interface setting are.settings device.low is_in e config_text named,
-                )
-                (are.each is_in e)
+        set_place size =
+            grind (
+              arith,
+              cases_lt,
+              end-named,
+              new_pipe_fits,
+              past,
+              set-elsewhere,
+              set-named,
+              set-past,
+              set_mark-elsewhere,
+              set_mark-named,
+              usable-elsewhere,
+            )
 
         -- no pipe where none was or where it is lost
         marked : (pipe : Option PipeState) (mark : Option EndpointKind)
             → Place (end_under are.settings device is_in e) mark pipe
             → Place (end_under are.settings device is_in e) (mark_of pipe mark) None
-        marked None None is = is
-        marked None (Some kind) is = refl
-        marked (Some pipe) mark is = refl
+        marked pipe mark is = grind arith
 
         old_past : 16 ≤ e → Place (end_under are.settings device is_in e) None None
         old_past h = rw (none_at are.settings device is_in e h) tt
@@ -295,36 +231,24 @@ module _ (device : Accepted) (below_hub : Bool) (interface setting : ℕ) (pipes
         loss_place : length (lost_row is_in pipes) ≡ 16
             → Place (end_under are.settings device is_in e) (lost_at is_in e after_loss)
             (pipe_at is_in e after_loss)
-        loss_place size = by_name (names_in interface is_in e config_text) refl
-          where
-            by_size : names_in interface is_in e config_text ≡ true
-                → (e < length (lost_row is_in pipes)) ⊎ (length (lost_row is_in pipes) ≤ e)
-                → Place (end_under are.settings device is_in e) (lost_at is_in e after_loss) None
-            by_size named (inl h) = rw (loss_mark-named is_in e named h)
-                (marked (pipe_at is_in e pipes) (lost_at is_in e pipes) (are.each is_in e))
-            by_size named (inr h) =
-                rw (loss_mark-past is_in e h) (old_past (omega (arith, size, h)))
-
-            by_name : (b : Bool) → names_in interface is_in e config_text ≡ b
-                → Place (end_under are.settings device is_in e) (lost_at is_in e after_loss)
-                (pipe_at is_in e after_loss)
-            by_name true named = rw (loss-named is_in e named)
-                (by_size named (cases_lt e (length (lost_row is_in pipes))))
-            by_name false named =
-                rw (loss_mark-elsewhere is_in e named, loss-elsewhere is_in e named)
-                (are.each is_in e)
+        loss_place size =
+            grind (
+              arith,
+              cases_lt,
+              loss-elsewhere,
+              loss-named,
+              loss_mark-elsewhere,
+              loss_mark-named,
+              loss_mark-past,
+              marked,
+              old_past,
+            )
 
       set_size : AreWhole after_set → (is_in : Bool) → length (row_at is_in pipes) ≡ 16
-      set_size whole true = sym (length-replaced_row config_text interface true
-          (λ k had. set_pipe device below_hub interface setting true k) pipes.ins) ∙ whole.ins
-      set_size whole false = sym (length-replaced_row config_text interface false
-          (λ k had. set_pipe device below_hub interface setting false k) pipes.outs) ∙ whole.outs
+      set_size whole is_in = grind (arith, length-replaced_row)
 
       loss_size : AreWhole after_loss → (is_in : Bool) → length (lost_row is_in pipes) ≡ 16
-      loss_size whole true = sym (length-replaced_row config_text interface true
-          (λ k mark. mark_of (get_or pipes.ins k None) mark) pipes.lost_ins) ∙ whole.lost_ins
-      loss_size whole false = sym (length-replaced_row config_text interface false
-          (λ k mark. mark_of (get_or pipes.outs k None) mark) pipes.lost_outs) ∙ whole.lost_outs
+      loss_size whole is_in = grind (arith, length-replaced_row)
 
       pub set_fits : AreWhole after_set → AreFunctionPipes device below_hub after_set
       set_fits whole = record {
@@ -341,18 +265,7 @@ module _ (device : Accepted) (below_hub : Bool) (interface setting : ℕ) (pipes
           by_way false = are.first false
 
       pub loss_fits : AreWhole after_loss → AreFunctionPipes device below_hub after_loss
-      loss_fits whole = record {
-        function = are.function;
-        settings = are.settings;
-        all = are.all;
-        each = λ is_in e. loss_place is_in e (loss_size whole is_in);
-        first = by_way;
-      }
-        where
-          by_way : (is_in : Bool) → first_number is_in after_loss
-              ≡ number_of (first_endpoint is_in device)
-          by_way true = are.first true
-          by_way false = are.first false
+      loss_fits whole = grind (arith, loss_place, loss_size)
 
 -- After SET_INTERFACE the pipes are as far as the endpoints at their other ends.
 
@@ -363,14 +276,7 @@ lost_way : (device : Accepted) (below_hub : Bool) (interface setting : ℕ) (pip
     → FitsWay is_in (pipe_at is_in e pipes) v) → (e : ℕ)
     → FitsWay is_in (pipe_at is_in e (lost_function device interface pipes)) v
 lost_way device below_hub interface setting pipes v is_in fits e =
-    by_name (names_in interface is_in e (configuration_of device)) refl
-  where
-    by_name : (b : Bool) → names_in interface is_in e (configuration_of device) ≡ b
-        → FitsWay is_in (pipe_at is_in e (lost_function device interface pipes)) v
-    by_name true named =
-        rw (loss-named device below_hub interface setting pipes is_in e named) (way-none is_in v)
-    by_name false apart =
-        rw (loss-elsewhere device below_hub interface setting pipes is_in e apart) (fits e apart)
+    grind (arith, loss-elsewhere, loss-named, way-none)
 
 -- the pipes of an interface are lost, and the device is as it is
 pub loss_kept : (device : Accepted) (below_hub : Bool) (interface setting : ℕ)
@@ -394,10 +300,10 @@ module _ (device : Accepted) (below_hub : Bool) (interface setting : ℕ) (pipes
   -- What the device is then
 
   text_is : text_of v.spec v.registers ≡ text_of s.spec s.registers
-  text_is = ap (λ (d : State). text_of d.spec d.registers) took.is
+  text_is = grind arith
 
   tells_is : tells_changes v.spec v.registers ≡ tells_changes s.spec s.registers
-  tells_is = ap (λ (d : State). tells_changes d.spec d.registers) took.is
+  tells_is = grind arith
 
   alone_is : (e : ℕ) → is_status v e ≡ is_status s e
   alone_is e = ap (λ (d : State). is_status d e) took.is
@@ -405,46 +311,40 @@ module _ (device : Accepted) (below_hub : Bool) (interface setting : ℕ) (pipes
   out_is : (e : ℕ) → out_end v e
       ≡ begun_if (is_of_setting s.spec s.registers interface setting false e) rested_out (out_end s
       e)
-  out_is e = ap (λ (d : State). out_end d e) took.is ∙ out_end-setting s interface setting e
+  out_is e = grind (arith, out_end-setting)
 
   in_is : (e : ℕ) → in_end v e
       ≡ begun_if (is_of_setting s.spec s.registers interface setting true e) rested_in (in_end s e)
-  in_is e = ap (λ (d : State). in_end d e) took.is ∙ in_end-setting s interface setting e
+  in_is e = grind (arith, in_end-setting)
 
   out_most : (e : ℕ) → out_max v e ≡ out_max (set_to s interface setting) e
-  out_most e = ap (λ (d : State). out_max d e) took.is
+  out_most e = grind arith
 
   in_most : (e : ℕ) → in_max v e ≡ in_max (set_to s interface setting) e
-  in_most e = ap (λ (d : State). in_max d e) took.is
+  in_most e = grind arith
 
   data_is : (e : ℕ) → in_data v e ≡ in_data s e
-  data_is e = ap (λ (d : State). in_data d e) took.is
+  data_is e = grind arith
 
   -- Where the interface has no endpoint
 
   module _ (is_in : Bool) (e : ℕ) (apart : names_in interface is_in e text ≡ false) where
     apart_there : names_in interface is_in e (text_of s.spec s.registers) ≡ false
-    apart_there = ap (names_in interface is_in e) f.text ∙ apart
+    apart_there = grind arith
 
     not_begun : is_of_setting s.spec s.registers interface setting is_in e ≡ false
-    not_begun = is_of_setting-elsewhere s.spec s.registers interface setting is_in e apart_there
+    not_begun = grind (arith, apart_there, is_of_setting-elsewhere)
 
   out_stays : (e : ℕ) → names_in interface false e text ≡ false → out_end v e ≡ out_end s e
-  out_stays e apart = out_is e
-      ∙ ap (λ b. begun_if b rested_out (out_end s e)) (not_begun false e apart)
+  out_stays e apart = grind (arith, not_begun, out_is)
 
   in_stays : (e : ℕ) → names_in interface true e text ≡ false → in_end v e ≡ in_end s e
-  in_stays e apart = in_is e
-      ∙ ap (λ b. begun_if b rested_in (in_end s e)) (not_begun true e apart)
+  in_stays e apart = grind (arith, in_is, not_begun)
 
   out_beside : (e : ℕ) → names_in interface false e text ≡ false → (o : Option PipeState)
       → IfSome o (λ (p : PipeState). (p.is_in ≡ false) × (p.ep ≡ e)) → FitsOut o s → FitsOut o v
-  out_beside e apart None place fit = tt
-  out_beside e apart (Some pipe) place fit =
-      let there : names_in interface false pipe.ep text ≡ false = rw place.1 apart in
-      sink_level pipe s v (out_most pipe.ep
-      ∙ out_max-elsewhere s interface setting pipe.ep (apart_there false pipe.ep there))
-      (same_halts _ _ (ap (λ (x : OutEnd). x.state) (out_stays pipe.ep there))) fit
+  out_beside e apart o place fit =
+      grind (arith, apart_there, out_max-elsewhere, out_most, out_stays, same_halts, sink_level)
 
   in_beside : (e : ℕ) → names_in interface true e text ≡ false → (o : Option PipeState)
       → IfSome o (λ (p : PipeState). (p.is_in ≡ true) × (p.ep ≡ e)) → FitsIn o s → FitsIn o v
@@ -492,93 +392,38 @@ module _ (device : Accepted) (below_hub : Bool) (interface setting : ℕ) (pipes
     new_end = end_under (with_setting interface setting default_settings) device
 
     configured : (s.registers.configuration == 0) ≡ false
-    configured = by_test (s.registers.configuration == 0) offers
-      where
-        by_test : (b : Bool) → has_setting interface setting
-            (if b then [] else items_in_text (config_of (text_of s.spec s.registers))) ≡ true
-            → b ≡ false
-        by_test true h = absurd (cc h)
-        by_test false h = refl
+    configured = grind arith
 
     module _ (is_in : Bool) (e : ℕ) (named : names_in interface is_in e text ≡ true) where
-      abbrev usable_then : Bool → List ℕ → Option UsableEndpoint
-      usable_then low bytes =
-          usable_under (with_setting interface setting s.registers.settings) low is_in e bytes
-
       served_is : served_at s.spec (with_interface interface setting s.registers) is_in e
           ≡ new_end is_in e
       served_is =
-          let first : interface < length s.registers.settings = omega (arith, byte, f.settings) in
-          let second : interface < length default_settings =
-          omega (arith, byte, length-default_settings) in
-          ap (λ b. if b then None else usable_then s.spec.low (text_of s.spec s.registers))
-          configured
-          ∙ ap (λ low. usable_then low (text_of s.spec s.registers)) f.low
-          ∙ ap (usable_then device.low) f.text
-          ∙ usable-named interface setting (with_setting interface setting s.registers.settings)
-          (with_setting interface setting default_settings) device.low is_in e text has named
-          (setting_of-with_setting interface setting s.registers.settings first
-          ∙ sym (setting_of-with_setting interface setting default_settings second))
+          grind (arith, configured, length-default_settings, setting_of-with_setting, usable-named)
 
       module _ (end : UsableEndpoint) (is : new_end is_in e ≡ Some end) where
         begun : is_of_setting s.spec s.registers interface setting is_in e ≡ true
-        begun =
-            let own : end.interface ≡ interface =
-            usable-own interface setting (with_setting interface setting default_settings)
-            device.low is_in e text end has named is in
-            or_right (belongs_to interface (served_at s.spec s.registers is_in e)) _
-            (ap (belongs_to interface) (served_is ∙ is) ∙ eq-eqb end.interface interface own)
+        begun = grind (arith, eq-eqb, or_right, served_is, usable-own)
 
         most : max_of_usable (served_at s.spec (with_interface interface setting s.registers) is_in
             e) ≡ Some end.max
         most = ap max_of_usable (served_is ∙ is)
 
         far : (e == 0) ≡ false
-        far =
-            let small = (usable_under-small (with_setting interface setting default_settings)
-            device.low is_in e text end is).0 in
-            grind (arith, nat_tests, small)
+        far = grind (arith, nat_tests, usable_under-small)
 
     rests : (is_in : Bool) (e : ℕ)
         → is_of_setting s.spec s.registers interface setting is_in e ≡ true
         → state_at is_in v e ≡ rested
-    rests false e begins = ap (λ (x : OutEnd). x.state) (out_is e
-        ∙ ap (λ b. begun_if b rested_out (out_end s e)) begins)
-    rests true e begins = ap (λ (x : InEnd). x.state) (in_is e
-        ∙ ap (λ b. begun_if b rested_in (in_end s e)) begins)
+    rests is_in e begins = grind (arith, in_is, out_is)
 
     new_way : (is_in : Bool) (e : ℕ) → names_in interface is_in e text ≡ true
         → FitsWay is_in (new_pipe (target_of device below_hub) is_in e (new_end is_in e)) v
-    new_way is_in e named = new_fits (target_of device below_hub) is_in e (new_end is_in e) v
-        (λ end is. record {
-          most = ap (λ (d : State). max_of_usable (served_at d.spec d.registers is_in e)) took.is
-              ∙ most is_in e named end is;
-          far = far is_in e named end is;
-          rests = rests is_in e (begun is_in e named end is);
-          quiet = tells_is ∙ f.quiet;
-        })
+    new_way is_in e named = grind (arith, begun, far, most, new_fits, rests, tells_is)
 
     set_way : (is_in : Bool) (e : ℕ)
         → FitsWay is_in (pipe_at is_in e (set_function device below_hub interface setting pipes)) v
-    set_way is_in e = by_name (names_in interface is_in e text) refl
-      where
-        by_size : names_in interface is_in e text ≡ true
-            → (e < length (row_at is_in pipes)) ⊎ (length (row_at is_in pipes) ≤ e)
-            → FitsWay is_in
-            (pipe_at is_in e (set_function device below_hub interface setting pipes)) v
-        by_size named (inl h) =
-            rw (set-named device below_hub interface setting pipes is_in e named h)
-            (new_way is_in e named)
-        by_size named (inr h) =
-            rw (set-past device below_hub interface setting pipes is_in e named h)
-            (way-none is_in v)
-
-        by_name : (b : Bool) → names_in interface is_in e text ≡ b → FitsWay is_in
-            (pipe_at is_in e (set_function device below_hub interface setting pipes)) v
-        by_name true named = by_size named (cases_lt e (length (row_at is_in pipes)))
-        by_name false apart =
-            rw (set-elsewhere device below_hub interface setting pipes is_in e apart)
-            (way_beside is_in e apart)
+    set_way is_in e =
+        grind (arith, cases_lt, new_way, set-elsewhere, set-named, set-past, way-none, way_beside)
 
     pub set_level : FunctionInSync device (set_function device below_hub interface setting pipes) v
     set_level = level_by (set_function device below_hub interface setting pipes) set_way

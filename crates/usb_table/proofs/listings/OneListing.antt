@@ -1,7 +1,7 @@
 -- What is plugged has one right listing, but for addresses.
-use Rattle.std.proofs.Common.{◌≡◌, inl, inr, ◌≤◌, ◌<◌, ◌+◌, ℕ, zero, suc, List, length, Option}
-use Rattle.std.proofs.Common.{None, Some, refl, ap, sym, ◌∙◌, arith, IsSome, IsSomeAnd, subst, Bool}
-use Rattle.std.proofs.Common.{true, false, [], ◌∷◌, take}
+use Rattle.std.proofs.Common.{◌≡◌, ◌≤◌, ◌<◌, ◌+◌, ℕ, zero, suc, List, length, Option, None, Some}
+use Rattle.std.proofs.Common.{refl, sym, ◌∙◌, arith, IsSome, IsSomeAnd, subst, true, false, [], ◌∷◌}
+use Rattle.std.proofs.Common.{take}
 use Rattle.usb_port.specs.{parent_of, port_on_hub, path_cmp}
 use Rattle.usb_device.specs.{Spec}
 use Rattle.usb_enum.specs.{Finding, HostOptions, HubFacts, IsFindingOf, IsRight, Silent, Accepted}
@@ -24,19 +24,7 @@ use Rattle.usb_table.proofs.entries.Keys.{path_tied}
 found_like : (spec : Spec) (options : HostOptions) (tier supply : ℕ) (f g : Finding)
     → IsFindingOf spec options tier supply f → IsFindingOf spec options tier supply g
     → IsFoundLike f g
-found_like spec options tier supply (Device d) (Device e) x y =
-    let same : d.chosen ≡ e.chosen = cc (x.0, y.0) in
-    record {
-      low = x.1.low ∙ sym y.1.low;
-      bytes = x.1.bytes ∙ sym y.1.bytes;
-      configs = x.1.configs ∙ sym y.1.configs;
-      chosen = same;
-      strings = x.1.strings ∙ sym y.1.strings;
-      hub = x.1.hub ∙ sym y.1.hub;
-    }
-found_like spec options tier supply (Device d) (Refused c) x y = absurd (cc (x.0, y))
-found_like spec options tier supply (Refused c) (Device d) x y = absurd (cc (x, y.0))
-found_like spec options tier supply (Refused c) (Refused b) x y = cc (x, y)
+found_like spec options tier supply f g x y = grind arith
 
 -- none waits: it is found by its description
 by_description : (entries : Entries) → NoneWaits entries
@@ -44,9 +32,7 @@ by_description : (entries : Entries) → NoneWaits entries
     → finding_at path entries ≡ Some f
     → IsRight (ListsEach entries) spec options tier supply f
     → IsFindingOf spec options tier supply f
-by_description entries none path spec f options tier supply at (inl x) = x
-by_description entries none path spec f options tier supply at (inr x) =
-    absurd (none path (at ∙ ap (λ x. Some x) x.refused))
+by_description entries none path spec f options tier supply at h = grind arith
 
 -- the finding at a listed port where a device is plugged
 listed_finding : (options : HostOptions) (roots : ℕ) (tree : SpecTree) (entries : Entries)
@@ -69,25 +55,17 @@ listed_finding options roots tree entries l none path spec port t =
 
 same_facts : (f : Finding) (o : Option Finding) (hub : HubFacts) → IsSomeAnd o (IsFoundLike f)
     → hub_facts_in (Some f) ≡ Some hub → hub_facts_in o ≡ Some hub
-same_facts (Device d) (Some (Device e)) hub like at = sym like.hub ∙ at
-same_facts (Refused c) o hub like at = absurd cc
-same_facts _ _ hub like at = absurd like
+same_facts f o hub like at = grind arith
 
 -- a listed hub is listed by the other too
 same_hub : (a b : Entries) (path : List ℕ) (hub : HubFacts)
     → ((f : Finding) → finding_at path a ≡ Some f → IsSomeAnd (finding_at path b) (IsFoundLike f))
     → hub_facts_at path a ≡ Some hub → hub_facts_at path b ≡ Some hub
-same_hub a b path hub like at = pick (finding_at path a) refl at
-  where
-    pick : (o : Option Finding) → finding_at path a ≡ o → hub_facts_in o ≡ Some hub
-        → hub_facts_at path b ≡ Some hub
-    pick None e at = absurd cc
-    pick (Some f) e at = same_facts f (finding_at path b) hub (like f e) at
+same_hub a b path hub like at = grind (arith, same_facts)
 
 is_some_and-moved : (o u : Option HubFacts) (P : HubFacts → Type 0)
     → ((hub : HubFacts) → o ≡ Some hub → u ≡ Some hub) → IsSomeAnd o P → IsSomeAnd u P
-is_some_and-moved None u P on h = absurd h
-is_some_and-moved (Some hub) u P on h = rw (on hub refl) h
+is_some_and-moved o u P on h = grind arith
 
 -- what is listed alike at shorter paths has the same ports
 port_moved : (roots : ℕ) (a b : Entries) (path : List ℕ)
@@ -138,9 +116,7 @@ module _ (options : HostOptions) (roots : ℕ) (tree : SpecTree) (a b : Entries)
   listed_alike : (k : ℕ) (path : List ℕ) → length path < k → (f : Finding)
       → finding_at path a ≡ Some f → IsSomeAnd (finding_at path b) (IsFoundLike f)
   listed_alike zero path l f at = absurd (omega (arith, l))
-  listed_alike (suc k) path l f at =
-      same_here path f at
-      (port_moved roots a b path (λ p q. listed_alike k p (omega (arith, l, q))))
+  listed_alike (suc k) path l f at = grind (arith, listed_alike k, port_moved, same_here)
 
 pub one_listing : (options : HostOptions) (roots : ℕ) (tree : SpecTree) (a b : Entries)
     → Lists options roots tree a → Lists options roots tree b → NoneWaits a → NoneWaits b
@@ -193,14 +169,7 @@ example_entries = (1 ∷ [], Device listed_hub) ∷ (1 ∷ 2 ∷ [], Refused Sil
 by_path : (P : List ℕ → Type 0) → P (1 ∷ []) → P (1 ∷ 2 ∷ [])
     → ((path : List ℕ) → is_at (path_cmp path) (1 ∷ []) ≡ false → is_at (path_cmp path) (1 ∷ 2 ∷ [])
     ≡ false → P path) → (path : List ℕ) → P path
-by_path P first second none path = pick (is_at (path_cmp path) (1 ∷ []))
-    (is_at (path_cmp path) (1 ∷ 2 ∷ [])) refl refl
-  where
-    pick : (a b : Bool) → is_at (path_cmp path) (1 ∷ []) ≡ a → is_at (path_cmp path) (1 ∷ 2 ∷ [])
-        ≡ b → P path
-    pick true b x y = subst P (sym (path_tied path (1 ∷ []) x)) first
-    pick false true x y = subst P (sym (path_tied path (1 ∷ 2 ∷ []) y)) second
-    pick false false x y = none path x y
+by_path P first second none path = grind (arith, path_tied)
 
 abbrev IsFoundAt : List ℕ → Type 0
 IsFoundAt path = (spec : Spec) → tree path ≡ Some spec → IsSomeAnd (finding_at path example_entries)
@@ -209,27 +178,15 @@ IsFoundAt path = (spec : Spec) → tree path ≡ Some spec → IsSomeAnd (findin
 
 found_first : IsFoundAt (1 ∷ [])
 unfolding parent_of supply_of
-found_first spec at =
-    let same : two_ports ≡ spec = cc at in
-    subst (λ s. IsRight (ListsEach example_entries) s (usual_options false) 2 500
-    (Device listed_hub)) same
-    (inl (
-      examples.hub,
-      record { low = refl; bytes = refl; configs = refl; strings = refl; hub = refl },
-    ))
+found_first = grind (arith, examples, two_ports)
 
 found_second : IsFoundAt (1 ∷ 2 ∷ [])
 unfolding parent_of supply_of
-found_second spec at =
-    let same : silent_function ≡ spec = cc at in
-    subst (λ s. IsRight (ListsEach example_entries) s (usual_options false) 3 500
-    (Refused Silent)) same
-    (inl (row_silent silent_function (usual_options false) 3 500 refl))
+found_second = grind (arith, row_silent)
 
 example_elsewhere : (path : List ℕ) → is_at (path_cmp path) (1 ∷ []) ≡ false
     → is_at (path_cmp path) (1 ∷ 2 ∷ []) ≡ false → IsFoundAt path
-example_elsewhere path x y spec at = let none : tree path ≡ None = rw (x, y) refl in
-    absurd (cc (none, at))
+example_elsewhere path x y = grind arith
 
 abbrev IsAlone : List ℕ → Type 0
 IsAlone path = (finding : Finding) → finding_at path example_entries ≡ Some finding
@@ -237,32 +194,29 @@ IsAlone path = (finding : Finding) → finding_at path example_entries ≡ Some 
 
 alone_first : IsAlone (1 ∷ [])
 unfolding parent_of port_on_hub
-alone_first finding at = (record { some = omega arith; port = (omega arith, omega arith) }, refl)
+alone_first = grind arith
 
 alone_second : IsAlone (1 ∷ 2 ∷ [])
 unfolding parent_of port_on_hub
-alone_second finding at = (record { some = omega arith; port = (omega arith, omega arith) }, refl)
+alone_second = grind arith
 
 alone_none : (path : List ℕ) → is_at (path_cmp path) (1 ∷ []) ≡ false
     → is_at (path_cmp path) (1 ∷ 2 ∷ []) ≡ false → IsAlone path
-alone_none path x y finding at = let none : finding_at path example_entries ≡ None =
-    rw (x, y) refl in absurd (cc (none, at))
+alone_none path x y = grind arith
 
 abbrev HasExamplePath : List ℕ → Type 0
 HasExamplePath path = (address : ℕ) → entry_address path example_entries ≡ Some address
     → (path ≡ 1 ∷ []) × IsAddress address
 
 address_first : HasExamplePath (1 ∷ [])
-address_first address at = let same : 1 ≡ address = cc at in
-    (refl, subst IsAddress same (omega arith, omega arith))
+address_first = grind arith
 
 address_second : HasExamplePath (1 ∷ 2 ∷ [])
 address_second address at = absurd (cc at)
 
 address_none : (path : List ℕ) → is_at (path_cmp path) (1 ∷ []) ≡ false
     → is_at (path_cmp path) (1 ∷ 2 ∷ []) ≡ false → HasExamplePath path
-address_none path x y address at = let none : entry_address path example_entries ≡ None =
-    rw (x, y) refl in absurd (cc (none, at))
+address_none path x y = grind arith
 
 rising : Rises example_entries
 unfolding IsStrictlySortedBy

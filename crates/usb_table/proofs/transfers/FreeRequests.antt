@@ -1,22 +1,21 @@
 -- Requests and calls that leave endpoints as they were.
-use Rattle.std.proofs.Common.{◌≡◌, ◌⊎◌, inl, inr, refl, ◌∙◌, ap, ℕ, ◌/◌, ◌==◌, ◌≤◌, nat_lt, Bool}
-use Rattle.std.proofs.Common.{true, not, sym, false, arith, ◌&&◌, ◌||◌, if◌then◌else◌, List, Option}
-use Rattle.std.proofs.Common.{None, Some, subst, eq-eqb, get_or}
+use Rattle.std.proofs.Common.{◌≡◌, ◌⊎◌, inl, inr, refl, ◌∙◌, ap, ℕ, ◌==◌, ◌≤◌, nat_lt, Bool, true}
+use Rattle.std.proofs.Common.{sym, false, arith, ◌&&◌, if◌then◌else◌, List, Option, None, Some}
+use Rattle.std.proofs.Common.{subst, eq-eqb, get_or}
 use Rattle.std.proofs.lemmas.Bool.{lt-ltb}
 use Rattle.std.proofs.lemmas.Bool.Decides.{nat_tests}
 use Rattle.usb_tree.proofs.Interface.{neither}
 use Rattle.usb_request.specs.{CLEAR_FEATURE, SET_FEATURE, SET_ADDRESS, SET_CONFIGURATION}
 use Rattle.usb_request.specs.{DEVICE_OUT, ENDPOINT_OUT, PORT_OUT, ENDPOINT_HALT, DEVICE_IN, HUB_IN}
-use Rattle.usb_request.specs.{PORT_IN, GET_DESCRIPTOR, GET_STATUS, GET_CONFIGURATION, CONFIGURATION}
-use Rattle.usb_request.specs.{DEVICE, STRING, HUB, IsToDevice, IsToHost, Setup, changes_kept}
-use Rattle.usb_request.specs.{descriptor_value, ENDPOINT_IN, GET_INTERFACE, INTERFACE_IN}
-use Rattle.usb_request.specs.{DIRECTION_IN, INTERFACE_OUT, SET_INTERFACE, is_coded, is_reserved}
+use Rattle.usb_request.specs.{PORT_IN, GET_DESCRIPTOR, GET_STATUS, GET_CONFIGURATION, IsToDevice}
+use Rattle.usb_request.specs.{IsToHost, Setup, ENDPOINT_IN, GET_INTERFACE, INTERFACE_IN}
+use Rattle.usb_request.specs.{INTERFACE_OUT, SET_INTERFACE, is_reserved}
 use Rattle.usb_device.specs.{Is, Outcome, Registers, Spec, stalled, halts, unhalts, tells_port}
 use Rattle.usb_device.specs.{outcome, on_endpoint, endpoint_of, ServedEndpoint, told_port}
 use Rattle.usb_device.specs.{asked_descriptor, asked_hub_descriptor, answers_taken, takes}
-use Rattle.usb_device.specs.{tells_halt, told_halt, asked_endpoint_status, is_endpoint_0, items_at}
-use Rattle.usb_device.specs.{BulkIn, BulkOut, in_end, InEnd, no_in, no_out, NothingMoved, out_end}
-use Rattle.usb_device.specs.{OutEnd, State, with_at, OnlyChanges, OnlyStage, Location}
+use Rattle.usb_device.specs.{tells_halt, told_halt, asked_endpoint_status, items_at, BulkIn}
+use Rattle.usb_device.specs.{BulkOut, in_end, InEnd, no_in, no_out, NothingMoved, out_end, OutEnd}
+use Rattle.usb_device.specs.{State, with_at, OnlyChanges, OnlyStage, Location}
 use Rattle.usb_device.specs.Request.{answers}
 use Rattle.usb_descriptor.specs.{has_interface}
 use Rattle.usb_device.proofs.Interface.{asked_own-any, at_each}
@@ -42,54 +41,23 @@ pub record IsFree (to_hub : Bool) (r : Setup) : Type 0 where
   pub sets_port : Is r PORT_OUT SET_FEATURE ≡ false
 
 pub read_is_free : (to_hub : Bool) (r : Setup) → IsToHost r → IsFree to_hub r
-read_is_free to_hub r host = record {
-  reads = inl host;
-  address = request_type-other r.request_type DEVICE_OUT (r.request == SET_ADDRESS) host refl;
-  configuration = request_type-other r.request_type DEVICE_OUT
-      (r.request == SET_CONFIGURATION) host refl;
-  interface = request_type-other r.request_type INTERFACE_OUT (r.request == SET_INTERFACE) host
-      refl;
-  halt = ap (λ b. b && r.value == ENDPOINT_HALT) (request_type-other r.request_type ENDPOINT_OUT
-      (r.request == CLEAR_FEATURE) host refl);
-  clears_port = request_type-other r.request_type PORT_OUT (r.request == CLEAR_FEATURE) host refl;
-  sets_port = request_type-other r.request_type PORT_OUT (r.request == SET_FEATURE) host refl;
-}
+read_is_free to_hub r host = grind (arith, request_type-other)
 
 other_half : (a b : Bool) → a ≡ true → (a && b) ≡ false → b ≡ false
-other_half true b on none = none
-other_half false b on none = absurd (cc on)
+other_half a b on none = grind arith
 
 -- what the host alone may not send
 pub unreserved_is_free : (to_hub : Bool) (r : Setup) → IsToDevice r → is_reserved to_hub r ≡ false
     → IsFree to_hub r
 unfolding is_reserved
-unreserved_is_free to_hub r writes none =
-    let kept = other_half (nat_lt r.request_type DIRECTION_IN) (to_hub || changes_kept r)
-    (lt-ltb r.request_type DIRECTION_IN writes) none in
-    let both = neither to_hub (changes_kept r) kept in
-    let sets = neither _ (is_coded PORT_OUT SET_FEATURE r) both.1 in
-    let clears = neither _ (is_coded PORT_OUT CLEAR_FEATURE r) sets.0 in
-    let halt = neither _ (is_coded ENDPOINT_OUT CLEAR_FEATURE r && r.value == ENDPOINT_HALT)
-    clears.0 in
-    let interface = neither _ (is_coded INTERFACE_OUT SET_INTERFACE r) halt.0 in
-    let address = neither (is_coded DEVICE_OUT SET_ADDRESS r)
-    (is_coded DEVICE_OUT SET_CONFIGURATION r) interface.0 in
-    record {
-      reads = inr both.0;
-      address = address.0;
-      configuration = address.1;
-      interface = interface.1;
-      halt = halt.1;
-      clears_port = clears.1;
-      sets_port = sets.1;
-    }
+unreserved_is_free to_hub r writes none = grind (arith, lt-ltb, neither, other_half)
 
 module _ {to_hub : Bool} (r : Setup) (free : IsFree to_hub r) where
   pub free_is_harmless : is_harmless r ≡ true
   free_is_harmless = rw free.sets_port refl
 
   pub free_asks_no_port : asks_no_port r ≡ true
-  free_asks_no_port = rw (free.sets_port, free.clears_port, free.configuration) refl
+  free_asks_no_port = grind arith
 
 -- What it asks
 
@@ -127,19 +95,10 @@ module _ (to_hub : Bool) where
   text_fine (Some text) = tt
 
   descriptor_fine : (s : Spec) (value : ℕ) → Fine (asked_descriptor s value)
-  descriptor_fine s value =
-      either_fine (value == descriptor_value DEVICE 0) _ _
-      (either_fine s.stalls.device _ _ tt tt)
-      (either_fine (value / 256 == CONFIGURATION) _ _
-      (either_fine s.stalls.config _ _ tt (text_fine _))
-      (either_fine (value / 256 == STRING) _ _
-      (either_fine s.stalls.string _ _ tt (text_fine _)) tt))
+  descriptor_fine s value = grind (arith, either_fine, text_fine)
 
   hub_fine : (s : Spec) (r : Setup) → Fine (asked_hub_descriptor s.hub r)
-  hub_fine s r = elim s.hub as (λ o. Fine (asked_hub_descriptor o r)) [
-    | None ↦ tt
-    | Some hub ↦ either_fine (r.value == descriptor_value HUB 0) _ _ tt tt
-  ]
+  hub_fine s r = grind (arith, either_fine)
 
   port_fine : (i : Option ℕ) → Fine (told_port i)
   port_fine None = tt
@@ -150,8 +109,7 @@ module _ (to_hub : Bool) where
   told_fine (Some which) = tt
 
   endpoint_fine : (s : Spec) (g : Registers) (r : Setup) → Fine (asked_endpoint_status s g r)
-  endpoint_fine s g r = either_fine (not (r.value == 0)) _ _ tt
-      (either_fine (is_endpoint_0 r.index) _ _ tt (told_fine _))
+  endpoint_fine s g r = grind (arith, either_fine, told_fine)
 
   halt_fine : (which : Option ServedEndpoint) → to_hub ≡ false → Fine (on_endpoint halts which)
   halt_fine None e = tt
@@ -198,22 +156,10 @@ module _ (to_hub : Bool) where
 -- A clear of the halt of one endpoint moves no byte, and leaves all others.
 
 pub same_rows-moved : (s v : State) → v.outs ≡ s.outs → v.ins ≡ s.ins → NothingMoved s v
-same_rows-moved s v outs ins = record {
-  taken = λ e. (
-    ap (λ row. (get_or row e no_out).sink) outs,
-    ap (λ row. (get_or row e no_out).pace.until_halt) outs,
-  );
-  given = λ e. (
-    ap (λ row. (get_or row e no_in).place) ins,
-    ap (λ row. (get_or row e no_in).pace.until_halt) ins,
-  );
-}
+same_rows-moved s v outs ins = grind arith
 
 pub moved_then : (s u v : State) → NothingMoved s u → NothingMoved u v → NothingMoved s v
-moved_then s u v x y = record {
-  taken = λ e. ((y.taken e).0 ∙ (x.taken e).0, (y.taken e).1 ∙ (x.taken e).1);
-  given = λ e. ((y.given e).0 ∙ (x.given e).0, (y.given e).1 ∙ (x.given e).1);
-}
+moved_then s u v x y = grind arith
 
 -- one endpoint halts or begins again
 pub out_moved : (s v : State) (e : ℕ) (end : OutEnd) → end.sink ≡ (out_end s e).sink
@@ -245,12 +191,7 @@ pub record OutCleared (e : ℕ) (s v : State) : Type 0 where
   pub others : (a : ℕ) → (a == e) ≡ false → out_end v a ≡ out_end s a
 
 pub out_cleared : (e : ℕ) (s v : State) → OnlyEndpoint (BulkOut e) s v → OutCleared e s v
-out_cleared e s v only = record {
-  moved = only.moved;
-  ins = λ a. only.ins a (λ same. cc same);
-  others = λ a apart. only.outs a (λ same. let at : a ≡ e = cc same in
-      cc (eq-eqb a e at, apart));
-}
+out_cleared e s v only = grind (arith, eq-eqb)
 
 -- and one through an IN pipe
 pub record InCleared (e : ℕ) (s v : State) : Type 0 where
@@ -259,52 +200,23 @@ pub record InCleared (e : ℕ) (s v : State) : Type 0 where
   pub others : (a : ℕ) → (a == e) ≡ false → in_end v a ≡ in_end s a
 
 pub in_cleared : (e : ℕ) (s v : State) → OnlyEndpoint (BulkIn e) s v → InCleared e s v
-in_cleared e s v only = record {
-  moved = only.moved;
-  outs = λ a. only.outs a (λ same. cc same);
-  others = λ a apart. only.ins a (λ same. let at : a ≡ e = cc same in
-      cc (eq-eqb a e at, apart));
-}
+in_cleared e s v only = grind (arith, eq-eqb)
 
 -- What leaves the bulk endpoints of devices as they were.
 
 -- a device that stays as it was
 pub spares-same : (j : Location) (s v : State) → v ≡ s → SparesBulk j s v
-spares-same j s v e = e ∙ ap (λ (u : State). record s {
-  memory = u.memory;
-  naks = u.naks;
-  stage = u.stage;
-  changes = u.changes;
-  held = u.held;
-}) (sym e)
+spares-same j s v e = grind arith
 
 -- one of which only the status endpoint moved
 pub spares-changes : (j : Location) (s v : State) → OnlyChanges s v → SparesBulk j s v
-spares-changes j s v e = e ∙ ap (λ (u : State). record s {
-  memory = v.memory;
-  naks = u.naks;
-  stage = u.stage;
-  changes = v.changes;
-  held = v.held;
-}) (sym e)
+spares-changes j s v e = grind arith
 
 -- one of which only the control transfer moved
 pub spares-stage : (j : Location) (s v : State) → OnlyStage s v → SparesBulk j s v
-spares-stage j s v e = e ∙ ap (λ (u : State). record s {
-  memory = v.memory;
-  naks = v.naks;
-  stage = v.stage;
-  changes = u.changes;
-  held = u.held;
-}) (sym e)
+spares-stage j s v e = grind arith
 
 -- one thing after the other
 pub spares-then : (j : Location) (s u v : State) → SparesBulk j s u → SparesBulk j u v
     → SparesBulk j s v
-spares-then j s u v d e = e ∙ ap (λ (t : State). record t {
-  memory = v.memory;
-  naks = v.naks;
-  stage = v.stage;
-  changes = v.changes;
-  held = v.held;
-}) d
+spares-then j s u v d e = grind arith

@@ -1,8 +1,8 @@
 -- A transfer through the pipes to the device at a path: no other device is changed, and its bytes
 -- are given or taken there.
-use Rattle.std.proofs.Common.{◌≡◌, ◌≢◌, ◌∙◌, refl, sym, ap, true, false, ℕ, ◌==◌, eq-eqb, List}
-use Rattle.std.proofs.Common.{Option, None, Some, Result, Ok, Err, is_ok, Bool, is_some, append-nil}
-use Rattle.std.proofs.Common.{[]}
+use Rattle.std.proofs.Common.{arith, ◌≡◌, ◌≢◌, ◌∙◌, refl, sym, ap, true, false, ℕ, ◌==◌, eq-eqb}
+use Rattle.std.proofs.Common.{List, Option, None, Some, Result, Ok, Err, is_ok, Bool, is_some}
+use Rattle.std.proofs.Common.{append-nil, []}
 use Rattle.std.proofs.lemmas.Bool.{false_from_ne_true}
 use Rattle.usb_device.specs.{State, reach, Location, path_to, state_there}
 use Rattle.usb_world.specs.{BusFault, Relation, Was, EachWas, World}
@@ -18,7 +18,7 @@ use Rattle.usb_table.specs.{PipesInSyncIf, IsHeld, InSyncAt, is_below_hub, ArePi
 use Rattle.usb_table.specs.{ArePipesAt, pipes_at, table_answer, Function, FunctionInSync}
 use Rattle.usb_table.specs.{FunctionPipes, PipeDid, PipesThrough, Transfer, TransferFault}
 use Rattle.usb_table.specs.{TransfersAt, with_pipe, TookBytes, Delivered, EndpointChoice}
-use Rattle.usb_table.specs.{OnlySinkOf, PipesSent, SentThrough, sends_through, sink_of, sends_miss}
+use Rattle.usb_table.specs.{OnlySinkOf, PipesSent, SentThrough, sends_through, sends_miss}
 use Rattle.usb_table.specs.{GaveBytes, GaveBy, Collected, bytes_in, FitsIn, PipesReceived}
 use Rattle.usb_table.specs.{ReceivedThrough, receives_through, receives_miss, GaveReport}
 use Rattle.usb_table.specs.{ReportedBy, Reported, PipesReported, ReportedThrough, polls_through}
@@ -47,12 +47,11 @@ module _ (path : List ℕ) (table : Table) (w : World) (level : InSyncAt path ta
   levels_by : (found : Option Accepted) → accepted_device_at path table.entries ≡ found
       → ArePipesIf found (is_below_hub path) (pipes_at path table)
       → PathReaches path w (PipesInSyncIf found (pipes_at path table))
-  levels_by None e none s on there = tt
-  levels_by (Some device) e are s on there = level.level device s e on there
+  levels_by found e none = grind arith
 
   pub levels_there : ArePipesAt path table → PathReaches path w
       (PipesInSyncIf (accepted_device_at path table.entries) (pipes_at path table))
-  levels_there = levels_by (accepted_device_at path table.entries) refl
+  levels_there = grind (arith, levels_by)
 
 pub reaches_synced : (path : List ℕ) (w : World) (device : Accepted) (found : Option Accepted)
     → found ≡ Some device → (pipes : Pipes) → PathReaches path w (PipesInSyncIf found pipes)
@@ -129,21 +128,18 @@ module _ (path : List ℕ) (table : Table) (old : World) (held : IsHeld table ol
     -- who answered is reached there
     pub answers_there : (t : Target) (new : World) → t.addr ≡ a → Answerer t old new
         → reach new.roots path ≡ true
-    answers_there t new e x = ap (reach new.roots)
-        (stands_there path table old held device found a is x.spot x.before x.was_on x.stood
-        (ap (λ n. address_of x.before == n) (sym e) ∙ x.at)) ∙ x.on
+    answers_there t new e x = grind (arith, stands_there)
 
 -- a pipe's answer is the table's
 pub done_through : {A : Type 0} (answer : Result A PipeFault) (result : Result A TableFault)
     → result ≡ table_answer answer → is_ok answer ≡ is_ok result
-done_through (Ok x) result e = sym (ap is_ok e)
-done_through (Err why) result e = sym (ap is_ok e)
+done_through answer result e = grind arith
 
 -- and is no fault of the bus where the table's is none
 pub not_bus : {A : Type 0} (answer : Result A PipeFault) (result : Result A TableFault)
     → result ≡ table_answer answer → ((why : BusFault)
     → result ≢ Err (table_fault.Bus why)) → (why : BusFault) → answer ≢ Err (pipe_fault.Bus why)
-not_bus answer result told other why e = other why (told ∙ ap table_answer e)
+not_bus answer result told other why e = grind arith
 
 -- What a transfer leaves of the device at the path, and of the pipes to it
 
@@ -162,15 +158,7 @@ module _ (path : List ℕ) (old : Table) (before after : World) where
       → result ≡ Err (Transfer fault) → after ≡ before → (asked : Type 0)
       (So : State → State → Type 0) → PathReaches path before (λ s. So s s)
       → MovesThere (is_ok result) asked So
-  none_there result fault e same asked So so =
-      let failed : is_ok result ≡ false = ap is_ok e in
-      record {
-        each = record {
-          each = none_changes path So before after same so;
-          known = λ done. absurd (cc (failed, done));
-        };
-        there = λ done some. absurd (cc (failed, done));
-      }
+  none_there result fault e same asked So so = grind (arith, none_changes)
 
   -- it was tried, with this answer
   pub moved_there : {A : Type 0} (answer : Result A PipeFault) (done : Bool)
@@ -219,29 +207,17 @@ module _ (path : List ℕ) (old : Table) (before after : World) where
 -- Bytes that are sent through the pipes at a path are taken by the device there.
 
 only_none : (pipe : Option PipeState) (s : State) → OnlySinkOf pipe s s
-only_none None s = refl
-only_none (Some pipe) s = record { rest = refl; others = λ a apart. refl }
+only_none pipe s = grind arith
 
 none_taken : (bytes : List ℕ) (pipe : Option PipeState) (s : State)
     → TookBytes pipe false bytes s s
-none_taken bytes pipe s = record {
-  joins = record {
-    front = [];
-    rest = bytes;
-    split = refl;
-    sink = sym (append-nil (sink_of pipe s));
-  };
-  rest = only_none pipe s;
-}
+none_taken bytes pipe s = grind (arith, append-nil, only_none)
 
 taken : (bytes : List ℕ) (pipe : PipeState) (answer : Result (Unit {0}) PipeFault)
     (left : PipeState) (j : Location) (s v : State) → SendLeaves bytes pipe answer left j s v
     → OutPipeInSync pipe s → (address_of s == pipe.target.addr) ≡ true
     → TookBytes (Some pipe) (is_ok answer) bytes s v
-taken bytes pipe (Ok u) left j s v x fit at =
-    record { joins = x.done at fit u refl; rest = x.frame fit.endpoint }
-taken bytes pipe (Err why) left j s v x fit at =
-    record { joins = x.failed at fit why refl; rest = x.frame fit.endpoint }
+taken bytes pipe answer left j s v x fit at = grind arith
 
 module _ (path bytes : List ℕ) (old new : Table) (before after : World) where
   -- they were sent through a pipe, if there is one
@@ -252,9 +228,7 @@ module _ (path bytes : List ℕ) (old new : Table) (before after : World) where
   who_takes : (pipe : PipeState) (answer : Result (Unit {0}) PipeFault) (left : PipeState)
       → Sends bytes pipe before answer left after → after.shared ≡ false → is_ok answer ≡ true
       → bytes ≢ [] → Answerer pipe.target before after
-  who_takes pipe (Ok u) left x single done some =
-      who_sends bytes pipe u left before after some x single
-  who_takes pipe (Err why) left x single done some = absurd (cc done)
+  who_takes pipe answer left x single done some = grind (arith, who_sends)
 
   pub sent_delivers : (choice : EndpointChoice) (result : Result (Unit {0}) TableFault)
       → IsHeld old before → InSyncAt path old before → after.shared ≡ false → ArePipesAt path old
@@ -285,20 +259,13 @@ module _ (path bytes : List ℕ) (old new : Table) (before after : World) where
 
 bytes_through : (answer : Result (Vec ℕ) PipeFault) (result : Result (Vec ℕ) TableFault)
     → result ≡ table_answer answer → bytes_in answer ≡ bytes_in result
-bytes_through (Ok x) result e = sym (ap bytes_in e)
-bytes_through (Err why) result e = sym (ap bytes_in e)
+bytes_through answer result e = grind arith
 
 given : (pipe : PipeState) (answer : Result (Vec ℕ) PipeFault) (left : PipeState)
     → pipe_known answer left ≡ left → (j : Location) (s v : State)
     → ReceiveLeaves pipe answer left j s v → FitsIn (Some pipe) s
     → (address_of s == pipe.target.addr) ≡ true → GaveBytes (bytes_in answer) pipe left s v
-given pipe (Ok bytes) left known j s v x fit at =
-    record { had = fit; next = x.gave at; rest = x.frame fit.1.endpoint }
-given pipe (Err why) left known j s v x fit at = record {
-  had = fit;
-  next = λ got f. rw known at (x.gave at got f);
-  rest = x.frame fit.1.endpoint;
-}
+given pipe answer left known j s v x fit at = grind arith
 
 module _ (path : List ℕ) (packets : ℕ) (old new : Table) (before after : World) where
   -- so many packets were asked for through a pipe, if there is one
@@ -309,9 +276,7 @@ module _ (path : List ℕ) (packets : ℕ) (old new : Table) (before after : Wor
   who_gives : (pipe : PipeState) (answer : Result (Vec ℕ) PipeFault) (left : PipeState)
       → Receives packets pipe before answer left after → after.shared ≡ false
       → is_ok answer ≡ true → packets ≢ 0 → Answerer pipe.target before after
-  who_gives pipe (Ok bytes) left x single done some =
-      who_receives packets pipe bytes left before after some x single
-  who_gives pipe (Err why) left x single done some = absurd (cc done)
+  who_gives pipe answer left x single done some = grind (arith, who_receives)
 
   pub received_collects : (choice : EndpointChoice) (result : Result (Vec ℕ) TableFault)
       → ((why : BusFault) → result ≢ Err (table_fault.Bus why)) → IsHeld old before
@@ -352,14 +317,11 @@ Told = Result (Option (ArrayVec ℕ)) TableFault
 -- a pipe's answer tells the packet that the table's does
 packets_through : (answer : Answer) (result : Told) → result ≡ table_answer answer
     → report_in answer ≡ report_in result
-packets_through (Ok None) result e = sym (ap report_in e)
-packets_through (Ok (Some packet)) result e = sym (ap report_in e)
-packets_through (Err why) result e = sym (ap report_in e)
+packets_through answer result e = grind arith
 
 none_through : (answer : Answer) (result : Told) → result ≡ table_answer answer
     → result ≡ Ok None → answer ≡ Ok None
-none_through (Ok got) result e none = let same : got ≡ None = cc (sym e ∙ none) in ap Ok same
-none_through (Err why) result e none = absurd (cc (sym e ∙ none))
+none_through answer result e none = grind arith
 
 gave_report : (pipe : PipeState) (answer : Answer) (result : Told) → result ≡ table_answer answer
     → (left : PipeState) → pipe_known answer left ≡ left → (j : Location) (s v : State)
@@ -382,8 +344,7 @@ module _ (path : List ℕ) (old new : Table) (before after : World) where
   who_tells : (pipe : PipeState) (answer : Answer) (left : PipeState)
       → PipePolls pipe before answer left after → after.shared ≡ false → is_ok answer ≡ true
       → Answerer pipe.target before after
-  who_tells pipe (Ok got) left x single done = who_packets pipe got left before after x single
-  who_tells pipe (Err why) left x single done = absurd (cc done)
+  who_tells pipe answer left x single done = grind (arith, who_packets)
 
   pub polled_tells : (endpoint : ℕ) (result : Told)
       → ((why : BusFault) → result ≢ Err (table_fault.Bus why)) → IsHeld old before

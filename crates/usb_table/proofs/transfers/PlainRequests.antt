@@ -1,8 +1,8 @@
 -- Control transfers of a driver's own are plain: they change no description, no register and no
 -- toggle.
 use Rattle.std.proofs.Common.{◌≡◌, ◌∙◌, refl, ap, arith, true, false, ℕ, ◌==◌, List, None, Option}
-use Rattle.std.proofs.Common.{Some, Result, Ok, Err, is_ok, Bool, subst, is_some, OnOk, ◌≢◌, get_or}
-use Rattle.std.proofs.Common.{length, ◌+◌, sym}
+use Rattle.std.proofs.Common.{Some, Result, Ok, Err, is_ok, Bool, subst, is_some, OnOk, ◌≢◌, length}
+use Rattle.std.proofs.Common.{◌+◌, sym}
 use Rattle.usb_request.specs.{Setup, IsToHost, IsToDevice, is_reserved}
 use Rattle.usb_device.specs.{Location, Registers, State, accepted, begun, BulkIn, BulkOut, Changes}
 use Rattle.usb_device.specs.{ending, first_stage, OnlyControl, OnlyStage, Outcome, outcome, Stage}
@@ -71,12 +71,7 @@ asked_of below_hub (Some device) t e = record { device = device; is = refl; targ
 -- nothing of the table changes
 goes_nowhere : (path : List ℕ) (table : Table) → ArePipesAt path table
     → GoesThrough path table table
-goes_nowhere path table fits = record {
-  fits = fits;
-  entries = refl;
-  others = λ other apart. refl;
-  said = refl;
-}
+goes_nowhere path table fits = grind arith
 
 -- such a transfer, by what it leaves of each device
 pub record IsPlain {A : Type 0} (path : List ℕ) (table : Table) (t : Target)
@@ -147,13 +142,8 @@ module _ {A : Type 0} (Leaves : TransferLeaves A) (path : List ℕ) (request : S
       → StepRun (control_most request.length) old text new now → Is t old answer new
       → result ≡ table_answer answer
       → ControlledAt Is Leaves path target request table old text result new now
-  made_controls Is result went is e = record {
-    went = went;
-    told = told_through old answer result new e
-        (record { worlds = plain_worlds; told = x.told });
-    did = rw asks (plain_made Is result is e);
-    keeps = plain_keeps;
-  }
+  made_controls Is result went is e =
+      grind (arith, plain_keeps, plain_made, plain_worlds, told_through)
 
 -- it was not
 pub refused_controls : {A : Type 0} (Is : TransferIs A) (Leaves : TransferLeaves A) (path : List ℕ)
@@ -177,10 +167,7 @@ refused_controls Is Leaves path target request table fits {old} {result = result
 pub bus_told : {A : Type 0} (k : ℕ) (answer : Result A PipeFault) (old new : World)
     → EndsAfter k old answer new → (fault : BusFault) → answer ≡ Err (pipe_fault.Bus fault)
     → HasFault fault new
-bus_told k (Ok done) old new ends fault e = absurd (cc e)
-bus_told k (Err why) old new ends fault e =
-    let same : why ≡ pipe_fault.Bus fault = cc e in
-    rw same at ends
+bus_told k answer old new ends fault e = grind arith
 
 -- Reads
 
@@ -220,12 +207,7 @@ pub record KeepsEnds (s v : State) : Type 0 where
 -- no endpoint but endpoint 0 and a hub's endpoint 1 changed
 pub same_rows-kept : (s v : State) → SameSettings root s v → v.outs ≡ s.outs → v.ins ≡ s.ins
     → KeepsEnds s v
-same_rows-kept s v same outs ins = record {
-  settings = same;
-  moved = same_rows-moved s v outs ins;
-  out = λ e. same_halts _ _ (ap (λ row. (get_or row e no_out).state) outs);
-  into = λ e. same_halts _ _ (ap (λ row. (get_or row e no_in).state) ins);
-}
+same_rows-kept s v same outs ins = grind (arith, same_halts, same_rows-moved)
 
 module _ (s : State) (row : List PortState) (n : ℕ) where
   ends_kept : (stage : Stage) → KeepsEnds s (record s { naks = s.spec.naks; stage = stage })
@@ -258,35 +240,17 @@ module _ (s : State) (row : List PortState) (n : ℕ) where
 
   -- a device that begins what is allowed of a hub too changes only its control transfer
   pub began_stage : (o : Outcome) → IsAllowed true o → OnlyStage s (begun s row n o)
-  began_stage stalled fine = refl
-  began_stage (answers bytes) fine = refl
-  began_stage (tells_port i) fine = refl
-  began_stage answers_taken fine = refl
-  began_stage (takes kept) fine = refl
-  began_stage (tells_halt endpoint) fine = refl
-  began_stage (halts which) fine = absurd (cc fine)
-  began_stage _ fine = absurd fine
+  began_stage o fine = grind (arith, fine)
 
   allowed_address : (to_hub : Bool) (o : Outcome) (address : Option ℕ) → IsAllowed to_hub o
       → first_stage row s n o ≡ ending address → address ≡ None
-  allowed_address to_hub o None fine e = refl
-  allowed_address to_hub o (Some a) fine e =
-      absurd (subst (IsAllowed to_hub) (first_stage-address row s n o a e) fine)
+  allowed_address to_hub o address fine e = grind (arith, fine, first_stage-address)
 
 -- behind it, where nothing but its own transfer moved
 
 ends_on : (s u v : State) → KeepsEnds s u → OnlyControl u v → v.registers ≡ u.registers
     → KeepsEnds s v
-ends_on s u v x frame same =
-    let outs : v.outs ≡ u.outs = ap (λ (d : State). d.outs) frame in
-    let ins : v.ins ≡ u.ins = ap (λ (d : State). d.ins) frame in
-    let y = same_rows-kept u v (ap (λ (d : State). d.spec) frame, same) outs ins in
-    record {
-      settings = (y.settings.0 ∙ x.settings.0, y.settings.1 ∙ x.settings.1);
-      moved = moved_then s u v x.moved y.moved;
-      out = λ e. ((y.out e).0 ∙ (x.out e).0, λ h. (y.out e).1 ((x.out e).1 h));
-      into = λ e. ((y.into e).0 ∙ (x.into e).0, λ h. (y.into e).1 ((x.into e).1 h));
-    }
+ends_on s u v x frame same = grind (arith, moved_then, same_rows-kept)
 
 -- it was asked what is allowed, and accepted it or had no part in it
 module _ {to_hub : Bool} (t : Target) (request : Setup) (free : IsFree to_hub request)
@@ -313,17 +277,14 @@ module _ {to_hub : Bool} (t : Target) (request : Setup) (free : IsFree to_hub re
 -- The pipes to it
 
 out_kept : (out : Option PipeState) (s v : State) → KeepsEnds s v → FitsOut out s → FitsOut out v
-out_kept None s v x f = tt
-out_kept (Some pipe) s v x f = set_sink pipe s v x.settings (x.out pipe.ep) f
+out_kept out s v x f = grind (arith, set_sink)
 
 pub into_kept : (pipe : PipeState) (got : ℕ) (s v : State) → KeepsEnds s v → InPipeInSync pipe got s
     → InPipeInSync pipe got v
-into_kept pipe got s v x =
-    set_source pipe got s v x.settings (x.moved.given pipe.ep).0 (x.into pipe.ep)
+into_kept pipe got s v x h = grind (arith, set_source)
 
 in_kept : (into : Option PipeState) (s v : State) → KeepsEnds s v → FitsIn into s → FitsIn into v
-in_kept None s v x f = tt
-in_kept (Some pipe) s v x (got, f) = (got, into_kept pipe got s v x f)
+in_kept into s v x f = grind (arith, into_kept)
 
 -- What has no data
 
@@ -355,12 +316,7 @@ module _ {A : Type 0} (path : List ℕ) (table : Table) (t : Target) (request : 
   accepted_level of j s v (Absent said) are row frame same f = absurd are
 
   only_stage : (s v : State) → OnlyControl s v → v.registers ≡ s.registers → OnlyStage s v
-  only_stage s v f e = f ∙ ap {A = _} {B = State} (λ g. record s {
-    memory = v.memory;
-    naks = v.naks;
-    stage = v.stage;
-    registers = g;
-  }) e
+  only_stage s v f e = grind arith
 
   none_settings : (j : Location) (s v : State) → Left j s v → SameSettings j s v
   none_settings j s v =
@@ -453,8 +409,7 @@ module _ (path : List ℕ) (table : Table) (t : Target) (request : Setup) (bytes
 -- a pipe's fault as the table tells it
 pub told_error : {A : Type 0} (why : PipeFault) (result : Result A TableFault) → IsErr result
     → IsErrAnd result (λ fault. fault ≡ of_pipe why) → result ≡ table_answer (Err why)
-told_error why (Err fault) err said = ap Err said
-told_error why (Ok done) err said = absurd (cc err)
+told_error why result err said = grind arith
 
 -- the pipes to the device that is asked
 pub asked_pipes : (path : List ℕ) (table : Table) (t : Target)
@@ -501,8 +456,7 @@ pub record IsWritten (below_hub : Bool) (request : Setup) (found : Option Accept
 
 unreserved_of : (b : Bool) (target : Result Target TransferFault) (t : Target)
     → unreserved b target ≡ Ok t → (b ≡ false) × (target ≡ Ok t)
-unreserved_of true target t is = absurd (cc is)
-unreserved_of false target t is = (refl, is)
+unreserved_of b target t is = grind arith
 
 pub written_of : (below_hub : Bool) (request : Setup) (found : Option Accepted) (t : Target)
     → write_asked below_hub request found ≡ Ok t → IsWritten below_hub request found t
@@ -528,7 +482,7 @@ module _ (path : List ℕ) (request : Setup) (bytes : List ℕ) (writes : IsToDe
   written = written_of (is_below_hub path) request (accepted_device_at path table.entries) t asks
 
   free : IsFree (is_some written.asked.device.hub) request
-  free = unreserved_is_free (is_some written.asked.device.hub) request writes written.unreserved
+  free = grind (arith, unreserved_is_free, written)
 
   writes_by : (b : Bool) → WriteIf b request bytes t old answer new
       → ControlledAt (WriteIf b request bytes) (WriteLeftIf b request bytes) path
@@ -559,11 +513,7 @@ pub record StillEnds (s v : State) : Type 0 where
   pub into : (pipe : PipeState) (got : ℕ) → InPipeInSync pipe got s → InPipeInSync pipe got v
 
 still_ends : (s v : State) → KeepsEnds s v → StillEnds s v
-still_ends s v kept = record {
-  sink = λ e. (kept.moved.taken e).0;
-  settings = kept.settings;
-  into = λ pipe got fits. into_kept pipe got s v kept fits;
-}
+still_ends s v kept = grind (arith, into_kept)
 
 module _ (t : Target) (request : Setup) (to_hub : Bool) (free : IsFree to_hub request)
     (bytes : List ℕ) (answer : Result (Unit {0}) PipeFault) (old new : World) (j : Location)
@@ -577,8 +527,7 @@ module _ (t : Target) (request : Setup) (to_hub : Bool) (free : IsFree to_hub re
       still_ends s v (accepted_ends t request free old new j s v row frame kept))
       (λ frame kept.
       rows_still (ap (λ (d : State). d.outs) frame) (ap (λ (d : State). d.ins) frame)) answer left
-  left_still false left =
-      rows_still (ap (λ (d : State). d.outs) left.frame) (ap (λ (d : State). d.ins) left.frame)
+  left_still false left = grind (arith, rows_still)
 
 -- so it is of a device that is asked what the host alone need not send
 pub write_still : (path : List ℕ) (request : Setup) (bytes : List ℕ) → IsToDevice request
@@ -597,17 +546,7 @@ write_still path request bytes writes table t asks answer old new j s v same lef
 -- a device that began so, as long as its registers are as they were
 stage_on : (s u v : State) → OnlyStage s u → OnlyControl u v → v.registers ≡ s.registers
     → OnlyStage s v
-stage_on s u v first frame same = frame ∙ ap (λ (d : State). record d {
-  memory = v.memory;
-  naks = v.naks;
-  stage = v.stage;
-  registers = v.registers;
-}) first ∙ ap (λ g. record s {
-  memory = v.memory;
-  naks = v.naks;
-  stage = v.stage;
-  registers = g;
-}) same
+stage_on s u v first frame same = grind arith
 
 module _ (t : Target) (request : Setup) (host : IsToHost request)
     (answer : Result (Vec ℕ) PipeFault) (old new : World) (j : Location) (s v : State)

@@ -16,7 +16,8 @@ returns-in-Some-clause-some c =
     let is = rw c.number.ensures.value at (sym c.in-Some.ensures.value) in
     rw (← c.self.view_is)
     (has_device _ _ _ c.args.address c.in-Some.key.now c.finding.result.now c.self.invariant.0 is
-    (findings-standing (get c.self.inside.entries) c.in-Some.key.now c.index.result.now c.index.ensures
+    (findings-standing (get c.self.inside.entries) c.in-Some.key.now c.index.result.now
+    c.index.ensures
     ∙ ap Some (sym c.finding.ensures)))
 
 pub returns-in-None-clause-none : goal.returns-in-None-clause-none
