@@ -1,12 +1,15 @@
 -- Runs by hand, and why the laws of requests have their premises.
 use Rattle.std.proofs.Common.{◌≡◌, ℕ, Bool, true, false, List, [], ◌∷◌, None, Some, ◌==◌, refl, ap}
 use Rattle.usb_packet.specs.{OutTok, InTok, SetupTok, Zero, One as Data1}
-use Rattle.usb_port.specs.{Attached, PortState, SetPower, SetReset, full, low, nothing, off, status_of}
+use Rattle.usb_port.specs.{Attached, PortState, SetPower, SetReset, full, low, nothing, off}
+use Rattle.usb_port.specs.{status_of}
 use Rattle.usb_request.specs.{setup_of}
 use Rattle.usb_device.specs.{RememberedPacket, Spec, function, usual_hub, ended, vacant, taken}
 use Rattle.usb_device.specs.{changed_at, reach_at, state_at, place_at, reach, row_of, all_off}
-use Rattle.usb_device.specs.{received, unread, fresh, accepted, reset_state, at_reset, awaits_address}
-use Rattle.usb_device.specs.{outcome, asks, answer_of, effect_of, after_packet, answers, all_forgotten}
+use Rattle.usb_device.specs.{received, unread, fresh, accepted, reset_state, at_reset}
+use Rattle.usb_device.specs.{awaits_address}
+use Rattle.usb_device.specs.{outcome, asks, answer_of, effect_of, after_packet, answers}
+use Rattle.usb_device.specs.{all_forgotten}
 use Rattle.usb_device.specs.{held_addresses, repeats, has_loss, clears_change, change_bits}
 use Rattle.usb_device.specs.declared.answer.Answer.TheVariants as answer
 use Rattle.usb_device.specs.declared.transfer.RememberedPacket.TheVariants as memory
@@ -100,8 +103,8 @@ powered attached enable changed =
       connection_changed = changed;
     }
 
--- A function is plugged, its port powered and reset; it is read, and takes address 1 after the host's
--- first ACK of the status stage was lost, or one of its bits was flipped
+-- A function is plugged, its port powered and reset; it is read, and takes address 1 after the
+-- host's first ACK of the status stage was lost, or one of its bits was flipped
 
 -- the host's ACK of the status stage is damaged
 abbrev start : Harm → World
@@ -112,7 +115,8 @@ start harm =
     }
 
 abbrev plugged : Harm → World
-plugged harm = after (root_call SetReset 1) (after event (after (root_call SetPower 1) (start harm)))
+plugged harm = after (root_call SetReset 1)
+    (after event (after (root_call SetPower 1) (start harm)))
 
 abbrev set_up : Harm → World
 set_up harm = after (attempt (sets_up 0 get_device)) (plugged harm)

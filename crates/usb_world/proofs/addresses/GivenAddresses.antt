@@ -341,8 +341,10 @@ module _ (a : Attempt) (w : World) (h : HolderIn a w) (into : IsIn a) (n : ℕ)
       → reach_at ready_ports i e ≡ true → state_at ready_ports i e ≡ Some t → address_of t ≡ a.addr
       → ends_with_address t.stage ≡ false
   others i e d t on at x =
-      let z : (j ≡ i) × (p ≡ e) = is_twice-one_path ready_ports j p i e a.addr its_holder.single its_holder.on
-      (holder_holds a.addr ready_ports its_holder).at on (ap (option_map address_of) at ∙ ap (λ y. Some y) x) in
+      let z : (j ≡ i) × (p ≡ e) = is_twice-one_path ready_ports j p i e a.addr its_holder.single
+      its_holder.on
+      (holder_holds a.addr ready_ports its_holder).at on (ap (option_map address_of) at
+      ∙ ap (λ y. Some y) x) in
       false_true (sym d ∙ ap₂ (λ u v. same_number j u && same_path p v) (sym z.0) (sym z.1)
       ∙ ap₂ (λ u v. u && v) (self_number j) (self_path p))
 
@@ -383,7 +385,8 @@ module _ (a : Attempt) (w : World) (h : HolderIn a w) (into : IsIn a) (n : ℕ)
       where
         same : (q : List ℕ) → g q ≡ f q
         same q = elim (decided (same_path (suc j ∷ p) q)) [
-          | inl e ↦ rw (e, y) (ap (λ x. Some x) own_state ∙ sym (holder_holds a.addr ready_ports its_holder).at
+          | inl e ↦ rw (e, y) (ap (λ x. Some x) own_state ∙ sym (holder_holds a.addr ready_ports
+          its_holder).at
               ∙ ready_own f w own (suc j ∷ p) its_holder.on ∙ ap f (sym (same_is (suc j ∷ p) q e)))
           | inr e ↦ rw e refl
         ]

@@ -211,7 +211,8 @@ Agrees ds k tree = (q : List ℕ) → PlugAgrees ds (described k q) (index_at tr
 
 agrees_plug : (ds : List Spec) (k : Ports) (tree : PluggedMap) (e : List ℕ) (d : ℕ) (t : Spec)
     → slice_get ds d ≡ Some t → has_there k e ≡ true → index_at tree e ≡ None
-    → Agrees ds k tree → Agrees ds (changed (replaced (Some t)) k e) (insert_entry path_cmp tree e d)
+    → Agrees ds k tree
+    → Agrees ds (changed (replaced (Some t)) k e) (insert_entry path_cmp tree e d)
 agrees_plug ds k tree e d t is port free a q =
     grind (
       arith,

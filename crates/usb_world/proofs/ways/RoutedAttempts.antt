@@ -63,11 +63,13 @@ own_after None deep_here s a = s
 own_after (Some sent_data) deep_here s a = (answer_of sent_data deep_here s a).1
 
 step_calm : (o : Option Sent) (deep_here : Bool) (b : PortState) (s : State) (a : Ports)
-    → asked_of o deep_here s ≡ Leaves → step_in o deep_here (full b s a) ≡ full b (own_after o deep_here s a) a
+    → asked_of o deep_here s ≡ Leaves → step_in o deep_here (full b s a)
+    ≡ full b (own_after o deep_here s a) a
 step_calm o deep_here b s a h = grind arith
 
 step_in-full : (o : Option Sent) (deep_here : Bool) (b : PortState) (s : State) (a : Ports)
-    → step_in o deep_here (full b s a) ≡ full b (own_after o deep_here s a) (acted (asked_of o deep_here s) a)
+    → step_in o deep_here (full b s a)
+    ≡ full b (own_after o deep_here s a) (acted (asked_of o deep_here s) a)
 step_in-full o deep_here b s a = grind arith
 
 quiet_keeps_others : (port : ℕ) (o : Option Sent) (k : Ports) (j : ℕ) (p : List ℕ) (b : PortState)
@@ -97,7 +99,8 @@ module _ (a : Attempt) (d : Option Damage) (k : Ports) (j : ℕ) (p : List ℕ)
   x = record { row = j; rest = p }
 
   abbrev till_end : Place → Place
-  till_end x = step_in sent_reply deep_here (step_in sent_data deep_here (step_in sent_token deep_here x))
+  till_end x = step_in sent_reply deep_here
+      (step_in sent_data deep_here (step_in sent_token deep_here x))
 
   pub here : IsFull (place_at k j p)
   here = reach-full k j p one.on
@@ -124,14 +127,16 @@ module _ (a : Attempt) (d : Option Damage) (k : Ports) (j : ℕ) (p : List ℕ)
       (calm_asked sent_token (token_calm a.addr sent_token (goes a d k).token) deep_here here.own)
 
   first_stands : place_at (after_sent sent_token k) j p ≡ Some (full here.port first here.below)
-  first_stands = sent_place (sent_to_one sent_token k x one) ∙ ap (option_map (step_in sent_token deep_here)) here.at
+  first_stands = sent_place (sent_to_one sent_token k x one)
+      ∙ ap (option_map (step_in sent_token deep_here)) here.at
       ∙ ap (λ x. Some x) first_place
 
   end_place : till_end (full here.port here.own here.below) ≡ full here.port third below_then
   end_place = grind (arith, ack_calm, calm_asked, first_place, goes, step_calm, step_in-full)
 
   end_stands : place_at (ended_in a d k) j p ≡ Some (full here.port third below_then)
-  end_stands = ap (λ y. place_at y j p) (end_is a.addr sent_token sent_data sent_reply (goes a d k) k x one)
+  end_stands = ap (λ y. place_at y j p)
+      (end_is a.addr sent_token sent_data sent_reply (goes a d k) k x one)
       ∙ place_at-changed till_end k j p ∙ ap (option_map till_end) here.at
       ∙ ap (λ x. Some x) end_place
 
@@ -176,7 +181,8 @@ held_still : (port : ℕ) (a : Attempt) (d : Option Damage) (k : Ports) (p : Lis
     → address_by (device_there (ended_in a d k) p) ≡ Some a.addr
     → KeptAt a.addr port k (ports_in a d k) p
 held_still port a d k (suc j ∷ p) sent_data e =
-    λ settled o. addresses_stay a d k j p (alone_token a d k (suc j ∷ p) settled o) o.at port sent_data e
+    λ settled o. addresses_stay a d k j p (alone_token a d k (suc j ∷ p) settled o) o.at port
+    sent_data e
 held_still port a d k p sent_data e = false_true (ap is_some e)
 
 -- the same, of what the code tells: the address that is left there is the attempt's
