@@ -1,4 +1,4 @@
 -- What packets leave.
 pub mod AwaitedAcks
-pub mod RefusedPackets
+pub mod MildPackets
 pub mod Packets

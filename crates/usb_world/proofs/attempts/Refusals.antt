@@ -25,7 +25,7 @@ use Rattle.usb_device.specs.declared.transfer.RememberedPacket.TheVariants.{Noth
 use Rattle.usb_world.proofs.courses.Courses.{Rests, rests, rests_settled, goes}
 use Rattle.usb_world.proofs.holders.OneDevice.{rested_effect, token_calls, payload_calls}
 use Rattle.usb_world.proofs.packets.Packets.{rested_answer}
-use Rattle.usb_world.proofs.packets.RefusedPackets.{is_nothing, cut_kind}
+use Rattle.usb_world.proofs.packets.MildPackets.{is_nothing, cut_kind}
 use Rattle.usb_world.proofs.addresses.AddressesKept.{ready_unshared, StandsAfter, stood_events}
 use Rattle.usb_world.proofs.addresses.AddressesKept.{ready_stood}
 use Rattle.usb_world.proofs.courses.LiftedSteps.{came_shared, ready_shared, attempt_cases}
