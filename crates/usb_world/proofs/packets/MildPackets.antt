@@ -3,15 +3,13 @@ use Rattle.std.proofs.Common.{arith, ◌≡◌, ℕ, List, Option, Some, option_
 use Rattle.std.proofs.Common.{Bool, true, false, None, is_some, sym, subst, ap, ◌∙◌}
 use Rattle.usb_port.specs.{PortState}
 use Rattle.usb_device.specs.{Spec, State, forgotten, Ports, ended, vacant, taken, reach_at}
-use Rattle.usb_device.specs.{state_at, port_at, row_of, all_forgotten, Registers, Content, Whole}
-use Rattle.usb_device.specs.{Broken, Sent, Leaves, RememberedPacket, asks, asked_by_data, Reply}
-use Rattle.usb_device.specs.{received, unread, payload_row, sink_grows, sink_row, reply_to}
-use Rattle.usb_device.specs.{asked_by, answer_of, effect_of, Effect, full, before, acted}
-use Rattle.usb_device.specs.{after_packet, delivered_device, on_port, Stopped, behind_empty, behind}
-use Rattle.usb_device.specs.{below, here}
-use Rattle.usb_world.specs.{Consistent, Damage, Attempt, Mark, marked, marked_some, token_of}
-use Rattle.usb_world.specs.{payload_of, sent_as, token_out, payload_out, IsAttempt, sends_data}
-use Rattle.usb_world.specs.{IsCut}
+use Rattle.usb_device.specs.{state_at, port_at, all_forgotten, Registers, Content, Whole, Broken}
+use Rattle.usb_device.specs.{Sent, Leaves, RememberedPacket, asks, asked_by_data, Reply, received}
+use Rattle.usb_device.specs.{unread, payload_row, sink_grows, sink_row, reply_to, asked_by}
+use Rattle.usb_device.specs.{answer_of, effect_of, Effect, full, before, acted, after_packet}
+use Rattle.usb_device.specs.{delivered_device, on_port, Stopped, behind_empty, behind, below, here}
+use Rattle.usb_world.specs.{Damage, Attempt, Mark, marked, marked_some, token_of, payload_of}
+use Rattle.usb_world.specs.{sent_as, token_out, payload_out, IsAttempt, sends_data, IsCut}
 use Rattle.usb_packet.specs.{Packet, Token, Payload, Toggle, OutTok, SetupTok, TokenKind, InTok}
 use Rattle.usb_device.specs.declared.transfer.RememberedPacket.TheVariants.{Nothing, SetupSeen}
 use Rattle.usb_device.specs.declared.transfer.RememberedPacket.TheVariants.{OutSeen}
@@ -51,8 +49,6 @@ pub record SameDevices (k m : Ports) : Type 0 where
   pub reach : (i : ℕ) (e : List ℕ) → reach_at m i e ≡ reach_at k i e
   pub selves : (i : ℕ) (e : List ℕ) → option_map self_of (state_at m i e)
       ≡ option_map self_of (state_at k i e)
-  pub row : row_of m ≡ row_of k
-  pub sane : Consistent k → Consistent m
 
 pub alike_self : (k : Ports) → SameDevices k k
 alike_self k = grind arith
@@ -62,12 +58,12 @@ alike_joined x y = grind arith
 
 pub alike_vacant : (b : PortState) (k m : Ports) → SameDevices k m
     → SameDevices (vacant b k) (vacant b m)
-unfolding port_at reach_at state_at row_of Consistent
+unfolding port_at reach_at state_at
 alike_vacant b k m h = grind arith
 
 pub alike_taken : (b : PortState) (s z : State) (a c k m : Ports) → self_of z ≡ self_of s
     → SameDevices a c → SameDevices k m → SameDevices (taken b s a k) (taken b z c m)
-unfolding port_at reach_at state_at row_of Consistent
+unfolding port_at reach_at state_at
 alike_taken b s z a c k m own lower h = grind arith
 
 pub alike_forgotten : (k : Ports) → SameDevices k (all_forgotten k)
