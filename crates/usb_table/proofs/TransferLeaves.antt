@@ -134,7 +134,7 @@ module _ (pipes mid_pipes : FunctionPipes) (placed : AreInPlace pipes) (old : Wo
   first_failed why failed = grind (arith, kept)
 
   -- what could not be cleared in the second place cannot be now
-  pub still_unclear : first_unclear true mid_pipes ≡ first_unclear true pipes
+  still_unclear : first_unclear true mid_pipes ≡ first_unclear true pipes
   still_unclear = ap (first_unclear true) x.left_is ∙ unclear_beside true false x.rest pipes
       (rest_way false (first_pipe false pipes) x.rest (first_ways false pipes placed) is_rest)
       (λ e. cc e)
@@ -164,8 +164,7 @@ record LeavesTransfer {A : Type 0} (n : ℕ) (found : Option Accepted) (pipes : 
       × EachMoves device device.address (new.fault ≡ None) pipes left old new)
 
 same_spends : (n : ℕ) (old new : World) → new ≡ old → AttemptsWithin n old new
-same_spends n old new e =
-    rw e (spends_wider 0 n old old (spends_none old) (omega arith))
+same_spends n old new e = grind (arith, spends_none, spends_wider)
 
 -- nothing was tried
 idle_transfer_leaves : {A : Type 0} (n : ℕ) (found : Option Accepted) (pipes : Pipes) (old : World)

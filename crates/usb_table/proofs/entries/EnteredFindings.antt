@@ -51,7 +51,7 @@ module _ {less more : TableSlots} {fewer most : PathKeys} {lower upper : Address
   none_found : findings less key ≡ None
   none_found = grind arith
 
-  found : findings more key ≡ Some s.finding
+  pub found : findings more key ≡ Some s.finding
   found = findings-standing more key s d.stands
 
   same : (k : ℕ) → k ≢ key → findings more k ≡ findings less k
@@ -191,7 +191,7 @@ module _ {less more : TableSlots} {fewer most : PathKeys} {lower upper : Address
 -- What the keys tell of it
 
 at_path : (path : List ℕ) (slot was : Option ℕ) → cond (is_at (path_cmp path) path) slot was ≡ slot
-at_path path slot was = ap (λ b. cond b slot was) (path_itself path)
+at_path path slot was = grind (arith, path_itself)
 
 off_path : (path q : List ℕ) (slot was : Option ℕ) → q ≢ path
     → cond (is_at (path_cmp path) q) slot was ≡ was
@@ -272,7 +272,7 @@ module _ {X : Type 0} (path : List ℕ) (value : X) where
       (insert_entry path_cmp es path value) ≡ lookup (is_at (path_cmp q)) es
   lookup-inserted_elsewhere q [] apart = rw apart refl
   lookup-inserted_elsewhere q (e ∷ es) apart =
-      other_step q e es apart (lookup-inserted_elsewhere q es apart) (path_cmp path e.0) refl
+      grind (arith, lookup-inserted_elsewhere q es apart, other_step)
 
 -- The pipes of the table
 

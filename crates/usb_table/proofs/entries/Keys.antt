@@ -12,7 +12,7 @@ use Rattle.std.specs.Prelude.{unwrap_or}
 use Rattle.std.specs.Map.{lookup, keys_of, values_of, remove_entry}
 use Rattle.std.specs.List.{list_any, filter, count_by, AllByRecursion}
 use Rattle.std.specs.List.Sorted.{IsStrictlySortedBy}
-use Rattle.std.specs.Ordering.{nat_cmp, is_eq, match_ordering, ordering_reverse}
+use Rattle.std.specs.Ordering.{nat_cmp, is_eq, match_ordering}
 use Rattle.std.specs.declared.cmp.Ordering.{Ordering}
 use Rattle.std.specs.declared.cmp.Ordering.TheVariants.{Less, Greater}
 use Rattle.std.proofs.lemmas.List.Elements.{All-head, All-tail, recursion_from_All}
@@ -82,8 +82,7 @@ module _ {A : Type 0} (none : A) (slots : ℕ → Option A) where
 
 if_some_slot : {P : ℕ → Type 0} (slot : Option ℕ) → ((key : ℕ) → slot ≡ Some key → P key)
     → IfSome slot P
-if_some_slot None each = tt
-if_some_slot (Some key) each = each key refl
+if_some_slot slot each = grind arith
 
 module _ {A : Type 0} (none : A) (old new : ℕ → Option A) where
   values_by_path-agree : (paths : PathKeys) → All (λ k. new k ≡ old k) (values_of paths)
@@ -106,7 +105,7 @@ module _ {A : Type 0} (none : A) (old new : ℕ → Option A) where
 
 -- What the entries show of the keys
 
-pub entries-lookup : (found : Slots) (path : List ℕ) (paths : PathKeys)
+entries-lookup : (found : Slots) (path : List ℕ) (paths : PathKeys)
     → lookup (is_at (path_cmp path)) (entries_of found paths) ≡ option_map (finding_under found)
     (key_of_path paths path)
 entries-lookup found = values_by_path-lookup (Refused Silent) found
@@ -125,8 +124,7 @@ pub findings-standing : (standings : TableSlots) (key : ℕ) (s : Entry) → sta
 findings-standing standings key s stands = grind arith
 
 finding-some : (o : Option Entry) → IsSome (option_map (λ (t : Entry). t.finding) o) → IsSome o
-finding-some None h = absurd cc
-finding-some (Some s) h = refl
+finding-some o h = grind arith
 
 pub some_standing : (standings : TableSlots) (key : ℕ) → IsSome (findings standings key)
     → IsSome (standings key)
@@ -136,7 +134,7 @@ pub finding_stands : (found : Slots) (key : ℕ) (finding : Finding) → found k
     → finding_under found key ≡ finding
 finding_stands found key finding stands = grind arith
 
-pub entries-keys : (found : Slots) (paths : PathKeys) → keys_of (entries_of found paths)
+entries-keys : (found : Slots) (paths : PathKeys) → keys_of (entries_of found paths)
     ≡ keys_of paths
 entries-keys found [] = refl
 entries-keys found (e ∷ es) = ap (λ ks. e.0 ∷ ks) (entries-keys found es)
@@ -183,11 +181,10 @@ pub taken_back : (address : Option ℕ) (key : ℕ) (es : AddressKeys)
     → without_address address (with_address address key es) ≡ es
 taken_back address key es free = grind (arith, back)
 
-pub some_address : (o : Option Finding) (a : ℕ) → address_in o ≡ Some a → IsSome o
-some_address None a h = absurd cc
-some_address (Some f) a h = refl
+some_address : (o : Option Finding) (a : ℕ) → address_in o ≡ Some a → IsSome o
+some_address o a h = grind arith
 
-pub none_or : (o : Option ℕ) → (o ≡ None) ⊎ ((k : ℕ) × (o ≡ Some k))
+none_or : (o : Option ℕ) → (o ≡ None) ⊎ ((k : ℕ) × (o ≡ Some k))
 none_or None = inl refl
 none_or (Some k) = inr (k, refl)
 
@@ -246,8 +243,7 @@ has_device found paths addresses address key finding are is stands =
     }
 
 some_or : (o : Option Finding) → IsSome o → (f : Finding) × (o ≡ Some f)
-some_or None s = absurd cc
-some_or (Some f) s = (f, refl)
+some_or o s = grind arith
 
 no_device_by : (found : Slots) (paths : PathKeys) (addresses : AddressKeys) (address : ℕ)
     → AreIndexes found paths addresses → key_of_address addresses address ≡ None
@@ -286,8 +282,7 @@ none_at path (e ∷ es) none =
     (is_at-not_way path e.0 parts.0) ∙ none_at path es parts.1
 
 none_shown : (f : ℕ → Finding) (key : Option ℕ) → option_map f key ≡ None → key ≡ None
-none_shown f None none = refl
-none_shown f (Some key) none = absurd cc
+none_shown f key none = grind arith
 
 pub away_key : (found : Slots) (path : List ℕ) (paths : PathKeys)
     → lookup (is_at (path_cmp path)) (entries_of found paths) ≡ None
@@ -345,19 +340,19 @@ free_key found paths addresses finding are fresh = grind (arith, found, key_of_a
 -- What comes next in a rising list goes behind what there is
 
 greater : (path q : List ℕ) → path_cmp q path ≡ Less → path_cmp path q ≡ Greater
-greater path q less = nat_list_cmp_total.antisymm path q ∙ ap ordering_reverse less
+greater path q less = grind (arith, less, nat_list_cmp_total)
 
 module _ {A : Type 0} (path : List ℕ) where
   -- the paths are less
   abbrev AreBefore : List (List ℕ × A) → Type 0
   AreBefore had = AllByRecursion (λ d. path_cmp d.0 path ≡ Less) had
 
-  pub insert_last : (had : List (List ℕ × A)) (value : A) → AreBefore had
+  insert_last : (had : List (List ℕ × A)) (value : A) → AreBefore had
       → insert_entry path_cmp had path value ≡ had ++ (path, value) ∷ []
   insert_last [] value less = refl
   insert_last (d ∷ ds) value less = grind (arith, insert_last ds value less.1, d, greater, less)
 
-  pub none_yet : (had : List (List ℕ × A)) → AreBefore had
+  none_yet : (had : List (List ℕ × A)) → AreBefore had
       → lookup (is_at (path_cmp path)) had ≡ None
   none_yet [] less = refl
   none_yet (d ∷ ds) less = grind (arith, none_yet ds less.1, d, greater, less)
@@ -368,7 +363,7 @@ module _ {A : Type 0} where
   at_middle P [] e rest all = all.0
   at_middle P (d ∷ ds) e rest all = at_middle P ds e rest all.1
 
-  pub before_next : (had : List (List ℕ × A)) (e : List ℕ × A) (rest : List (List ℕ × A))
+  before_next : (had : List (List ℕ × A)) (e : List ℕ × A) (rest : List (List ℕ × A))
       → IsStrictlySortedBy path_cmp (keys_of (had ++ e ∷ rest)) → AreBefore e.0 had
   before_next [] e rest rises = tt
   before_next (d ∷ ds) e rest rises = (
@@ -415,7 +410,7 @@ module _ (found : Slots) (paths : PathKeys) (addresses : AddressKeys)
     | inr not ↦ not
   ]
 
-  pub none_has : (ds : PathKeys) → AllByRecursion IsOther ds
+  none_has : (ds : PathKeys) → AllByRecursion IsOther ds
       → count_by (λ e. has_address a e.1) (entries_of found ds) ≡ 0
   none_has [] all = refl
   none_has (d ∷ ds) all = grind (arith, none_has ds all.1, d, found, not_its, sum_by-cons)
@@ -440,7 +435,7 @@ shown : {A : Type 0} (none : A) (slots : ℕ → Option A) (ds : PathKeys) (e : 
     → values_by_path none slots (ds ++ e ∷ [])
     ≡ values_by_path none slots ds ++ (e.0, under none slots e.1) ∷ []
 shown none slots [] e = refl
-shown none slots (d ∷ ds) e = ap (λ l. (d.0, under none slots d.1) ∷ l) (shown none slots ds e)
+shown none slots (d ∷ ds) e = grind (arith, shown none slots ds e, d)
 
 before_shown : {A : Type 0} (none : A) (slots : ℕ → Option A) (path : List ℕ) (ds : PathKeys)
     → AreBefore path ds → AreBefore path (values_by_path none slots ds)
@@ -466,17 +461,17 @@ module _ (standings : TableSlots) (paths left rest : PathKeys) (path : List ℕ)
     (copy : Table) (rises : IsStrictlySortedBy path_cmp (keys_of paths))
     (each : All (λ e. key_of_path paths e.0 ≡ Some e.1) paths)
     (so_far : Copied standings paths left copy) (step : left ≡ (path, key) ∷ rest) where
-  d : Copied standings paths ((path, key) ∷ rest) copy
+  pub d : Copied standings paths ((path, key) ∷ rest) copy
   d = rw step at so_far
 
-  abbrev IsFound : List ℕ × ℕ → Type 0
+  abbrev pub IsFound : List ℕ × ℕ → Type 0
   IsFound e = key_of_path paths e.0 ≡ Some e.1
 
-  found : AllByRecursion IsFound (d.before ++ (path, key) ∷ rest)
+  pub found : AllByRecursion IsFound (d.before ++ (path, key) ∷ rest)
   found = rw d.split (recursion_from_All IsFound paths each)
 
   pub next_at : key_of_path paths path ≡ Some key
-  next_at = middle IsFound d.before (path, key) rest found
+  next_at = grind (arith, d, found, middle)
 
   less : AreBefore path d.before
   less = grind (arith, before_next, d)

@@ -153,18 +153,15 @@ first_from kind last (e ∷ es) = cond (is_after last e.0 && kind e.1) (Some e.0
     (first_from kind last es)
 
 less_is : (o : Ordering) → is_lt o ≡ true → o ≡ Less
-less_is Less h = refl
-less_is _ h = absurd cc
+less_is o h = grind arith
 
 after_if : (last : Option (List ℕ)) (path : List ℕ) → is_after last path ≡ true
     → ComesAfter last path
-after_if None path h = tt
-after_if (Some l) path h = less_is (path_cmp l path) h
+after_if last path h = grind (arith, less_is)
 
 if_after : (last : Option (List ℕ)) (path : List ℕ) → ComesAfter last path
     → is_after last path ≡ true
-if_after None path h = refl
-if_after (Some l) path h = rw h refl
+if_after last path h = grind arith
 
 path_cmp-not_less : (q : List ℕ) (e : List ℕ × Finding) (es : Entries) (f : Finding)
     → Rises (e ∷ es) → lookup (is_at (path_cmp q)) (e ∷ es) ≡ Some f → path_cmp q e.0 ≢ Less
@@ -204,7 +201,7 @@ module _ (kind : Finding → Bool) (last : Option (List ℕ)) (e : List ℕ × F
 
     in_tail : (q : List ℕ) → (is_after last e.0 && kind e.1) ≡ false → Stands kind last (e ∷ es) q
         → Stands kind last es q
-    in_tail q fails s = in_tail_by q fails s (is_at (path_cmp q) e.0) refl
+    in_tail q fails s = grind (arith, in_tail_by)
 
     next_here : Rises (e ∷ es) → (is_after last e.0 && kind e.1) ≡ true
         → IsNext kind last (e ∷ es) e.0
@@ -237,19 +234,18 @@ next_is kind last (e ∷ es) path rises is =
 
 pub last_is : (kind : Finding → Bool) (last : Option (List ℕ)) (es : Entries)
     → first_from kind last es ≡ None → IsLast kind last es
-last_is kind last [] is = λ other s. absurd (cc s.found)
+last_is kind last [] is = grind arith
 last_is kind last (e ∷ es) is = last_step kind last e es (last_is kind last es)
     (is_after last e.0 && kind e.1) refl is
 
 -- ---- the entries behind the last path
 
-abbrev behind : Option (List ℕ) → PathKeys → PathKeys
+abbrev pub behind : Option (List ℕ) → PathKeys → PathKeys
 behind last paths = entries_between path_cmp (start_after last) Unbounded paths
 
 start_is : (last : Option (List ℕ)) (path : List ℕ)
     → is_from_start path_cmp (start_after last) path ≡ is_after last path
-start_is None path = refl
-start_is (Some l) path = refl
+start_is last path = grind arith
 
 module _ (kind : Finding → Bool) (last : Option (List ℕ)) (found : Slots) where
   first_of : PathKeys → Option (List ℕ)
@@ -259,9 +255,7 @@ module _ (kind : Finding → Bool) (last : Option (List ℕ)) (found : Slots) wh
       → (b : Bool) → first_of (cond (b && not false) (e ∷ rest) rest)
       ≡ cond (b && kind (finding_under found e.1)) (Some e.0) more
   unfolding first_of
-  behind_step e rest more is true =
-      ap (λ (o : Option (List ℕ)). cond (kind (finding_under found e.1)) (Some e.0) o) is
-  behind_step e rest more is false = is
+  behind_step e rest more is b = grind arith
 
   -- the first of the kind behind the last path is the first of the kind after it
   pub first_behind : (paths : PathKeys)
@@ -269,10 +263,7 @@ module _ (kind : Finding → Bool) (last : Option (List ℕ)) (found : Slots) wh
       ≡ first_from kind last (entries_of found paths)
   unfolding first_of
   first_behind [] = refl
-  first_behind (e ∷ paths) =
-      rw (← start_is last e.0)
-      (behind_step e (behind last paths) (first_from kind last (entries_of found paths))
-      (first_behind paths) (is_from_start path_cmp (start_after last) e.0))
+  first_behind (e ∷ paths) = grind (arith, first_behind paths, behind_step, start_is)
 
 -- What is known of a port hangs on its hub alone.
 
@@ -310,7 +301,7 @@ port_below-without path es parent is = grind (arith, kept_hub, parent_shorter)
 -- what stands at a port and below it says nothing of the port
 pub known_port-without : (path : List ℕ) (es : Entries) → known_port path (without path es)
     ≡ known_port path es
-known_port-without path es = port_below-without path es (parent_of path) refl
+known_port-without path es = grind (arith, port_below-without)
 
 -- A port that is known below another is one of an accepted hub that has it
 

@@ -55,7 +55,7 @@ same_seen : {X : Type 0} (seen : Spec → Registers → X) (s v : State) → Sam
 same_seen seen s v k = grind arith
 
 -- the text of its configuration
-pub same_text : (s v : State) → SameSettings root s v
+same_text : (s v : State) → SameSettings root s v
     → text_of v.spec v.registers ≡ text_of s.spec s.registers
 same_text = same_seen text_of
 
@@ -67,7 +67,7 @@ same_status : (e : ℕ) (s v : State) → SameSettings root s v → is_status v 
 same_status e = grind (arith, same_seen)
 
 -- the endpoint that tells of changes, and how many bytes it gives (11.12.4)
-pub status_same : (t : Target) (ep : ℕ) (s v : State) → SameSettings root s v
+status_same : (t : Target) (ep : ℕ) (s v : State) → SameSettings root s v
     → IsStatusEndpoint t ep s → IsStatusEndpoint t ep v
 status_same t ep s v k to = record {
   number = to.number ∙ sym (same_seen status_number s v k);
@@ -204,7 +204,7 @@ in_beside e into s v place k same f = grind (arith, still_source)
 module _ (device : Accepted) (pipes : FunctionPipes) (placed : AreInPlace pipes)
     (left : PipeState) (s v : State) (k : SameSettings root s v)
     (f : FunctionInSync device pipes s) where
-  pub out_fits : left.is_in ≡ false → OutPipeInSync left v
+  out_fits : left.is_in ≡ false → OutPipeInSync left v
       → ((e : ℕ) → (e == left.ep) ≡ false → out_end v e ≡ out_end s e)
       → ((e : ℕ) → in_end v e ≡ in_end s e) → FunctionInSync device (with_pipe left pipes) v
   out_fits way fits outs ins = function_level (with_pipe left pipes) s v k f
@@ -219,7 +219,7 @@ module _ (device : Accepted) (pipes : FunctionPipes) (placed : AreInPlace pipes)
       by_number e false apart = rw (at_elsewhere left pipes false e (λ same. apart))
           (out_beside e (pipe_at false e pipes) s v (placed false e) k (outs e apart) (f.outs e))
 
-  pub in_fits : left.is_in ≡ true → FitsIn (Some left) v → ((e : ℕ) → out_end v e ≡ out_end s e)
+  in_fits : left.is_in ≡ true → FitsIn (Some left) v → ((e : ℕ) → out_end v e ≡ out_end s e)
       → ((e : ℕ) → (e == left.ep) ≡ false → in_end v e ≡ in_end s e)
       → FunctionInSync device (with_pipe left pipes) v
   in_fits way fits outs ins = function_level (with_pipe left pipes) s v k f
@@ -374,7 +374,7 @@ pub known_left : {A : Type 0} (answer : Result A PipeFault) (left : PipeState)
     → ((fault : BusFault) → answer ≢ Err (pipe_fault.Bus fault)) → pipe_known answer left ≡ left
 known_left answer left other = grind arith
 
-pub sound_known : {A : Type 0} (old : World) (answer : Result A PipeFault) (left : PipeState)
+sound_known : {A : Type 0} (old : World) (answer : Result A PipeFault) (left : PipeState)
     (w : World)
     → PipeKeeps old answer w → w.fault ≡ None → pipe_known answer left ≡ left
 sound_known old answer left w kept sound = grind (arith, known_left)

@@ -65,7 +65,7 @@ pub none_at : (settings : List ℕ) (device : Accepted) (is_in : Bool) (e : ℕ)
     → end_under settings device is_in e ≡ None
 none_at settings device is_in e beyond = grind (arith, usable_under-small)
 
-pub new_at : (device : Accepted) (below_hub is_in : Bool) (e : ℕ)
+new_at : (device : Accepted) (below_hub is_in : Bool) (e : ℕ)
     → pipe_at is_in e (new_function device below_hub)
     ≡ new_pipe (target_of device below_hub) is_in e (usable_end device is_in e)
 new_at device below_hub true e = grind (arith, none_at, row_of_ends-at)
@@ -74,10 +74,9 @@ new_at device below_hub false e = grind (arith, none_at, row_of_ends-at)
 none_marked : (e : ℕ) → get_or none_lost e None ≡ None
 none_marked e = grind (arith, cases_lt, get_or-replicate, get_or_past)
 
-pub new_lost : (device : Accepted) (below_hub is_in : Bool) (e : ℕ)
+new_lost : (device : Accepted) (below_hub is_in : Bool) (e : ℕ)
     → lost_at is_in e (new_function device below_hub) ≡ None
-new_lost device below_hub true e = none_marked e
-new_lost device below_hub false e = none_marked e
+new_lost device below_hub is_in e = grind (arith, none_marked)
 
 -- a new pipe is to its endpoint
 pub new_pipe_fits : (device : Accepted) (below_hub is_in : Bool) (e : ℕ)
@@ -177,7 +176,7 @@ module _ (options : HostOptions) (tier supply : ℕ) (device : Accepted) (below_
 
     good_parts : (holds_changes (status_endpoint_of wide (configuration_of device))
         (hub_ports s.spec.hub) ≡ true) × (gives_hub wide s.spec s.spec.hub ≡ true)
-    good_parts = and_parts _ (gives_hub wide s.spec s.spec.hub) good
+    good_parts = grind (arith, and_parts, good)
 
     has_ports : is_some s.spec.hub ≡ true
     has_ports = grind (arith, good_parts)
@@ -209,7 +208,7 @@ module _ (options : HostOptions) (tier supply : ℕ) (device : Accepted) (below_
     no_ports : is_some s.spec.hub ≡ false
     no_ports = grind (arith, and_parts, is_hub_spec)
 
-    quiet : tells_changes s.spec s.registers ≡ false
+    pub quiet : tells_changes s.spec s.registers ≡ false
     quiet = grind (arith, no_ports)
 
     zero_not : (s.registers.configuration == 0) ≡ false
@@ -223,9 +222,8 @@ module _ (options : HostOptions) (tier supply : ℕ) (device : Accepted) (below_
         → usable_end device is_in e ≡ Some end → (e == 0) ≡ false
     not_zero is_in e end usable = grind (arith, nat_tests, usable_under-small)
 
-    rests : (is_in : Bool) (e : ℕ) → state_at is_in s e ≡ rested
-    rests true e = fresh.ins e
-    rests false e = fresh.outs e
+    pub rests : (is_in : Bool) (e : ℕ) → state_at is_in s e ≡ rested
+    rests is_in e = grind (arith, fresh)
 
     level : (is_in : Bool) (e : ℕ)
         → FitsWay is_in (pipe_at is_in e (new_function device below_hub)) s

@@ -55,13 +55,13 @@ placed_to : (device : Accepted) (below_hub : Bool) (pipes : Pipes)
     → ArePipesTo device below_hub pipes → ArePlaced pipes
 placed_to device below_hub pipes are = grind (arith, in_place)
 
-pub placed_of : (finding : Finding) (below_hub : Bool) (pipes : Pipes)
+placed_of : (finding : Finding) (below_hub : Bool) (pipes : Pipes)
     → ArePipesOf finding below_hub pipes → ArePlaced pipes
 placed_of finding below_hub pipes are = grind (arith, placed_to)
 
 -- A call goes through no pipes where no device was found
 
-pub if_found : (P R : Pipes → Pipes → Type 0) (found : Option Accepted) (below_hub : Bool)
+if_found : (P R : Pipes → Pipes → Type 0) (found : Option Accepted) (below_hub : Bool)
     → ((said : ArrayVec ℕ) (left : Pipes) → found ≡ None → P (Absent said) left
     → R (Absent said) left)
     → ((device : Accepted) (pipes left : Pipes) → found ≡ Some device
@@ -134,7 +134,7 @@ module _ (old : World) (result : Result (Unit {0}) TableFault) (new : World)
     → R (Function pipes) (Function left)) where
   both_idle : (pipes left : Pipes) (fault : TransferFault)
       → NotTried fault pipes old result left new → R pipes left
-  both_idle pipes left fault x = rw x.1 (idle pipes fault x.0 x.2)
+  both_idle pipes left fault x = grind arith
 
   both_if : (device : Accepted) → found ≡ Some device → (why : Option TransferFault)
       (pipes left : FunctionPipes)
@@ -159,10 +159,10 @@ device_address : (found : Option Finding) (device : Accepted)
     → accepted_device_of found ≡ Some device → address_in found ≡ Some device.address
 device_address found device e = grind arith
 
-pub address_found : (path : List ℕ) (entries : Entries) (device : Accepted)
+address_found : (path : List ℕ) (entries : Entries) (device : Accepted)
     → accepted_device_at path entries ≡ Some device
     → entry_address path entries ≡ Some device.address
-address_found path entries device e = device_address (finding_at path entries) device e
+address_found path entries device e = grind (arith, device_address)
 
 -- the pipes to the device at a path, where that starts at a port of the root
 abbrev InSyncFrom : List ℕ → Table → World → Type 0
@@ -185,9 +185,9 @@ pub held_address : (table : Table) (w : World) (path : List ℕ) (device : Accep
 held_address table w path device s held e on there = grind (arith, address_found, same_Some)
 
 -- two paths of one address are one
-pub entry_address-one_path : (table : Table) (w : World) (x path : List ℕ) (a : ℕ) → IsHeld table w
+entry_address-one_path : (table : Table) (w : World) (x path : List ℕ) (a : ℕ) → IsHeld table w
     → entry_address x table.entries ≡ Some a → entry_address path table.entries ≡ Some a → x ≡ path
-entry_address-one_path table w x path a held e f = same_is path x (held.distinct path x a f e)
+entry_address-one_path table w x path a held e f = grind (arith, same_is)
 
 -- who has the address of the device that is known at a path stands there
 pub stands_there : (path : List ℕ) (table : Table) (w : World) → IsHeld table w
@@ -225,7 +225,7 @@ module _ (path : List ℕ) (device : Accepted) (ends : Type 0) (pipes left : Pip
       → accepted_device_at x old.entries ≡ Some d
   same_device x d e = grind arith
 
-  others : IsHeld old before → (x : List ℕ) → is_at (path_cmp path) x ≡ false
+  pub others : IsHeld old before → (x : List ℕ) → is_at (path_cmp path) x ≡ false
       → InSyncAt x old before → InSyncAt x new after
   others held x apart l = at_some_port new after x at
     where
@@ -294,7 +294,7 @@ module _ (table : Table) (old new : World) where
   -- where each device stays as it was
   pub level_stays : EachWas StaysAs old new → (x : List ℕ) → InSyncAt x table old
       → InSyncAt x table new
-  level_stays was x = level_if x (λ j e s on there. was j s on there)
+  level_stays was x h = grind (arith, level_if)
 
   -- where each does that is not at a path nor below it
   pub level_elsewhere : (path : List ℕ) → EachElsewhere path StaysAs old new → (x : List ℕ)
@@ -310,14 +310,14 @@ pipes_by : (standings : TableSlots) (path : List ℕ) (paths : PathKeys) (key : 
     ≡ unwrap_or (option_map (under no_pipes (pipings standings)) key) no_pipes
 pipes_by standings path paths key at = grind (arith, values_by_path-lookup)
 
-pub pipes_found : (standings : TableSlots) (path : List ℕ) (paths : PathKeys) (key : ℕ) (s : Entry)
+pipes_found : (standings : TableSlots) (path : List ℕ) (paths : PathKeys) (key : ℕ) (s : Entry)
     → key_of_path paths path ≡ Some key → standings key ≡ Some s
     → pipes_at path (table_of standings paths) ≡ s.pipes
 pipes_found standings path paths key s at stands = grind (arith, pipes_by)
 
-pub pipes_none : (standings : TableSlots) (path : List ℕ) (paths : PathKeys)
+pipes_none : (standings : TableSlots) (path : List ℕ) (paths : PathKeys)
     → key_of_path paths path ≡ None → pipes_at path (table_of standings paths) ≡ no_pipes
-pipes_none standings path paths none = pipes_by standings path paths None none
+pipes_none standings path paths none = grind (arith, pipes_by)
 
 none_absent : (pipes : Pipes) → pipes ≡ no_pipes → AreAbsent pipes
 none_absent pipes is = (record { items = [] }, is)
@@ -363,7 +363,7 @@ module _ (standings : TableSlots) (paths : PathKeys) (addresses : AddressKeys)
           ) (piped path key s at stands).1
 
   pub are_pipes_at : ArePipesAt path (table_of standings paths)
-  are_pipes_at = are_by (key_of_path paths path) refl
+  are_pipes_at = grind (arith, are_by)
 
 -- and the device that was found there
 pub device_found : (standings : TableSlots) (path : List ℕ) (paths : PathKeys) (key : ℕ) (s : Entry)

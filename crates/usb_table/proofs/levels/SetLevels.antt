@@ -50,7 +50,7 @@ module _ {A : Type 0} where
       → get_or (numbered_from change first row) e none ≡ change (first + e) (get_or row e none)
   unfolding numbered_from
   numbered-within change none first e [] h = none_below e h
-  numbered-within change none first zero (y ∷ row) h = ap (λ k. change k y) (omega arith)
+  numbered-within change none first zero (y ∷ row) h = grind arith
   numbered-within change none first (suc e) (y ∷ row) h =
       grind (arith, numbered-within change none (first + 1) e row (omega (arith, h)))
 
@@ -60,27 +60,27 @@ module _ {A : Type 0} where
         ≡ replaced_if text interface is_in change e (get_or row e none)
     within h = grind (arith, numbered-within)
 
-    pub replaced-past : length row ≤ e
+    replaced-past : length row ≤ e
         → get_or (replaced_row text interface is_in change row) e none ≡ none
     replaced-past h = grind (arith, get_or_past, length-numbered_from)
 
     -- where the interface has an endpoint
-    pub replaced-named : names_in interface is_in e text ≡ true → e < length row
+    replaced-named : names_in interface is_in e text ≡ true → e < length row
         → get_or (replaced_row text interface is_in change row) e none
         ≡ change e (get_or row e none)
     replaced-named named h = grind (arith, within)
 
     -- and nothing is left there
-    pub replaced-all : ((had : A) → change e had ≡ none) → names_in interface is_in e text ≡ true
+    replaced-all : ((had : A) → change e had ≡ none) → names_in interface is_in e text ≡ true
         → get_or (replaced_row text interface is_in change row) e none ≡ none
     replaced-all empties named = grind (arith, cases_lt, replaced-named, replaced-past)
 
     -- and where it has none
-    pub replaced-elsewhere : names_in interface is_in e text ≡ false
+    replaced-elsewhere : names_in interface is_in e text ≡ false
         → get_or (replaced_row text interface is_in change row) e none ≡ get_or row e none
     replaced-elsewhere named = grind (arith, cases_lt, get_or_past, replaced-past, within)
 
-  pub length-replaced_row : (text : List ℕ) (interface : ℕ) (is_in : Bool) (change : ℕ → A → A)
+  length-replaced_row : (text : List ℕ) (interface : ℕ) (is_in : Bool) (change : ℕ → A → A)
       (row : List A) → length (replaced_row text interface is_in change row) ≡ length row
   length-replaced_row text interface is_in change row = grind (arith, length-numbered_from)
 
@@ -110,13 +110,13 @@ module _ (device : Accepted) (below_hub : Bool) (interface setting : ℕ) (setti
 
 module _ (device : Accepted) (below_hub : Bool) (interface setting : ℕ) (pipes : FunctionPipes)
   where
-    abbrev config_text : List ℕ
+    abbrev pub config_text : List ℕ
     config_text = configuration_of device
 
-    abbrev after_set : FunctionPipes
+    abbrev pub after_set : FunctionPipes
     after_set = set_function device below_hub interface setting pipes
 
-    abbrev after_loss : FunctionPipes
+    abbrev pub after_loss : FunctionPipes
     after_loss = lost_function device interface pipes
 
     -- What stands at a place after it
@@ -124,53 +124,49 @@ module _ (device : Accepted) (below_hub : Bool) (interface setting : ℕ) (pipes
     set_row-at : (is_in : Bool)
         → row_at is_in after_set ≡ set_row device below_hub interface setting is_in
         (row_at is_in pipes)
-    set_row-at true = refl
-    set_row-at false = refl
+    set_row-at is_in = grind arith
 
     set_marks-at : (is_in : Bool)
         → lost_row is_in after_set ≡ cleared_row config_text interface is_in (lost_row is_in pipes)
-    set_marks-at true = refl
-    set_marks-at false = refl
+    set_marks-at is_in = grind arith
 
     loss_row-at : (is_in : Bool)
         → row_at is_in after_loss ≡ cleared_row config_text interface is_in (row_at is_in pipes)
-    loss_row-at true = refl
-    loss_row-at false = refl
+    loss_row-at is_in = grind arith
 
     loss_marks-at : (is_in : Bool) → lost_row is_in after_loss
         ≡ marked_row config_text interface is_in (row_at is_in pipes) (lost_row is_in pipes)
-    loss_marks-at true = refl
-    loss_marks-at false = refl
+    loss_marks-at is_in = grind arith
 
     module _ (is_in : Bool) (e : ℕ) where
       abbrev mark : ℕ → Option EndpointKind → Option EndpointKind
       mark k kind = mark_of (get_or (row_at is_in pipes) k None) kind
 
       module _ (apart : names_in interface is_in e config_text ≡ false) where
-        pub set-elsewhere : pipe_at is_in e after_set ≡ pipe_at is_in e pipes
+        set-elsewhere : pipe_at is_in e after_set ≡ pipe_at is_in e pipes
         set-elsewhere = grind (arith, replaced-elsewhere, set_row-at)
 
         set_mark-elsewhere : lost_at is_in e after_set ≡ lost_at is_in e pipes
         set_mark-elsewhere = grind (arith, replaced-elsewhere, set_marks-at)
 
-        pub loss-elsewhere : pipe_at is_in e after_loss ≡ pipe_at is_in e pipes
+        loss-elsewhere : pipe_at is_in e after_loss ≡ pipe_at is_in e pipes
         loss-elsewhere = grind (arith, loss_row-at, replaced-elsewhere)
 
         loss_mark-elsewhere : lost_at is_in e after_loss ≡ lost_at is_in e pipes
         loss_mark-elsewhere = grind (arith, loss_marks-at, replaced-elsewhere)
 
       module _ (named : names_in interface is_in e config_text ≡ true) where
-        pub set-named : e < length (row_at is_in pipes)
+        set-named : e < length (row_at is_in pipes)
             → pipe_at is_in e after_set ≡ set_pipe device below_hub interface setting is_in e
         set-named h = grind (arith, replaced-named, set_row-at)
 
-        pub set-past : length (row_at is_in pipes) ≤ e → pipe_at is_in e after_set ≡ None
+        set-past : length (row_at is_in pipes) ≤ e → pipe_at is_in e after_set ≡ None
         set-past h = grind (arith, replaced-past, set_row-at)
 
         set_mark-named : lost_at is_in e after_set ≡ None
         set_mark-named = grind (arith, replaced-all, set_marks-at)
 
-        pub loss-named : pipe_at is_in e after_loss ≡ None
+        loss-named : pipe_at is_in e after_loss ≡ None
         loss-named = grind (arith, loss_row-at, replaced-all)
 
         loss_mark-named : e < length (lost_row is_in pipes) → lost_at is_in e after_loss
@@ -184,7 +180,7 @@ module _ (device : Accepted) (below_hub : Bool) (interface setting : ℕ) (pipes
 
     module _ (are : AreFunctionPipes device below_hub pipes)
         (has : settable_in interface setting config_text ≡ true) (byte : interface < 256) where
-      abbrev now : List ℕ
+      abbrev pub now : List ℕ
       now = with_setting interface setting are.settings
 
       -- where the interface has an endpoint, its setting alone counts
@@ -226,7 +222,7 @@ module _ (device : Accepted) (below_hub : Bool) (interface setting : ℕ) (pipes
         marked pipe mark is = grind arith
 
         old_past : 16 ≤ e → Place (end_under are.settings device is_in e) None None
-        old_past h = rw (none_at are.settings device is_in e h) tt
+        old_past h = grind (arith, none_at)
 
         loss_place : length (lost_row is_in pipes) ≡ 16
             → Place (end_under are.settings device is_in e) (lost_at is_in e after_loss)
@@ -294,12 +290,12 @@ loss_kept device below_hub interface setting pipes v f = record {
 module _ (device : Accepted) (below_hub : Bool) (interface setting : ℕ) (pipes : FunctionPipes)
     (placed : AreInPlace pipes) (s v : State) (took : TookSetting interface setting s v)
     (f : FunctionInSync device pipes s) where
-  abbrev text : List ℕ
+  abbrev pub text : List ℕ
   text = configuration_of device
 
   -- What the device is then
 
-  text_is : text_of v.spec v.registers ≡ text_of s.spec s.registers
+  pub text_is : text_of v.spec v.registers ≡ text_of s.spec s.registers
   text_is = grind arith
 
   tells_is : tells_changes v.spec v.registers ≡ tells_changes s.spec s.registers
@@ -388,7 +384,7 @@ module _ (device : Accepted) (below_hub : Bool) (interface setting : ℕ) (pipes
   module _ (has : settable_in interface setting text ≡ true) (byte : interface < 256)
       (offers : offers_setting s interface setting ≡ true) where
     -- while this interface has the setting, and each other one setting 0
-    abbrev new_end : Bool → ℕ → Option UsableEndpoint
+    abbrev pub new_end : Bool → ℕ → Option UsableEndpoint
     new_end = end_under (with_setting interface setting default_settings) device
 
     configured : (s.registers.configuration == 0) ≡ false

@@ -64,12 +64,12 @@ module _ (pipe : PipeState) (pipes : FunctionPipes) where
       → pipe_at is_in e (with_pipe pipe pipes) ≡ pipe_at is_in e pipes
   at_elsewhere is_in e h = grind (arith, at_other)
 
-  pub first_with : (is_in : Bool)
+  first_with : (is_in : Bool)
       → first_number is_in (with_pipe pipe pipes) ≡ first_number is_in pipes
   first_with is_in = grind arith
 
   -- the marks stay
-  pub lost_with : (is_in : Bool) (e : ℕ)
+  lost_with : (is_in : Bool) (e : ℕ)
       → lost_at is_in e (with_pipe pipe pipes) ≡ lost_at is_in e pipes
   lost_with is_in e = grind arith
 
@@ -81,7 +81,7 @@ module _ (pipe : PipeState) (pipes : FunctionPipes) where
       → pipe_made pipe ≡ pipe_made was → function_made (with_pipe pipe pipes) ≡ function_made pipes
   with_made was at same = grind (arith, row_made-with)
 
-pub lost_first : (is_in : Bool) (pipe : PipeState) (pipes : FunctionPipes)
+lost_first : (is_in : Bool) (pipe : PipeState) (pipes : FunctionPipes)
     → first_lost is_in (with_pipe pipe pipes) ≡ first_lost is_in pipes
 lost_first is_in pipe pipes = grind (arith, first_with, lost_with)
 
@@ -91,7 +91,7 @@ pub same_way : (pipe left : PipeState) → pipe_made left ≡ pipe_made pipe →
 same_way pipe left same = grind arith
 
 pub same_number : (pipe left : PipeState) → pipe_made left ≡ pipe_made pipe → left.ep ≡ pipe.ep
-same_number pipe left same = ap (λ (p : PipeState). p.ep) same
+same_number pipe left same = grind arith
 
 pub made_with : (pipe left : PipeState) (pipes : FunctionPipes)
     → pipe_at pipe.is_in pipe.ep pipes ≡ Some pipe → pipe_made left ≡ pipe_made pipe
@@ -103,7 +103,7 @@ at_row : (is_in : Bool) (e : ℕ) (pipes : FunctionPipes)
     → pipe_at is_in e (function_made pipes) ≡ option_map pipe_made (pipe_at is_in e pipes)
 at_row is_in e pipes = grind (arith, at_mapped)
 
-pub at_made : (is_in : Bool) (e : ℕ) (pipes left : FunctionPipes)
+at_made : (is_in : Bool) (e : ℕ) (pipes left : FunctionPipes)
     → function_made left ≡ function_made pipes
     → option_map pipe_made (pipe_at is_in e left) ≡ option_map pipe_made (pipe_at is_in e pipes)
 at_made is_in e pipes left same =
@@ -111,7 +111,7 @@ at_made is_in e pipes left same =
 
 -- Pipes that are picked
 
-pub place_of : (pipes : FunctionPipes) → AreInPlace pipes → (is_in : Bool) (e : ℕ)
+place_of : (pipes : FunctionPipes) → AreInPlace pipes → (is_in : Bool) (e : ℕ)
     (pipe : PipeState) → pipe_at is_in e pipes ≡ Some pipe → (pipe.is_in ≡ is_in) × (pipe.ep ≡ e)
 place_of pipes placed is_in e pipe at = grind arith
 
@@ -143,7 +143,7 @@ abbrev pub Picks : (FunctionPipes → Option PipeState) → Type 0
 Picks pick = (pipes : FunctionPipes) (pipe : PipeState) → AreInPlace pipes
     → pick pipes ≡ Some pipe → PickedAt pick pipes pipe
 
-pub at_picks : (is_in : Bool) (e : ℕ) → Picks (pipe_at is_in e)
+at_picks : (is_in : Bool) (e : ℕ) → Picks (pipe_at is_in e)
 at_picks is_in e = grind (arith, at_with, place_of, same_number, same_way)
 
 pub to_picks : (a : ℕ) → Picks (pipe_to a)
@@ -156,7 +156,7 @@ at_first is_in pipes = pipe_if is_in (first_number is_in pipes) pipes
 number_picks : (is_in : Bool) → Picks (at_first is_in)
 number_picks is_in = grind (arith, at_picks, first_with)
 
-pub only_some : (test : PipeState → Bool) (o : Option PipeState) (pipe : PipeState)
+only_some : (test : PipeState → Bool) (o : Option PipeState) (pipe : PipeState)
     → only_if test o ≡ Some pipe → (o ≡ Some pipe) × (test pipe ≡ true)
 only_some test o pipe h = grind arith
 
@@ -260,8 +260,7 @@ IsRest (Some pipe) None = ⊥
 IsRest (Some pipe) (Some left) = pipe_made left ≡ pipe_made pipe
 
 pub same_rest : (pipe : Option PipeState) → IsRest pipe pipe
-same_rest None = refl
-same_rest (Some pipe) = refl
+same_rest pipe = grind arith
 
 -- it goes the same way
 pub rest_way : (is_in : Bool) (o rest : Option PipeState)
@@ -325,8 +324,7 @@ way_to-one is_in a pipes pipe at = grind arith
 -- A transfer leaves pipes to the same endpoints.
 
 pub broken_or_not : (c : Condition) → (c ≡ Broken) ⊎ (c ≢ Broken)
-broken_or_not Broken = inl refl
-broken_or_not _ = inr (λ h. cc)
+broken_or_not c = grind arith
 
 pub empty_or_not : (xs : List ℕ) → (xs ≡ []) ⊎ (xs ≢ [])
 empty_or_not [] = inl refl

@@ -143,7 +143,7 @@ lists_of_plan plan is paths w c options entries m =
 
 -- A listing: a hub at a root port, and a device that is silent at the hub's second port.
 
-abbrev silent_function : Spec
+abbrev pub silent_function : Spec
 silent_function = record small { silent = true }
 
 abbrev listed_hub : Accepted
@@ -158,7 +158,7 @@ listed_hub = record {
   chosen_in = omega arith;
 }
 
-abbrev tree : SpecTree
+abbrev pub tree : SpecTree
 tree path = lookup (is_at (path_cmp path)) ((1 ∷ [], two_ports) ∷ (1 ∷ 2 ∷ [], silent_function) ∷
     [])
 
@@ -222,7 +222,7 @@ rising : Rises example_entries
 unfolding IsStrictlySortedBy
 rising = ((refl, tt), (tt, tt))
 
-pub listed : Lists (usual_options false) 1 tree example_entries
+listed : Lists (usual_options false) 1 tree example_entries
 listed =
     record {
       rises = rising;

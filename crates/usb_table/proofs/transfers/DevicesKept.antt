@@ -47,7 +47,7 @@ use Rattle.usb_table.proofs.levels.StandingPipes.{broken_or_not, empty_or_not}
 abbrev pub RanAs : Location → State → State → Type 0
 RanAs j s v = Ran s v
 
-data IsBulkAttempt (a : Attempt) : Type 0 where
+pub data IsBulkAttempt (a : Attempt) : Type 0 where
   into : IsIn a → (a.ep == 0) ≡ false → IsBulkAttempt a
   out : (t : Toggle) (bytes : List ℕ) → IsOut a t bytes → (a.ep == 0) ≡ false → IsBulkAttempt a
 
@@ -77,7 +77,7 @@ each_far a w (out t bytes i far) m single =
     (after (attempt a) w) (each_out a w t bytes m i single)
 
 each_itself : (w : World) → EachWas RanAs w w
-each_itself w = each_none RanAs (λ j s. (refl, refl, refl)) w
+each_itself w = grind (arith, each_none)
 
 each_ran_then : (u w v : World) → EachWas RanAs u w → EachWas RanAs w v → EachWas RanAs u v
 each_ran_then u w v x y = each_joined RanAs RanAs RanAs
@@ -117,7 +117,7 @@ pub record Spared (old new : World) : Type 0 where
   pub rests : new.fault ≡ None → TouchesNoPort old new
   pub backlog : new.fault ≡ None → KeepsAll old new
 
-abbrev IsFarStep : Step → Type 0
+abbrev pub IsFarStep : Step → Type 0
 IsFarStep s = (a : Attempt) × (s ≡ attempt a) × IsBulkAttempt a
 
 any_stays : (s : Step) (w : World) → IsFarStep s → IsSettled w.roots → (after s w).shared ≡ false
@@ -135,7 +135,7 @@ any_keeps m v r few s w (a, e, far) settled = rw e (λ ports.
 
 module _ (K : Step → World → Type 0) (far : (s : Step) (w : World) → K s w → IsFarStep s) where
   course_stays : {w v : World} → Course K w v → IsSettled w.roots → v.shared ≡ false → Stayed w v
-  course_stays (here w) settled single = record { before = single; each = each_itself w }
+  course_stays (here w) settled single = grind (arith, each_itself)
   course_stays (step s {w} {v} k c) settled single =
       let rest = course_stays c (settled_after s w settled) single in
       let first = any_stays s w (far s w k) settled rest.before in
@@ -316,7 +316,7 @@ module _ (pipe : PipeState) (far : pipe.ep ≢ 0) (old : World)
 -- CLEAR_FEATURE(ENDPOINT_HALT)
 
 -- an endpoint halts no more, or the request is refused
-abbrev IsOfEndpoint : Outcome → Type 0
+abbrev pub IsOfEndpoint : Outcome → Type 0
 IsOfEndpoint o = (o ≡ stalled) ⊎ ((which : ServedEndpoint) × (o ≡ unhalts which))
 
 of_endpoint : (which : Option ServedEndpoint) → IsOfEndpoint (on_endpoint unhalts which)
@@ -358,11 +358,11 @@ module _ (endpoint : ℕ) where
   unfolding clear_endpoint_halt
   clear_sets_none = refl
 
-  pub clear_length : (clear_endpoint_halt endpoint).length ≡ 0
+  clear_length : (clear_endpoint_halt endpoint).length ≡ 0
   unfolding clear_endpoint_halt
   clear_length = refl
 
-pub cleared_ordered : (pipe : PipeState) (old : World) (result : Result (Unit {0}) PipeFault)
+cleared_ordered : (pipe : PipeState) (old : World) (result : Result (Unit {0}) PipeFault)
     (left : PipeState) (new : World) → Cleared pipe old result left new
     → Commanded pipe.target (clear_endpoint_halt (halt_address pipe.ep pipe.is_in)) old result new
 cleared_ordered pipe old result left new x = record {
@@ -394,8 +394,7 @@ cleared_keeps_settings pipe old result left new x = record {
 }
 
 pub sent_or_not : (b : Bool) → (b ≡ false) ⊎ (b ≡ true)
-sent_or_not false = inl refl
-sent_or_not true = inr refl
+sent_or_not b = grind arith
 
 module _ (is_sent : Bool) (pipe : PipeState) (old : World)
     (answer : Result (Unit {0}) PipeFault) (left : PipeState) (new : World)

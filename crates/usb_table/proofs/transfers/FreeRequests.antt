@@ -73,26 +73,22 @@ IsAllowed to_hub (tells_halt endpoint) = Unit {0}
 IsAllowed to_hub o = ⊥
 
 module _ (to_hub : Bool) where
-  abbrev Fine : Outcome → Type 0
+  abbrev pub Fine : Outcome → Type 0
   Fine = IsAllowed to_hub
 
   either_fine : (b : Bool) (x y : Outcome) → Fine x → Fine y → Fine (if b then x else y)
-  either_fine true x y h g = h
-  either_fine false x y h g = g
+  either_fine b x y h g = grind arith
 
   not_asked : (b : Bool) (x y : Outcome) → b ≡ false → Fine y → Fine (if b then x else y)
-  not_asked true x y e g = cc e
-  not_asked false x y e g = g
+  not_asked b x y e g = grind arith
 
   where_asked : (b : Bool) (x y : Outcome) → (b ≡ true → Fine x) → Fine y
       → Fine (if b then x else y)
-  where_asked true x y h g = h refl
-  where_asked false x y h g = g
+  where_asked b x y h g = grind arith
 
   text_fine : (o : Option (List ℕ)) → Fine (elim o
       as (λ _. Outcome) [ None ↦ stalled | Some text ↦ answers text ])
-  text_fine None = tt
-  text_fine (Some text) = tt
+  text_fine o = grind arith
 
   descriptor_fine : (s : Spec) (value : ℕ) → Fine (asked_descriptor s value)
   descriptor_fine s value = grind (arith, either_fine, text_fine)
@@ -101,19 +97,16 @@ module _ (to_hub : Bool) where
   hub_fine s r = grind (arith, either_fine)
 
   port_fine : (i : Option ℕ) → Fine (told_port i)
-  port_fine None = tt
-  port_fine (Some i) = tt
+  port_fine i = grind arith
 
   told_fine : (which : Option ServedEndpoint) → Fine (told_halt which)
-  told_fine None = tt
-  told_fine (Some which) = tt
+  told_fine which = grind arith
 
   endpoint_fine : (s : Spec) (g : Registers) (r : Setup) → Fine (asked_endpoint_status s g r)
   endpoint_fine s g r = grind (arith, either_fine, told_fine)
 
   halt_fine : (which : Option ServedEndpoint) → to_hub ≡ false → Fine (on_endpoint halts which)
-  halt_fine None e = tt
-  halt_fine (Some which) e = e
+  halt_fine which e = grind arith
 
   clear_fine : (s : Spec) (g : Registers) (r : Setup) → (r.value == ENDPOINT_HALT) ≡ false
       → Fine (on_endpoint unhalts (endpoint_of s g r))

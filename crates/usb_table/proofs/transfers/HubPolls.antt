@@ -8,7 +8,7 @@ use Rattle.arrayvec.specs.ArrayVec.{ArrayVec}
 use Rattle.usb_device.specs.{State, Spec, place, reach, Location, path_to, state_there, reach_on}
 use Rattle.usb_device.specs.{change_bytes, hub_ports, state_on, told_bits}
 use Rattle.usb_world.specs.{Attempt, Outcome, is_setup, Was, EachWas, LeavesPortAlone, Course, here}
-use Rattle.usb_world.specs.{attempt, at_attempt, Relation, World}
+use Rattle.usb_world.specs.{at_attempt, Relation, World}
 use Rattle.usb_tree.specs.{address_of, IsSettled}
 use Rattle.usb_world.proofs.Interface.{course_then, data_asks_nothing, each_none}
 use Rattle.usb_bus.specs.{StepRun}
@@ -40,8 +40,7 @@ trail_rests : (x : List ℕ) {a : Attempt} {old mid : World} {outcomes : List Ou
     → Course (LeavesPortAlone x) old mid
 trail_rests x kind AttemptLog.start settled = here _
 trail_rests x {a} kind (AttemptLog.next w t m) settled =
-    course_then (attempt a) (trail_rests x kind t settled)
-    (data_asks_nothing a w x kind (trail_settled t settled))
+    grind (arith, trail_rests x kind t settled, course_then, data_asks_nothing, trail_settled)
 
 -- A poll of the hub at a path
 
@@ -242,7 +241,7 @@ module _ (path : List ℕ) (device : Accepted) (pipe rest : Interrupt) (old new 
   same_one : (d : Accepted) → accepted_device_at path old.entries ≡ Some d → device ≡ d
   same_one d e = same_Some device d (sym stands ∙ e)
 
-  pub hub_polled : KeepsPolled path old before result new after
+  hub_polled : KeepsPolled path old before result new after
   hub_polled = grind (arith, hub_levels, hub_served, hub_spares, hub_told, ok_got, same_one)
 
 -- Whatever stands there
@@ -285,8 +284,7 @@ module _ (path : List ℕ) (old new : Table) (before after : World)
 took_by : (old : World) (result : Result (Option (ArrayVec ℕ)) PipeFault) (new : World)
     → MatchResult result (λ _. AttemptsMade 1 old new) (λ fault. FaultAfter 0 old fault new)
     → PollTook old result new
-took_by old (Ok None) new ends = tt
-took_by old _ new ends = ends
+took_by old result new ends = grind arith
 
 polled_took : (pipes left : Pipes) (old : World) (result : Result (Option (ArrayVec ℕ)) PipeFault)
     (new : World) → PipesPolled pipes old result left new → PollTook old result new

@@ -117,13 +117,13 @@ module _ (device : Accepted) (below_hub : Bool) (interface setting : ℕ) (pipes
 module _ (path : List ℕ) (interface setting : ℕ) (byte : interface < 256) (old new : Table)
     (before after : World) (text now : Option (List ℕ)) (goes : GoesThrough path old new)
     (went : StepRun write_bound before text after now) (result : Result (Unit {0}) TableFault) where
-  abbrev target : Result Target TransferFault
+  abbrev pub target : Result Target TransferFault
   target = interface_target path interface setting old.entries
 
-  abbrev set : Result (Unit {0}) PipeFault → Pipes → Pipes
+  abbrev pub set : Result (Unit {0}) PipeFault → Pipes → Pipes
   set = pipes_set (accepted_device_at path old.entries) (is_below_hub path) interface setting
 
-  abbrev Told : Type 0
+  abbrev pub Told : Type 0
   Told = TableSetsInterface path interface setting old before text result new after now
 
   -- it was not sent
@@ -149,7 +149,7 @@ module _ (path : List ℕ) (interface setting : ℕ) (byte : interface < 256) (o
     left = function_set device (is_below_hub path) interface setting x.answer pipes
 
     left_is : pipes_at path new ≡ Function left
-    left_is = rw (found, was) at x.left_is
+    left_is = grind arith
 
     moves : EachMoves device device.address (after.fault ≡ None) (Function pipes) (Function left)
         before after

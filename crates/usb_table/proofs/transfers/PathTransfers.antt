@@ -64,7 +64,7 @@ pub synced_if : (device : Accepted) (found : Option Accepted) → found ≡ Some
 synced_if device found e pipes s f = rw e f
 
 -- nothing was tried
-pub none_changes : (path : List ℕ) (So : State → State → Type 0) (old new : World) → new ≡ old
+none_changes : (path : List ℕ) (So : State → State → Type 0) (old new : World) → new ≡ old
     → PathReaches path old (λ s. So s s) → EachWas (ChangesAt path So) old new
 none_changes path So old new same so = rw same each
   where
@@ -161,7 +161,7 @@ module _ (path : List ℕ) (old : Table) (before after : World) where
   none_there result fault e same asked So so = grind (arith, none_changes)
 
   -- it was tried, with this answer
-  pub moved_there : {A : Type 0} (answer : Result A PipeFault) (done : Bool)
+  moved_there : {A : Type 0} (answer : Result A PipeFault) (done : Bool)
       → is_ok answer ≡ done → IsHeld old before → (device : Accepted)
       → accepted_device_at path old.entries ≡ Some device → (t : Target) → t.addr ≡ device.address
       → (asked : Type 0) (L : Relation) (So : State → State → Type 0)
@@ -311,7 +311,7 @@ module _ (path : List ℕ) (packets : ℕ) (old new : Table) (before after : Wor
 abbrev Answer : Type 0
 Answer = Result (Option (ArrayVec ℕ)) PipeFault
 
-abbrev Told : Type 0
+abbrev pub Told : Type 0
 Told = Result (Option (ArrayVec ℕ)) TableFault
 
 -- a pipe's answer tells the packet that the table's does

@@ -63,7 +63,7 @@ pub record IsAsked (below_hub : Bool) (found : Option Accepted) (t : Target) : T
   pub is : found ≡ Some device
   pub target : t ≡ target_of device below_hub
 
-pub asked_of : (below_hub : Bool) (found : Option Accepted) (t : Target)
+asked_of : (below_hub : Bool) (found : Option Accepted) (t : Target)
     → target_asked below_hub found ≡ Ok t → IsAsked below_hub found t
 asked_of below_hub None t e = absurd (cc e)
 asked_of below_hub (Some device) t e = record { device = device; is = refl; target = cc e }
@@ -94,7 +94,7 @@ module _ {A : Type 0} (Leaves : TransferLeaves A) (path : List ℕ) (request : S
     (target : Result Target TransferFault) (asks : target ≡ Ok t) (answer : Result A PipeFault)
     (x : IsPlain path table t answer (Leaves t answer old new) old new) where
   addressed : t.addr ≡ asked.device.address
-  addressed = ap (λ (y : Target). y.addr) asked.target
+  addressed = grind (arith, asked)
 
   plain_worlds : OnlyTransfers old new
   plain_worlds = record {
@@ -137,7 +137,7 @@ module _ {A : Type 0} (Leaves : TransferLeaves A) (path : List ℕ) (request : S
   }
 
   -- it was made
-  pub made_controls : (Is : TransferIs A) {text now : Option (List ℕ)} (result : Result A
+  made_controls : (Is : TransferIs A) {text now : Option (List ℕ)} (result : Result A
       TableFault)
       → StepRun (control_most request.length) old text new now → Is t old answer new
       → result ≡ table_answer answer
@@ -171,7 +171,7 @@ bus_told k answer old new ends fault e = grind arith
 
 -- Reads
 
-pub read_is_plain : (path : List ℕ) (table : Table) (t : Target) (request : Setup) (old : World)
+read_is_plain : (path : List ℕ) (table : Table) (t : Target) (request : Setup) (old : World)
     (answer : Result (Vec ℕ) PipeFault) (new : World) → IsToHost request
     → ControlRead t request old answer new
     → IsPlain path table t answer (ReadLeaves t request answer old new) old new
@@ -198,14 +198,14 @@ read_is_plain path table t request old answer new host x = record {
 -- A device that accepted what is allowed
 
 -- settings and toggles are as they were, and no byte moved
-pub record KeepsEnds (s v : State) : Type 0 where
-  pub settings : SameSettings root s v
-  pub moved : NothingMoved s v
-  pub out : (e : ℕ) → MayHalt (out_end s e).state (out_end v e).state
-  pub into : (e : ℕ) → MayHalt (in_end s e).state (in_end v e).state
+record KeepsEnds (s v : State) : Type 0 where
+  settings : SameSettings root s v
+  moved : NothingMoved s v
+  out : (e : ℕ) → MayHalt (out_end s e).state (out_end v e).state
+  into : (e : ℕ) → MayHalt (in_end s e).state (in_end v e).state
 
 -- no endpoint but endpoint 0 and a hub's endpoint 1 changed
-pub same_rows-kept : (s v : State) → SameSettings root s v → v.outs ≡ s.outs → v.ins ≡ s.ins
+same_rows-kept : (s v : State) → SameSettings root s v → v.outs ≡ s.outs → v.ins ≡ s.ins
     → KeepsEnds s v
 same_rows-kept s v same outs ins = grind (arith, same_halts, same_rows-moved)
 
@@ -239,7 +239,7 @@ module _ (s : State) (row : List PortState) (n : ℕ) where
   began_ends to_hub _ fine = absurd fine
 
   -- a device that begins what is allowed of a hub too changes only its control transfer
-  pub began_stage : (o : Outcome) → IsAllowed true o → OnlyStage s (begun s row n o)
+  began_stage : (o : Outcome) → IsAllowed true o → OnlyStage s (begun s row n o)
   began_stage o fine = grind (arith, fine)
 
   allowed_address : (to_hub : Bool) (o : Outcome) (address : Option ℕ) → IsAllowed to_hub o
@@ -258,13 +258,13 @@ module _ {to_hub : Bool} (t : Target) (request : Setup) (free : IsFree to_hub re
   fine : IsAllowed to_hub (outcome s.spec s.registers request)
   fine = outcome_fine to_hub s.spec s.registers request free
 
-  pub accepted_ends : (row : List PortState) → OnlyControl (accepted s row request) v
+  accepted_ends : (row : List PortState) → OnlyControl (accepted s row request) v
       → v.registers ≡ (accepted s row request).registers → KeepsEnds s v
   accepted_ends row frame same =
       ends_on s (accepted s row request) v (began_ends s row request.length to_hub _ fine) frame
       same
 
-  pub free_so : (Q : Type 0) → ((row : List PortState) → OnlyControl (accepted s row request) v
+  free_so : (Q : Type 0) → ((row : List PortState) → OnlyControl (accepted s row request) v
       → v.registers ≡ (accepted s row request).registers → Q)
       → (OnlyControl s v → v.registers ≡ s.registers → Q) → (result : Result (Unit {0}) PipeFault)
       → WriteLeaves t request result old new j s v → Q
@@ -279,7 +279,7 @@ module _ {to_hub : Bool} (t : Target) (request : Setup) (free : IsFree to_hub re
 out_kept : (out : Option PipeState) (s v : State) → KeepsEnds s v → FitsOut out s → FitsOut out v
 out_kept out s v x f = grind (arith, set_sink)
 
-pub into_kept : (pipe : PipeState) (got : ℕ) (s v : State) → KeepsEnds s v → InPipeInSync pipe got s
+into_kept : (pipe : PipeState) (got : ℕ) (s v : State) → KeepsEnds s v → InPipeInSync pipe got s
     → InPipeInSync pipe got v
 into_kept pipe got s v x h = grind (arith, set_source)
 
@@ -333,7 +333,7 @@ module _ {A : Type 0} (path : List ℕ) (table : Table) (t : Target) (request : 
       (λ frame same. still_level of (pipes_at path table) s v (only_stage s v frame same))
       (without_bytes answer)
 
-  pub none_is_plain : ControlWrite t request old (without_bytes answer) new
+  none_is_plain : ControlWrite t request old (without_bytes answer) new
       → IsPlain path table t answer Left old new
   none_is_plain x = record {
     addresses = write_keeps t request (same_setup request) (free_is_harmless request free)
@@ -378,7 +378,7 @@ module _ {A : Type 0} (path : List ℕ) (table : Table) (t : Target) (request : 
 module _ (path : List ℕ) (table : Table) (t : Target) (request : Setup) (bytes : List ℕ)
     {to_hub : Bool} (free : IsFree to_hub request) (old : World)
     (answer : Result (Unit {0}) PipeFault) (new : World) where
-  pub put_is_plain : DataWrite t request bytes old answer new
+  put_is_plain : DataWrite t request bytes old answer new
       → IsPlain path table t answer (DataWriteLeaves t request bytes answer old new) old new
   put_is_plain x = record {
     addresses = put_keeps t request (same_setup request) (free_is_harmless request free)
@@ -412,7 +412,7 @@ pub told_error : {A : Type 0} (why : PipeFault) (result : Result A TableFault) �
 told_error why result err said = grind arith
 
 -- the pipes to the device that is asked
-pub asked_pipes : (path : List ℕ) (table : Table) (t : Target)
+asked_pipes : (path : List ℕ) (table : Table) (t : Target)
     → ArePipesAt path table
     → (x : IsAsked (is_below_hub path) (accepted_device_at path table.entries) t)
     → ArePipesTo x.device (is_below_hub path) (pipes_at path table)
@@ -425,7 +425,7 @@ module _ (path : List ℕ) (request : Setup) (host : IsToHost request) (table : 
     (asks : control_target path table.entries ≡ Ok t)
     (answer : Result (Vec ℕ) PipeFault) (told : result ≡ table_answer answer)
     (went : StepRun (control_most request.length) old text new now) where
-  asked : IsAsked (is_below_hub path) (accepted_device_at path table.entries) t
+  pub asked : IsAsked (is_below_hub path) (accepted_device_at path table.entries) t
   asked = asked_of (is_below_hub path) (accepted_device_at path table.entries) t asks
 
   reads_by : (b : Bool) → ReadIf b request t old answer new
@@ -458,7 +458,7 @@ unreserved_of : (b : Bool) (target : Result Target TransferFault) (t : Target)
     → unreserved b target ≡ Ok t → (b ≡ false) × (target ≡ Ok t)
 unreserved_of b target t is = grind arith
 
-pub written_of : (below_hub : Bool) (request : Setup) (found : Option Accepted) (t : Target)
+written_of : (below_hub : Bool) (request : Setup) (found : Option Accepted) (t : Target)
     → write_asked below_hub request found ≡ Ok t → IsWritten below_hub request found t
 written_of below_hub request None t is = absurd (cc is)
 written_of below_hub request (Some device) t is =
@@ -469,8 +469,7 @@ written_of below_hub request (Some device) t is =
     }
 
 unit_same : (answer : Result (Unit {0}) PipeFault) → without_bytes answer ≡ answer
-unit_same (Ok done) = refl
-unit_same (Err why) = refl
+unit_same answer = grind arith
 
 module _ (path : List ℕ) (request : Setup) (bytes : List ℕ) (writes : IsToDevice request)
     (table : Table) (fits : ArePipesAt path table) {old : World} {text : Option (List ℕ)}
@@ -478,10 +477,10 @@ module _ (path : List ℕ) (request : Setup) (bytes : List ℕ) (writes : IsToDe
     (asks : write_target path request table.entries ≡ Ok t)
     (answer : Result (Unit {0}) PipeFault) (told : result ≡ table_answer answer)
     (went : StepRun (control_most request.length) old text new now) where
-  written : IsWritten (is_below_hub path) request (accepted_device_at path table.entries) t
+  pub written : IsWritten (is_below_hub path) request (accepted_device_at path table.entries) t
   written = written_of (is_below_hub path) request (accepted_device_at path table.entries) t asks
 
-  free : IsFree (is_some written.asked.device.hub) request
+  pub free : IsFree (is_some written.asked.device.hub) request
   free = grind (arith, unreserved_is_free, written)
 
   writes_by : (b : Bool) → WriteIf b request bytes t old answer new
@@ -561,4 +560,4 @@ module _ (t : Target) (request : Setup) (host : IsToHost request)
   left_stage false left = left.frame
 
   pub read_spares : ReadLeft request t answer old new j s v → SparesBulk j s v
-  read_spares left = spares-stage j s v (left_stage (request.length == 0) left)
+  read_spares left = grind (arith, left_stage, spares-stage)

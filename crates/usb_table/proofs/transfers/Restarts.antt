@@ -66,10 +66,10 @@ cleared_rest pipe left old answer new x = grind arith
 -- One device at the address, over the clear of one pipe or of both
 
 -- a call is done only if the answer is one of success; where it ends so, that is not the bus's own
-record FitsAnswer (ends : Type 0) (done : Bool) (answer : Result (Unit {0}) PipeFault)
+pub record FitsAnswer (ends : Type 0) (done : Bool) (answer : Result (Unit {0}) PipeFault)
     : Type 0 where
-  sure : ends → (why : BusFault) → answer ≢ Err (pipe_fault.Bus why)
-  less : done ≡ true → is_ok answer ≡ true
+  pub sure : ends → (why : BusFault) → answer ≢ Err (pipe_fault.Bus why)
+  pub less : done ≡ true → is_ok answer ≡ true
 
 module _ (device : Accepted) (ends : Type 0) (is_sent : PipeState → Bool) (done : Bool) where
   -- the halts of the pipes of both directions, if there is one, were cleared
