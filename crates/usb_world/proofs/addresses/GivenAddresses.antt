@@ -31,7 +31,7 @@ use Rattle.usb_world.proofs.holders.HolderPorts.{other_rests}
 -- PORT_RESET of a root port gives the device there address 0, and leaves the others theirs.
 
 -- below a device that was just reset none is reached
-pub new_below : (k : Ports) (i : ℕ) (p : List ℕ) (m : ℕ) (r : List ℕ) → IsNew (place_at k i p)
+new_below : (k : Ports) (i : ℕ) (p : List ℕ) (m : ℕ) (r : List ℕ) → IsNew (place_at k i p)
     → reach_at k i (p ++ (m ∷ r)) ≡ false
 unfolding place_at reach_at
 new_below (vacant b k) (suc i) p m r h = new_below k i p m r h
@@ -42,7 +42,7 @@ new_below (taken b s a k) zero (suc j ∷ p) m r h =
 new_below (taken b s a k) (suc i) p m r h = new_below k i p m r h
 new_below k i p m r h = refl
 
-pub is_new-zero : (x : Option Place) → IsNew x → option_map address_of (stands x) ≡ Some 0
+is_new-zero : (x : Option Place) → IsNew x → option_map address_of (stands x) ≡ Some 0
 is_new-zero x h = grind arith
 
 -- a device that is reached and not reset
@@ -86,7 +86,7 @@ module _ (f : List ℕ → Option ℕ) (k : Ports) (i : ℕ) where
         (subst (λ x. reach_at reset_ports x (n ∷ p) ≡ false) (sym e)
         (new_below reset_ports i [] n p new)) ∙ h)
 
-    pub reset_given : (j : ℕ) (p : List ℕ) → reach_at reset_ports j p ≡ true → Given j p
+    reset_given : (j : ℕ) (p : List ℕ) → reach_at reset_ports j p ≡ true → Given j p
     reset_given j p h = grind (arith, at_it, elsewhere, same_number-is)
 
 pub reset_own : (f : List ℕ → Option ℕ) (n : ℕ) (w : World)
@@ -164,7 +164,7 @@ module _ (a : Attempt) (w : World) (h : HolderIn a w) (bytes : List ℕ) (is : I
   where
     open h use {spot.{row as j, rest as p}, own as s, below}
 
-    abbrev k : Ports
+    abbrev pub k : Ports
     k = (at_attempt w).roots
 
     abbrev target : List ℕ
@@ -310,13 +310,13 @@ module _ (a : Attempt) (w : World) (h : HolderIn a w) (into : IsIn a) (n : ℕ)
     (stage : h.own.stage ≡ ending (Some n)) where
   open h use {spot.{row as j, rest as p}, own as s, below}
 
-  abbrev ready_ports : Ports
+  abbrev pub ready_ports : Ports
   ready_ports = (at_attempt w).roots
 
   abbrev pub ends : Bool
   ends = ends_status a (damage_in (at_attempt w)) ready_ports (deep_at false p) s
 
-  abbrev address_then : ℕ
+  abbrev pub address_then : ℕ
   address_then = if ends then n else address_of s
 
   kind : is_setup a.kind ≡ false
@@ -349,7 +349,7 @@ module _ (a : Attempt) (w : World) (h : HolderIn a w) (into : IsIn a) (n : ℕ)
       ∙ ap₂ (λ u v. u && v) (self_number j) (self_path p))
 
   module _ (f : List ℕ → Option ℕ) (own : HoldsMapped f w) where
-    abbrev g : List ℕ → Option ℕ
+    abbrev pub g : List ℕ → Option ℕ
     g q = if same_path (suc j ∷ p) q then Some address_then else f q
 
     taken_there : (i : ℕ) (e : List ℕ) → suc i ∷ e ≡ suc j ∷ p → same_path (suc j ∷ p) (suc i ∷ e)

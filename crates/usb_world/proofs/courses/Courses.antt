@@ -35,8 +35,6 @@ use Rattle.std.specs.Prelude.{⊤}
 use Rattle.std.specs.Option.{IfSome}
 use Rattle.usb_world.proofs.ports.SanePorts.{sane_path, sane_new_ports, sane_called, sane_replaced}
 
--- What a step of the world does to reachable, live and pending, and what whole courses do.
-
 -- Undisturbed
 
 undisturbed_here : (w v : World) (p : List ℕ) → w.left ≡ v.left → v.devices ≡ w.devices

@@ -44,36 +44,36 @@ pub record StandAlike (k m : Ports) : Type 0 where
   pub device : (i : ℕ) (e : List ℕ) (s : State) → state_at k i e ≡ Some s
       → StillStands s (state_at m i e)
 
-pub record SameDevices (k m : Ports) : Type 0 where
-  pub port : (i : ℕ) (e : List ℕ) → port_at m i e ≡ port_at k i e
-  pub reach : (i : ℕ) (e : List ℕ) → reach_at m i e ≡ reach_at k i e
-  pub selves : (i : ℕ) (e : List ℕ) → option_map self_of (state_at m i e)
+record SameDevices (k m : Ports) : Type 0 where
+  port : (i : ℕ) (e : List ℕ) → port_at m i e ≡ port_at k i e
+  reach : (i : ℕ) (e : List ℕ) → reach_at m i e ≡ reach_at k i e
+  selves : (i : ℕ) (e : List ℕ) → option_map self_of (state_at m i e)
       ≡ option_map self_of (state_at k i e)
 
-pub alike_self : (k : Ports) → SameDevices k k
+alike_self : (k : Ports) → SameDevices k k
 alike_self k = grind arith
 
-pub alike_joined : {k m n : Ports} → SameDevices k m → SameDevices m n → SameDevices k n
+alike_joined : {k m n : Ports} → SameDevices k m → SameDevices m n → SameDevices k n
 alike_joined x y = grind arith
 
-pub alike_vacant : (b : PortState) (k m : Ports) → SameDevices k m
+alike_vacant : (b : PortState) (k m : Ports) → SameDevices k m
     → SameDevices (vacant b k) (vacant b m)
 unfolding port_at reach_at state_at
 alike_vacant b k m h = grind arith
 
-pub alike_taken : (b : PortState) (s z : State) (a c k m : Ports) → self_of z ≡ self_of s
+alike_taken : (b : PortState) (s z : State) (a c k m : Ports) → self_of z ≡ self_of s
     → SameDevices a c → SameDevices k m → SameDevices (taken b s a k) (taken b z c m)
 unfolding port_at reach_at state_at
 alike_taken b s z a c k m own lower h = grind arith
 
-pub alike_forgotten : (k : Ports) → SameDevices k (all_forgotten k)
+alike_forgotten : (k : Ports) → SameDevices k (all_forgotten k)
 unfolding all_forgotten
 alike_forgotten ended = alike_self ended
 alike_forgotten (vacant b k) = alike_vacant b k _ (alike_forgotten k)
 alike_forgotten (taken b s a k) = alike_taken b s (forgotten s) a _ k
     _ refl (alike_forgotten a) (alike_forgotten k)
 
-pub stand_alike : (k m : Ports) → SameDevices k m → StandAlike k m
+stand_alike : (k m : Ports) → SameDevices k m → StandAlike k m
 stand_alike k m h = grind arith
 
 -- Tokens, and data after an OUT token, ask nothing of ports and leave each device its address and
@@ -83,20 +83,20 @@ abbrev pub is_nothing : RememberedPacket → Bool
 is_nothing Nothing = true
 is_nothing m = false
 
-abbrev pub remembers_no_setup : RememberedPacket → Bool
+abbrev remembers_no_setup : RememberedPacket → Bool
 remembers_no_setup SetupSeen = false
 remembers_no_setup m = true
 
-abbrev pub no_out : RememberedPacket → Bool
+abbrev no_out : RememberedPacket → Bool
 no_out (OutSeen e) = false
 no_out m = true
 
-abbrev pub any_memory : RememberedPacket → Bool
+abbrev any_memory : RememberedPacket → Bool
 any_memory m = true
 
 -- bytes that leave a device that remembers such a thing as it is, but for what it remembers then
 -- and how far its transfers are
-pub record Mild (old new : RememberedPacket → Bool) (c : Content) : Type 0 where
+record Mild (old new : RememberedPacket → Bool) (c : Content) : Type 0 where
   pub wider : (m : RememberedPacket) → old m ≡ true → new m ≡ true
   pub own : (s : State) (row : List PortState) → old s.memory ≡ true → self_of (reply_to c s row).1
       ≡ self_of s
@@ -104,24 +104,24 @@ pub record Mild (old new : RememberedPacket → Bool) (c : Content) : Type 0 whe
       → new (reply_to c s row).1.memory ≡ true
   pub calm : (s : State) → old s.memory ≡ true → asked_by c s ≡ Leaves
 
-pub record MildAnswer (old new : RememberedPacket → Bool) (q : Sent) (deep : Bool) (s : State)
+record MildAnswer (old new : RememberedPacket → Bool) (q : Sent) (deep : Bool) (s : State)
     (a : Ports) : Type 0 where
   pub own : self_of (answer_of q deep s a).1 ≡ self_of s
   pub after : new (answer_of q deep s a).1.memory ≡ true
   pub calm : effect_of q deep s ≡ Leaves
 
-pub mild_answer : {old new : RememberedPacket → Bool} (q : Sent) → Mild old new q.content
+mild_answer : {old new : RememberedPacket → Bool} (q : Sent) → Mild old new q.content
     → (deep : Bool) (s : State) (a : Ports) → old s.memory ≡ true → MildAnswer old new q deep s a
 unfolding answer_of effect_of
 mild_answer {old} {new} q c deep s a h = grind arith
 
 -- one row or another
-pub reply_if : (P : Reply → Type 0) (b : Bool) (x y : Reply) → P x → P y → P (if b then x else y)
+reply_if : (P : Reply → Type 0) (b : Bool) (x y : Reply) → P x → P y → P (if b then x else y)
 reply_if P b x y h g = grind arith
 
 -- Bytes that spell nothing
 
-pub mild_broken : {old new : RememberedPacket → Bool}
+mild_broken : {old new : RememberedPacket → Bool}
     → ((m : RememberedPacket) → old m ≡ true → new m ≡ true) → new Nothing ≡ true
     → Mild old new Broken
 unfolding unread
@@ -129,11 +129,11 @@ mild_broken {old} {new} w n = grind arith
 
 -- Tokens
 
-pub mild_out : (n e : ℕ) → Mild is_nothing remembers_no_setup (Whole (Token OutTok n e))
+mild_out : (n e : ℕ) → Mild is_nothing remembers_no_setup (Whole (Token OutTok n e))
 unfolding received asks
 mild_out n e = grind arith
 
-pub mild_setup : (n e : ℕ) → Mild is_nothing no_out (Whole (Token SetupTok n e))
+mild_setup : (n e : ℕ) → Mild is_nothing no_out (Whole (Token SetupTok n e))
 unfolding received asks
 mild_setup n e = grind arith
 
@@ -151,7 +151,7 @@ calm_data : (s : State) (m : RememberedPacket) (t : Toggle) (b : List ℕ)
     → remembers_no_setup m ≡ true → asked_by_data s m t b ≡ Leaves
 calm_data s m t b h = grind arith
 
-pub mild_data : (c : Content) → IsDataOut c → Mild remembers_no_setup any_memory c
+mild_data : (c : Content) → IsDataOut c → Mild remembers_no_setup any_memory c
 unfolding received asks
 mild_data (Whole (Payload t b)) h = grind (arith, calm_data, own_payload, reply_if, self_of)
 mild_data Broken h = mild_broken (λ m h. refl) refl
@@ -159,18 +159,18 @@ mild_data _ h = elim h [ ]
 
 -- Where no OUT token is remembered, no sink grows
 
-pub grows_after_out : (s : State) (p : Packet) → no_out s.memory ≡ true → sink_grows s p ≡ true → ⊥
+grows_after_out : (s : State) (p : Packet) → no_out s.memory ≡ true → sink_grows s p ≡ true → ⊥
 grows_after_out s p h g = grind arith
 
 -- What a refused packet leaves.
 
 -- every device remembers such a thing
-unfoldable pub All : (RememberedPacket → Bool) → Ports → Type 0
+unfoldable All : (RememberedPacket → Bool) → Ports → Type 0
 All P ended = Unit {0}
 All P (vacant b k) = All P k
 All P (taken b s a k) = (P s.memory ≡ true) × All P a × All P k
 
-pub all_nothing : (k : Ports) → Rests k → All is_nothing k
+all_nothing : (k : Ports) → Rests k → All is_nothing k
 unfolding All Rests
 all_nothing ended h = tt
 all_nothing (vacant b k) h = all_nothing k h
@@ -185,9 +185,9 @@ all_wider w (taken b s a k) h = (w s.memory h.0, all_wider w a h.1, all_wider w 
 
 -- A mild packet
 
-pub record MildPacket (new : RememberedPacket → Bool) (k m : Ports) : Type 0 where
-  pub all : All new m
-  pub alike : SameDevices k m
+record MildPacket (new : RememberedPacket → Bool) (k m : Ports) : Type 0 where
+  all : All new m
+  alike : SameDevices k m
 
 mild_taken : {new : RememberedPacket → Bool} (b : PortState) (s z : State) (e : Effect)
     (a c k m : Ports) → self_of z ≡ self_of s → new z.memory ≡ true → e ≡ Leaves
@@ -200,7 +200,7 @@ mild_taken b s z e a c k m own after calm x y =
       alike = alike_taken b s z a c k m own x.alike y.alike;
     })
 
-pub mild_packet : {old new : RememberedPacket → Bool} (q : Sent) → Mild old new q.content
+mild_packet : {old new : RememberedPacket → Bool} (q : Sent) → Mild old new q.content
     → (deep : Bool) (k : Ports) → All old k → MildPacket new k (after_packet q deep k)
 unfolding All after_packet
 mild_packet q c deep ended h = record { all = tt; alike = alike_self ended }
@@ -225,7 +225,7 @@ mild_packet {old} {new} q c deep (taken b s a k) h =
         rest
 
 -- the same where it stopped on its way
-pub mild_stopped : {old new : RememberedPacket → Bool} (q : Sent) → Mild old new q.content
+mild_stopped : {old new : RememberedPacket → Bool} (q : Sent) → Mild old new q.content
     → {deep : Bool} {k m : Ports} → Stopped q deep k m → All old k → SameDevices k m
 unfolding All
 mild_stopped q w (behind_empty {deep} {k} {m} b st) h = alike_vacant b k m (mild_stopped q w st h)
@@ -248,7 +248,7 @@ mild_stopped q w (here {deep} b s a k p on is heard grows) h =
     (alike_self k)
 
 -- where no device remembers an OUT token, no packet stops
-pub stopped_after_out : {q : Sent} {deep : Bool} {k m : Ports} → Stopped q deep k m → All no_out k
+stopped_after_out : {q : Sent} {deep : Bool} {k m : Ports} → Stopped q deep k m → All no_out k
     → ⊥
 unfolding All
 stopped_after_out (behind_empty b st) h = stopped_after_out st h
@@ -310,7 +310,7 @@ module _ (a : Attempt) (d : Option Damage) (k m : Ports) (is : IsAttempt a) (set
   token_packet = mild_sent is_nothing remembers_no_setup (token_out a d)
       (token_mild a d refl (rw cut_kind (mild_out a.addr a.ep))) k resting
 
-  pub cut_alike : SameDevices k m
+  cut_alike : SameDevices k m
   cut_alike =
       let tree : SameDevices (after_sent (token_out a d) k) c.tree =
       mild_stopped c.sent data_mild c.stopped token_packet.all in

@@ -27,8 +27,6 @@ use Rattle.usb_world.specs.{World, at_attempt, damage_in, attempt, resets, step_
 use Rattle.usb_world.specs.{sent_leaves, leaves_step, AsksNothing}
 use Rattle.usb_world.proofs.ports.SanePorts.{sane_packet, sane_forgotten}
 
--- What a packet does to reachable, live and pending, and to the devices and ports.
-
 -- a device's own state after a packet, which reaches it or does not
 abbrev pub heard_state : Sent → Bool → Bool → Option Place → Option State
 heard_state q deep on None = None
