@@ -386,7 +386,7 @@ module _ (a : Attempt) (w : World) (h : HolderIn a w) (into : IsIn a) (n : ℕ)
         same : (q : List ℕ) → g q ≡ f q
         same q = elim (decided (same_path (suc j ∷ p) q)) [
           | inl e ↦ rw (e, y) (ap (λ x. Some x) own_state ∙ sym (holder_holds a.addr ready_ports
-          its_holder).at
+              its_holder).at
               ∙ ready_own f w own (suc j ∷ p) its_holder.on ∙ ap f (sym (same_is (suc j ∷ p) q e)))
           | inr e ↦ rw e refl
         ]
