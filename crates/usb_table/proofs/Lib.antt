@@ -1,9 +1,6 @@
 pub mod entries
-pub mod FunctionCalls
-pub mod IdleCalls
 pub mod levels
 pub mod listings
 pub mod transfers
 pub mod Interface
 pub mod TransferLeaves
-pub mod ThroughPipes

@@ -1,43 +1,157 @@
 -- What a transfer through the pipes to what was found at a path leaves.
-use Rattle.std.proofs.Common.{◌≡◌, ◌≢◌, ◌⊎◌, ◌∙◌, inl, inr, refl, sym, ap, arith, ℕ, ◌*◌, ◌≤◌, List}
-use Rattle.std.proofs.Common.{length, Bool, true, false, Option, Some, None, Result, Ok, Err, IfErr}
+use Rattle.std.proofs.Common.{◌≡◌, ◌∙◌, sym, ap, refl, Bool, true, false, Option, Some, None}
+use Rattle.std.proofs.Common.{Result, Ok, Err, ◌≢◌, ◌⊎◌, inl, inr, arith, ℕ, ◌*◌, ◌≤◌, List, length}
+use Rattle.std.proofs.Common.{IfErr}
+use Rattle.usb_world.specs.{BusFault, World, HasFault, AttemptsWithin, EachWas, Relation}
+use Rattle.usb_pipe.specs.{BusToldIt, PipeFault, PipeState, is_broken, needs_clear, pipe_made}
+use Rattle.usb_pipe.specs.{ClearLeaves, PacketLeaves, ReceiveLeaves, SendLeaves, pipe_known}
+use Rattle.usb_pipe.specs.{write_bound}
+use Rattle.usb_pipe.specs.declared.fault.PipeFault.TheVariants as pipe_fault
+use Rattle.usb_table.specs.{AreInPlace, ClearedFirst, ClearedInOrder, Transfer, TransferFault}
+use Rattle.usb_table.specs.{first_unclear, ClearedThrough, Function, FunctionPipes, MovedOrRefused}
+use Rattle.usb_table.specs.{PipeDid, first_pipe, of_pipe, with_rest, PipesThrough, TableFault}
+use Rattle.usb_table.specs.{TransferTold, function_made, pipe_asked, table_answer, unless_broken}
+use Rattle.usb_table.specs.{with_pipe, pipe_at, Pipes, clears_miss, polls_miss, receives_miss}
+use Rattle.usb_table.specs.{sends_miss, EndpointChoice, accepted_device_at, is_below_hub}
+use Rattle.usb_table.specs.{TableClears, TableClearsOf, TableReceives, TableReports, TableSends}
+use Rattle.usb_table.specs.{Transferred, ArePipesIf, Table, GoesThrough, pipe_to, pipes_at}
+use Rattle.usb_table.specs.{ClearedAfter, ClearedBy, ClearedOfThrough, OnlyTransfers}
+use Rattle.usb_table.specs.{PipesClearedOf, PipesReported, ReportedThrough, polls_through}
+use Rattle.usb_table.specs.{TableFaultAllowed, PipesCleared, PipesReceived, PipesSent}
+use Rattle.usb_table.specs.{ReceivedThrough, SameSettings, SentThrough, receives_through}
+use Rattle.usb_table.specs.{sends_through}
+use Rattle.usb_table.proofs.levels.StandingPipes.{IsRest, Picks, first_beside, first_picks}
+use Rattle.usb_table.proofs.levels.StandingPipes.{first_ways, made_with, placed_made, rest_made}
+use Rattle.usb_table.proofs.levels.StandingPipes.{unclear_beside, rest_same, rest_way, with_same}
+use Rattle.usb_table.proofs.levels.StandingPipes.{far_end, in_place, polls_picks, polls_way}
+use Rattle.usb_table.proofs.levels.StandingPipes.{receives_picks, receives_way, sends_picks}
+use Rattle.usb_table.proofs.levels.StandingPipes.{sends_way, some_bytes, to_picks}
+use Rattle.usb_table.proofs.transfers.Restarts.{cleared_rest, cleared_single, in_turn_moves}
 use Rattle.std.proofs.lemmas.Grind.{common_steps}
 use Rattle.std.specs.Global.{Vec}
 use Rattle.std.specs.Int.{div_ceil}
 use Rattle.arrayvec.specs.ArrayVec.{ArrayVec}
-use Rattle.usb_world.specs.{BusFault, World, HasFault, AttemptsWithin, EachWas, Relation}
 use Rattle.usb_world.proofs.Interface.{course_joined, each_joined, spends_none, spends_wider}
 use Rattle.usb_device.specs.{Location, State}
-use Rattle.usb_pipe.specs.{ClearLeaves, PacketLeaves, ReceiveLeaves, SendLeaves, pipe_known}
-use Rattle.usb_pipe.specs.{PipeState, pipe_made, write_bound, PipeFault, needs_clear}
 use Rattle.usb_pipe.proofs.Interface.{clear_leaves, packet_leaves, receive_leaves, send_leaves}
 use Rattle.usb_table.proofs.levels.FittingPipes.{PipesMove, clear_moves, given_moves, send_moves}
+use Rattle.usb_table.proofs.levels.FittingPipes.{EachMoves, call_each}
 use Rattle.usb_bus.specs.{Traced}
-use Rattle.usb_pipe.specs.declared.fault.PipeFault.TheVariants as pipe_fault
 use Rattle.usb_address.proofs.Interface.{keeps_then}
 use Rattle.usb_backlog.proofs.Interface.{all_then}
 use Rattle.usb_enum.specs.{Accepted}
-use Rattle.usb_table.specs.{TableFault, Transfer, TransferFault, of_pipe, Pipes, Function}
-use Rattle.usb_table.specs.{clears_miss, first_unclear, polls_miss, receives_miss, sends_miss}
-use Rattle.usb_table.specs.{EndpointChoice, FunctionPipes, accepted_device_at, is_below_hub}
-use Rattle.usb_table.specs.{TableClears, TableClearsOf, TableReceives, TableReports, TableSends}
-use Rattle.usb_table.specs.{Transferred, ArePipesIf, Table, GoesThrough, first_pipe, pipe_to}
-use Rattle.usb_table.specs.{pipes_at, ClearedAfter, ClearedBy, ClearedOfThrough, OnlyTransfers}
-use Rattle.usb_table.specs.{PipeDid, PipesClearedOf, PipesReported, ReportedThrough, polls_through}
-use Rattle.usb_table.specs.{TableFaultAllowed, PipesCleared, PipesReceived, PipesSent, PipesThrough}
-use Rattle.usb_table.specs.{ReceivedThrough, SameSettings, SentThrough, receives_through}
-use Rattle.usb_table.specs.{sends_through, table_answer, with_pipe}
 use Rattle.usb_table.specs.declared.fault.TableFault.TheVariants as table_fault
 use Rattle.usb_table.proofs.transfers.DevicesKept.{PipeKeeps, clear_keeps, packet_keeps}
 use Rattle.usb_table.proofs.transfers.DevicesKept.{receive_keeps, same_spares, send_keeps}
 use Rattle.usb_table.proofs.transfers.DevicesKept.{sent_or_not}
-use Rattle.usb_table.proofs.levels.Levels.{moved_levels, still_levels}
-use Rattle.usb_table.proofs.levels.MovedPipes.{EachMoves, call_each}
-use Rattle.usb_table.proofs.levels.StandingPipes.{Picks, far_end, in_place, polls_picks, polls_way}
-use Rattle.usb_table.proofs.levels.StandingPipes.{receives_picks, receives_way, sends_picks}
-use Rattle.usb_table.proofs.levels.StandingPipes.{sends_way, some_bytes, to_picks}
-use Rattle.usb_table.proofs.transfers.Restarts.{cleared_single, in_turn_moves}
-use Rattle.usb_table.proofs.ThroughPipes.{WentThrough, through_both, through_pipes}
+use Rattle.usb_table.proofs.levels.PathCalls.{moved_levels, still_levels, WentThrough, through_both}
+use Rattle.usb_table.proofs.levels.PathCalls.{through_pipes}
+
+-- Calls through one pipe of a function.
+
+-- a fault of the bus is told
+
+told_last : {A : Type 0} (answer : Result A PipeFault) (last : Option BusFault)
+    → BusToldIt answer last → TransferTold (table_answer answer) last
+told_last answer last x = grind arith
+
+pub told_bus : {A : Type 0} (answer : Result A PipeFault) (result : Result A TableFault)
+    (last : Option BusFault) → result ≡ table_answer answer → BusToldIt answer last
+    → TransferTold result last
+told_bus answer result last told x =
+    rw told (told_last answer last x)
+
+-- a pipe was picked, and another one to the same endpoint put in its place
+pub record PutBack (pick : FunctionPipes → Option PipeState) (pipes left : FunctionPipes)
+    (pipe rest : PipeState) : Type 0 where
+  pub picks : Picks pick
+  pub placed : AreInPlace pipes
+  pub picked : pick pipes ≡ Some pipe
+  pub put : left ≡ with_pipe rest pipes
+  pub same : pipe_made rest ≡ pipe_made pipe
+
+module _ {pick : FunctionPipes → Option PipeState} {pipes left : FunctionPipes}
+    {pipe rest : PipeState} (b : PutBack pick pipes left pipe rest) where
+  at : pipe_at pipe.is_in pipe.ep pipes ≡ Some pipe
+  at = grind arith
+
+  pub call_made : function_made left ≡ function_made pipes
+  call_made = grind (arith, at, made_with)
+
+  pub call_through : {A : Type 0} (miss : FunctionPipes → TransferFault) (So : PipeDid A)
+      (old : World) (result : Result A TableFault)
+      (new : World) → So pipe old result rest new
+      → PipesThrough pick miss So (Function pipes) old result (Function left) new
+  call_through miss So old result new x = (
+    Some rest,
+    ap Function b.put,
+    rw b.picked x,
+  )
+
+  module _ {A W : Type 0} (miss : TransferFault) (old new : W) (answer : Result A PipeFault)
+      (result : Result A TableFault) (told : result ≡ table_answer answer) where
+    pub call_refused : (is_broken pipe.condition ≡ true → (answer ≡ Err pipe_fault.Broken)
+        × (rest ≡ pipe) × (new ≡ old))
+        → MovedOrRefused (unless_broken (pipe_asked miss (pick pipes))) (Function pipes) old result
+        (Function left) new
+    call_refused broken = grind (arith, at, with_same)
+
+-- The first bulk endpoints, one and then the other
+
+pub call_first : (is_in : Bool) (pipes left : FunctionPipes) (pipe rest : PipeState)
+    → first_pipe is_in pipes ≡ Some pipe → left ≡ with_pipe rest pipes → (old : World)
+    (answer : Result (Unit {0}) PipeFault) (new : World)
+    → ClearedThrough (needs_clear pipe) pipe old answer rest new
+    → ClearedFirst is_in pipes old answer left new
+call_first is_in pipes left pipe rest picked put old answer new x = record {
+  rest = Some rest;
+  cleared = rw picked x;
+  left_is = put;
+}
+
+module _ (pipes mid_pipes : FunctionPipes) (placed : AreInPlace pipes) (old : World)
+    (first : Result (Unit {0}) PipeFault) (mid : World)
+    (x : ClearedFirst false pipes old first mid_pipes mid) where
+  is_rest : IsRest (first_pipe false pipes) x.rest
+  is_rest = grind (arith, cleared_rest)
+
+  made : function_made mid_pipes ≡ function_made pipes
+  made = ap function_made x.left_is ∙ rest_made (first_pipe false) (first_picks false) pipes placed
+      (first_pipe false pipes) x.rest refl is_rest
+
+  same_in : first_pipe true mid_pipes ≡ first_pipe true pipes
+  same_in = ap (first_pipe true) x.left_is ∙ first_beside true false x.rest pipes
+      (rest_way false (first_pipe false pipes) x.rest (first_ways false pipes placed) is_rest)
+      (λ e. cc e)
+
+  kept : mid_pipes ≡ with_rest (first_pipe true pipes) (with_rest x.rest pipes)
+  kept = sym (rest_same (first_pipe true) (first_picks true) mid_pipes
+      (placed_made pipes mid_pipes made placed) (first_pipe true pipes) same_in)
+      ∙ ap (with_rest (first_pipe true pipes)) x.left_is
+
+  pub first_failed : (why : PipeFault) → first ≡ Err why
+      → ClearedInOrder pipes old (Err (of_pipe why)) mid_pipes mid
+  first_failed why failed = grind (arith, kept)
+
+  -- what could not be cleared in the second place cannot be now
+  still_unclear : first_unclear true mid_pipes ≡ first_unclear true pipes
+  still_unclear = ap (first_unclear true) x.left_is ∙ unclear_beside true false x.rest pipes
+      (rest_way false (first_pipe false pipes) x.rest (first_ways false pipes placed) is_rest)
+      (λ e. cc e)
+
+  pub second_missed : (u : Unit {0}) → first ≡ Ok u → (why : TransferFault)
+      → first_unclear true mid_pipes ≡ Some why
+      → ClearedInOrder pipes old (Err (Transfer why)) mid_pipes mid
+  second_missed u done why is = grind (arith, kept, still_unclear)
+
+  pub both_cleared : first_unclear true mid_pipes ≡ None
+      → (u : Unit {0}) → first ≡ Ok u → (answer : Result (Unit {0}) PipeFault)
+      (result : Result (Unit {0}) TableFault) → result ≡ table_answer answer
+      → (left : FunctionPipes) (new : World) → ClearedFirst true mid_pipes mid answer left new
+      → ClearedInOrder pipes old result left new
+  both_cleared clear u done answer result told left new y = grind (arith, same_in, still_unclear)
+
+-- What a transfer through the pipes to what was found at a path leaves.
 
 -- so few attempts were made, the fault is told, and what moved, of all devices and of the pipes to
 -- the one that was found
@@ -50,8 +164,7 @@ record LeavesTransfer {A : Type 0} (n : ℕ) (found : Option Accepted) (pipes : 
       × EachMoves device device.address (new.fault ≡ None) pipes left old new)
 
 same_spends : (n : ℕ) (old new : World) → new ≡ old → AttemptsWithin n old new
-same_spends n old new e =
-    rw e (spends_wider 0 n old old (spends_none old) (omega arith))
+same_spends n old new e = grind (arith, spends_none, spends_wider)
 
 -- nothing was tried
 idle_transfer_leaves : {A : Type 0} (n : ℕ) (found : Option Accepted) (pipes : Pipes) (old : World)
@@ -69,16 +182,13 @@ idle_transfer_leaves n found pipes old result new fault e same = record {
 pipe_told : (why : PipeFault) (w : World)
     → ((fault : BusFault) → why ≡ pipe_fault.Bus fault → HasFault fault w)
     → TableFaultAllowed (of_pipe why) w
-pipe_told (pipe_fault.Bus fault) w told = told fault refl
-pipe_told _ w told = tt
+pipe_told why w told = grind arith
 
 pub told_answer : {A : Type 0} (answer : Result A PipeFault) (result : Result A TableFault)
     (w : World) → result ≡ table_answer answer
     → ((fault : BusFault) → answer ≡ Err (pipe_fault.Bus fault) → HasFault fault w)
     → IfErr result (λ fault. TableFaultAllowed fault w)
-told_answer (Ok x) result w e told = rw e tt
-told_answer (Err why) result w e told =
-    rw e (pipe_told why w (λ fault f. told fault (ap Err f)))
+told_answer answer result w e told = grind (arith, pipe_told)
 
 pub told_through : {A : Type 0} (old : World) (answer : Result A PipeFault)
     (result : Result A TableFault) (w : World) → result ≡ table_answer answer
@@ -129,18 +239,12 @@ cleared_by : (pipe left : Option PipeState) (old : World) (answer : Result (Unit
 cleared_by None left old answer new x =
     record { worlds = same_spares old new x.2; told = λ fault e. absurd (cc (sym x.0 ∙ e)) }
 cleared_by (Some pipe) None old answer new x = absurd x
-cleared_by (Some pipe) (Some left) old answer new x =
-    clear_keeps (needs_clear pipe) pipe old answer left new x.clears
+cleared_by (Some pipe) (Some left) old answer new x = grind (arith, clear_keeps)
 
 -- one that is done made no attempt, or the bus is at work
 done_or_same : (pipe left : Option PipeState) (old : World) (done : Unit {0}) (new : World)
     → ClearedBy pipe old (Ok done) left new → (new ≡ old) ⊎ (new.fault ≡ None)
-done_or_same None left old done new x = inl x.2
-done_or_same (Some pipe) None old done new x = absurd x
-done_or_same (Some pipe) (Some left) old done new x = elim (sent_or_not (needs_clear pipe)) [
-  | inl not ↦ inl (x.clears.ready not).world_kept
-  | inr so ↦ inr (x.clears.sent so).ends.still
-]
+done_or_same pipe left old done new x = grind (arith, sent_or_not)
 
 -- what is so of the worlds, and of the fault
 abbrev LeftAndTold : World → Result (Unit {0}) TableFault → World → Type 0
@@ -162,22 +266,16 @@ cleared_in_order (Ok done) None out out_left into into_left old mid result new x
       ],
       told_through mid y.0 result new y.1 second,
     )
-cleared_in_order (Ok done) (Some why) out out_left into into_left old mid result new x y = (
-  rw y.2 (cleared_by out out_left old (Ok done) mid x).worlds,
-  rw y.0 tt,
-)
+cleared_in_order (Ok done) (Some why) out out_left into into_left old mid result new x y =
+    grind (arith, cleared_by)
 cleared_in_order (Err fault) why out out_left into into_left old mid result new x y =
-    let first = cleared_by out out_left old (Err fault) new (rw y.2 x) in
-    (first.worlds, told_through old (Err fault) result new y.0 first)
+    grind (arith, cleared_by, told_through)
 
 -- while the bus is at work, none of its faults is told
 no_bus_told : (result : Result (Unit {0}) TableFault) (w : World)
     → IfErr result (λ fault. TableFaultAllowed fault w) → w.fault ≡ None
     → (why : BusFault) → result ≢ Err (table_fault.Bus why)
-no_bus_told result w told sound why e =
-    let failed : HasFault why w = rw e at told in
-    let is = failed.told in
-    absurd (cc (is, sound))
+no_bus_told result w told sound why = grind (arith, at)
 
 clears_leave : (old : World) (result : Result (Unit {0}) TableFault) (new : World)
     (found : Option Accepted) → AttemptsWithin (2 * write_bound) old new → (below_hub : Bool)

@@ -1,4 +1,2 @@
 -- What is listed.
-pub mod ListingExample
 pub mod OneListing
-pub mod PlannedListing

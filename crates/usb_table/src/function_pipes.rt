@@ -290,7 +290,7 @@ impl FunctionPipes {
     /// - `Broken`: the pipe must be cleared first.
     /// - `Stalled`, `Busy`, `NoAnswer`: the transaction of a packet ended so.
     /// - `Bus`: the bus has failed.
-    #[tactic(auto, using(crate::proofs::IdleCalls::idle_traced))]
+    #[tactic(auto, using(crate::proofs::levels::PathCalls::idle_traced))]
     pub fn send<B: Bus>(
         &mut self,
         bus: &mut B,
@@ -327,7 +327,7 @@ impl FunctionPipes {
     /// - `Stalled`, `Busy`, `NoAnswer`: the transaction of a packet ended so.
     /// - `Memory`: the bytes find no room.
     /// - `Bus`: the bus has failed.
-    #[tactic(auto, using(crate::proofs::IdleCalls::idle_traced))]
+    #[tactic(auto, using(crate::proofs::levels::PathCalls::idle_traced))]
     pub fn receive<B: Bus>(
         &mut self,
         alloc: Global,
@@ -363,7 +363,7 @@ impl FunctionPipes {
     /// - `Broken`: the pipe must be cleared first.
     /// - `Stalled`, `Busy`, `NoAnswer`: the transaction ended so.
     /// - `Bus`: the bus has failed.
-    #[tactic(auto, using(crate::proofs::IdleCalls::idle_traced))]
+    #[tactic(auto, using(crate::proofs::levels::PathCalls::idle_traced))]
     pub fn poll<B: Bus>(
         &mut self,
         bus: &mut B,
@@ -400,7 +400,7 @@ impl FunctionPipes {
     /// - `Broken`: the setting of its interface is not known.
     /// - `Stalled`, `Busy`, `NoAnswer`: a transaction ended so.
     /// - `Bus`: the bus has failed.
-    #[tactic(auto, using(crate::proofs::IdleCalls::idle_traced))]
+    #[tactic(auto, using(crate::proofs::levels::PathCalls::idle_traced))]
     pub fn clear<B: Bus>(
         &mut self,
         bus: &mut B,

@@ -54,7 +54,7 @@ pub(crate) fn pipes_to(device: &Accepted, below_hub: bool) -> Pipes
 }
 
 /// The pipe to a hub's status endpoint.
-#[tactic(auto, using(crate::proofs::levels::Endpoints::sound_status))]
+#[tactic(auto, using(crate::proofs::levels::NewPipes::sound_status))]
 fn status_pipe(device: &Accepted, below_hub: bool) -> InterruptPipe
     requires sound { IsSoundDevice device.now }
     requires hub { is_some device.now.hub ≡ true }
@@ -133,7 +133,7 @@ impl Pipes {
     /// - `Broken`: the pipe must be cleared first.
     /// - `Stalled`, `Busy`, `NoAnswer`: the transaction of a packet ended so.
     /// - `Bus`: the bus has failed.
-    #[tactic(auto, using(crate::proofs::IdleCalls::idle_traced))]
+    #[tactic(auto, using(crate::proofs::levels::PathCalls::idle_traced))]
     pub fn send<B: Bus>(
         &mut self,
         bus: &mut B,
@@ -170,7 +170,7 @@ impl Pipes {
     /// - `Stalled`, `Busy`, `NoAnswer`: the transaction of a packet ended so.
     /// - `Memory`: the bytes find no room.
     /// - `Bus`: the bus has failed.
-    #[tactic(auto, using(crate::proofs::IdleCalls::idle_traced))]
+    #[tactic(auto, using(crate::proofs::levels::PathCalls::idle_traced))]
     pub fn receive<B: Bus>(
         &mut self,
         alloc: Global,
@@ -206,7 +206,7 @@ impl Pipes {
     /// - `Broken`: the pipe must be cleared first.
     /// - `Stalled`, `Busy`, `NoAnswer`: the transaction ended so.
     /// - `Bus`: the bus has failed.
-    #[tactic(auto, using(crate::proofs::IdleCalls::idle_traced))]
+    #[tactic(auto, using(crate::proofs::levels::PathCalls::idle_traced))]
     pub fn poll_of<B: Bus>(
         &mut self,
         bus: &mut B,
@@ -267,7 +267,7 @@ impl Pipes {
     /// - `NoEndpoint`: there is no such pipe.
     /// - `Stalled`, `Busy`, `NoAnswer`: a transaction ended so.
     /// - `Bus`: the bus has failed.
-    #[tactic(auto, using(crate::proofs::IdleCalls::idle_traced))]
+    #[tactic(auto, using(crate::proofs::levels::PathCalls::idle_traced))]
     pub fn clear_halt_of<B: Bus>(
         &mut self,
         bus: &mut B,

@@ -8,7 +8,7 @@ use usb_enum::Accepted;
 use usb_transaction::Target;
 
 /// Endpoint 0 of a device that was accepted, below an external hub or not.
-#[tactic(auto, using(crate::proofs::levels::Targets::sound_target_fits, crate::proofs::levels::Targets::sound_target_wide))]
+#[tactic(auto, using(crate::proofs::levels::NewPipes::sound_target_fits, crate::proofs::levels::NewPipes::sound_target_wide))]
 pub(crate) fn target_to(device: &Accepted, below_hub: bool) -> Target
     requires { IsSoundDevice device.now }
     ensures value { result ≡ target_of device.now below_hub }

@@ -7,5 +7,4 @@ pub mod packets
 pub mod ports
 pub mod ways
 pub mod Interface
-pub mod Example
-pub mod ExampleHub
+pub mod Examples

@@ -1,6 +1,4 @@
 -- Which addresses devices hold, take and lose.
 pub mod AddressLosses
-pub mod AddressesInTransfers
 pub mod AddressesKept
-pub mod AddressesTaken
-pub mod AttemptLosses
+pub mod GivenAddresses

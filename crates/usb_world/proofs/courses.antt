@@ -2,4 +2,3 @@
 pub mod Counts
 pub mod Courses
 pub mod LiftedSteps
-pub mod StepInvariants

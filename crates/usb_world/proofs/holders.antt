@@ -1,11 +1,6 @@
 -- Who holds an address.
 pub mod Devices
-pub mod HolderOfAttempt
-pub mod HolderRequests
-pub mod OneAnswer
+pub mod HolderPorts
 pub mod OneDevice
 pub mod OneHolder
 pub mod OneHolderAttempts
-pub mod OneHolderExample
-pub mod OneHolderPorts
-pub mod ReachableHolder

@@ -1,8 +1,4 @@
 -- The way to a place in a tree.
-pub mod AlikeTrees
-pub mod LoneWalks
-pub mod OneWalk
+pub mod RoutedAttempts
 pub mod Routes
-pub mod RoutesKept
-pub mod WayChanges
 pub mod Ways

@@ -1,19 +1,16 @@
--- What each call through pipes leaves of the device at their other ends: it is as far as the pipes.
-use Rattle.usb_device.specs.{Location, EndpointData, EndpointState, Registers, bulk_at, data_by}
-use Rattle.usb_device.specs.{SourceAt, PollAt, NeverTold, OnlyStage, OnlySink, OnlySource}
-use Rattle.usb_device.specs.{OnlyWrite, Spec, State, OutEnd, InEnd, endpoint_row, in_data, in_end}
-use Rattle.usb_device.specs.{IsSource, in_max, is_numbered, out_end, out_max, packet_in}
-use Rattle.usb_device.specs.{place_behind, hub_ports, served_at, status_length, status_number}
-use Rattle.usb_device.specs.{tells_changes, text_of}
-use Rattle.usb_descriptor.specs.{max_of_usable}
-use Rattle.usb_request.specs.{DIRECTION_IN}
-use Rattle.std.proofs.Common.{◌≡◌, ◌∙◌, refl, sym, ap, subst, true, false, ℕ, ◌+◌, ◌==◌, ◌≤◌, ◌&&◌}
-use Rattle.std.proofs.Common.{List, [], Option, None, Some, Result, Ok, Err, IsOk, is_some, Bool}
-use Rattle.std.proofs.Common.{IfSome, eqb-true, length}
+-- What calls and transfers through pipes leave of the device at their other ends: it is as far as
+-- the pipes.
+use Rattle.usb_device.specs.{Location, EndpointData, EndpointState, Registers, SourceAt, PollAt}
+use Rattle.usb_device.specs.{NeverTold, OnlyStage, OnlySink, OnlySource, OnlyWrite, Spec, State}
+use Rattle.usb_device.specs.{in_data, in_end, IsSource, in_max, out_end, out_max, hub_ports}
+use Rattle.usb_device.specs.{status_length, status_number, tells_changes, text_of}
+use Rattle.std.proofs.Common.{arith, ◌≡◌, ◌∙◌, refl, sym, ap, subst, true, false, ℕ, ◌==◌, ◌≤◌}
+use Rattle.std.proofs.Common.{◌&&◌, List, [], Option, None, Some, Result, Ok, Err, IsOk, Bool}
+use Rattle.std.proofs.Common.{IfSome, eqb-true, ◌≢◌}
 use Rattle.arrayvec.specs.ArrayVec.{ArrayVec}
 use Rattle.usb_packet.specs.{Toggle}
 use Rattle.usb_tree.specs.{address_of}
-use Rattle.usb_world.specs.{World}
+use Rattle.usb_world.specs.{World, BusFault, Relation, EachWas}
 use Rattle.usb_transaction.specs.{IsStatusEndpoint, Target}
 use Rattle.usb_pipe.specs.{PipeFault, PipeState, Interrupt, OutPipeInSync, InPipeInSync, pipe_known}
 use Rattle.usb_pipe.specs.{got_after, SendLeaves, ClearLeaves, PollLeaves, interrupt_made}
@@ -23,8 +20,14 @@ use Rattle.usb_table.specs.{AreInPlace, FunctionInSync, FunctionPipes, pipe_at, 
 use Rattle.usb_table.specs.{Hub, Function, Absent, StatusPipeInSync, FitsOut, FitsIn, PipesInSync}
 use Rattle.usb_table.specs.{SameSettings}
 use Rattle.usb_table.proofs.levels.StandingPipes.{at_elsewhere, at_with, same_number, same_way}
-use Rattle.usb_table.proofs.transfers.HaltClears.{in_cleared, out_cleared}
-use Rattle.usb_table.proofs.transfers.DevicesKept.{RanAs}
+use Rattle.usb_table.proofs.levels.StandingPipes.{IsPipeOf, addressed}
+use Rattle.usb_table.proofs.transfers.FreeRequests.{in_cleared, out_cleared}
+use Rattle.usb_table.proofs.transfers.DevicesKept.{RanAs, PipeKeeps}
+use Rattle.usb_pipe.specs.declared.fault.PipeFault.TheVariants as pipe_fault
+use Rattle.usb_enum.proofs.Interface.{each_joint}
+
+-- What each call through pipes leaves of the device at their other ends: it is as far as the
+-- pipes.
 
 -- An endpoint that nothing moved at
 
@@ -49,10 +52,10 @@ way-none false s = tt
 -- what depends on the settings alone
 same_seen : {X : Type 0} (seen : Spec → Registers → X) (s v : State) → SameSettings root s v
     → seen v.spec v.registers ≡ seen s.spec s.registers
-same_seen seen s v k = ap (λ (x : Spec). seen x v.registers) k.0 ∙ ap (seen s.spec) k.1
+same_seen seen s v k = grind arith
 
 -- the text of its configuration
-pub same_text : (s v : State) → SameSettings root s v
+same_text : (s v : State) → SameSettings root s v
     → text_of v.spec v.registers ≡ text_of s.spec s.registers
 same_text = same_seen text_of
 
@@ -61,10 +64,10 @@ abbrev pub is_status : State → ℕ → Bool
 is_status s e = e == status_number s.spec s.registers && tells_changes s.spec s.registers
 
 same_status : (e : ℕ) (s v : State) → SameSettings root s v → is_status v e ≡ is_status s e
-same_status e = same_seen (λ x g. e == status_number x g && tells_changes x g)
+same_status e = grind (arith, same_seen)
 
 -- the endpoint that tells of changes, and how many bytes it gives (11.12.4)
-pub status_same : (t : Target) (ep : ℕ) (s v : State) → SameSettings root s v
+status_same : (t : Target) (ep : ℕ) (s v : State) → SameSettings root s v
     → IsStatusEndpoint t ep s → IsStatusEndpoint t ep v
 status_same t ep s v k to = record {
   number = to.number ∙ sym (same_seen status_number s v k);
@@ -74,8 +77,7 @@ status_same t ep s v k to = record {
 }
 
 pub same_in_data : (e : ℕ) (s v : State) → SameSettings root s v → in_data v e ≡ in_data s e
-same_in_data e = same_seen (λ x g. data_by (endpoint_row x.endpoints (DIRECTION_IN + e)) x.source
-    (is_numbered e (bulk_at x g true)))
+same_in_data e s v h = grind (arith, same_seen)
 
 -- an endpoint keeps its toggle, and its halt
 abbrev pub MayHalt : EndpointState → EndpointState → Type 0
@@ -83,42 +85,25 @@ MayHalt before after = (after.toggle ≡ before.toggle) × (before.halted ≡ tr
     → after.halted ≡ true)
 
 pub same_halts : (before after : EndpointState) → after ≡ before → MayHalt before after
-same_halts before after e = (
-  ap (λ (x : EndpointState). x.toggle) e,
-  λ h. ap (λ (x : EndpointState). x.halted) e ∙ h,
-)
+same_halts before after e = grind arith
 
 -- the endpoint of an OUT pipe is as large as it was
 pub sink_level : (pipe : PipeState) (s v : State) → out_max v pipe.ep ≡ out_max s pipe.ep
     → MayHalt (out_end s pipe.ep).state (out_end v pipe.ep).state → OutPipeInSync pipe s
     → OutPipeInSync pipe v
-sink_level pipe s v most may f = record {
-  endpoint = record {
-    endpoint = most ∙ f.endpoint.endpoint;
-    not_zero = f.endpoint.not_zero;
-  };
-  level = λ ready. may.0 ∙ f.level ready;
-  halted = λ halts. may.1 (f.halted halts);
-}
+sink_level pipe s v most may f = grind arith
 
 -- what comes next of an endpoint that is where it was
 same_next : {X : Type 0} (seen : EndpointData → ℕ → X) (ep : ℕ) (s v : State)
     → in_data v ep ≡ in_data s ep → (in_end v ep).place ≡ (in_end s ep).place
     → seen (in_data v ep) (in_end v ep).place ≡ seen (in_data s ep) (in_end s ep).place
-same_next seen ep s v data_same place =
-    ap (λ content. seen content (in_end v ep).place) data_same
-    ∙ ap (seen (in_data s ep)) place
+same_next seen ep s v data_same place = grind arith
 
 source_at-same : (ep most got : ℕ) (t : Toggle) (s v : State) → in_data v ep ≡ in_data s ep
     → (in_end v ep).place ≡ (in_end s ep).place
     → (in_end v ep).state.toggle ≡ (in_end s ep).state.toggle
     → SourceAt ep most got t s → SourceAt ep most got t v
-source_at-same ep most got t s v same place e (SourceAt.level a b) =
-    SourceAt.level (place ∙ a) (e ∙ b)
-source_at-same ep most got t s v same place e (SourceAt.ahead a b c) =
-    SourceAt.ahead
-    (a ∙ sym (same_next (λ content n. place_behind content most n) ep s v same place))
-    (same_next (λ content n. is_some (packet_in content most n)) ep s v same place ∙ b) (e ∙ c)
+source_at-same ep most got t s v same place e h = grind (arith, same_next)
 
 -- that of an IN pipe is as large as it was, and where it was
 pub source_level : (pipe : PipeState) (got : ℕ) (s v : State)
@@ -127,32 +112,20 @@ pub source_level : (pipe : PipeState) (got : ℕ) (s v : State)
     → (in_end v pipe.ep).place ≡ (in_end s pipe.ep).place
     → MayHalt (in_end s pipe.ep).state (in_end v pipe.ep).state → InPipeInSync pipe got s
     → InPipeInSync pipe got v
-source_level pipe got s v most alone same place may f = record {
-  endpoint = record {
-    endpoint = most ∙ f.endpoint.endpoint;
-    not_zero = f.endpoint.not_zero;
-    alone = alone ∙ f.endpoint.alone;
-  };
-  level = λ ready. source_at-same pipe.ep pipe.max got pipe.toggle s v same place may.0
-      (f.level ready);
-  halted = λ halts. may.1 (f.halted halts);
-}
+source_level pipe got s v most alone same place may f = grind (arith, source_at-same)
 
 -- no setting changed
 pub set_sink : (pipe : PipeState) (s v : State) → SameSettings root s v
     → MayHalt (out_end s pipe.ep).state (out_end v pipe.ep).state → OutPipeInSync pipe s
     → OutPipeInSync pipe v
-set_sink pipe s v k =
-    sink_level pipe s v (same_seen (λ x g. max_of_usable (served_at x g false pipe.ep)) s v k)
+set_sink pipe s v k h h1 = grind (arith, same_seen, sink_level)
 
 pub set_source : (pipe : PipeState) (got : ℕ) (s v : State) → SameSettings root s v
     → (in_end v pipe.ep).place ≡ (in_end s pipe.ep).place
     → MayHalt (in_end s pipe.ep).state (in_end v pipe.ep).state → InPipeInSync pipe got s
     → InPipeInSync pipe got v
-set_source pipe got s v k =
-    source_level pipe got s v
-    (same_seen (λ x g. max_of_usable (served_at x g true pipe.ep)) s v k)
-    (same_status pipe.ep s v k) (same_in_data pipe.ep s v k)
+set_source pipe got s v k h h1 h2 =
+    grind (arith, same_in_data, same_seen, same_status, source_level)
 
 -- the endpoint of an IN pipe is as far as it was
 pub still_source : (pipe : PipeState) (got : ℕ) (s v : State) → SameSettings root s v
@@ -163,23 +136,15 @@ still_source pipe got s v k place e = set_source pipe got s v k place (same_halt
 
 still_out : (out : Option PipeState) (s v : State) → SameSettings root s v
     → ((e : ℕ) → out_end v e ≡ out_end s e) → FitsOut out s → FitsOut out v
-still_out None s v k e f = tt
-still_out (Some pipe) s v k e f =
-    set_sink pipe s v k (same_halts _ _ (ap (λ (x : OutEnd). x.state) (e pipe.ep))) f
+still_out out s v k e f = grind (arith, same_halts, set_sink)
 
 fits_in-same : (into : Option PipeState) (s v : State) → SameSettings root s v
     → ((e : ℕ) → in_end v e ≡ in_end s e) → FitsIn into s → FitsIn into v
-fits_in-same None s v k e f = tt
-fits_in-same (Some pipe) s v k e f = (
-  f.0,
-  still_source pipe f.0 s v k (ap (λ (x : InEnd). x.place) (e pipe.ep))
-      (ap (λ (x : InEnd). x.state) (e pipe.ep)) f.1,
-)
+fits_in-same into s v k e f = grind (arith, still_source)
 
 still_poll : (t : Toggle) (s v : State) → v.changes ≡ s.changes → v.held ≡ s.held
     → PollAt NeverTold t s → PollAt NeverTold t v
-still_poll t s v e held (PollAt.level a b) =
-    PollAt.level (held ∙ a) (ap (λ (x : EndpointState). x.toggle) e ∙ b)
+still_poll t s v e held (PollAt.level a b) = grind arith
 still_poll t s v e held (PollAt.told bits so a b) = absurd so
 still_poll t s v e held (PollAt.ahead bits a b) =
     PollAt.ahead bits (held ∙ a) (ap (λ (x : EndpointState). x.toggle) e ∙ b)
@@ -197,14 +162,7 @@ pub function_level : {device : Accepted} {pipes : FunctionPipes} (left : Functio
     (s v : State) → SameSettings root s v → FunctionInSync device pipes s
     → ((e : ℕ) → FitsOut (pipe_at false e left) v) → ((e : ℕ) → FitsIn (pipe_at true e left) v)
     → FunctionInSync device left v
-function_level left s v k f outs ins = record {
-  text = same_text s v k ∙ f.text;
-  low = ap (λ (x : Spec). x.low) k.0 ∙ f.low;
-  quiet = same_seen tells_changes s v k ∙ f.quiet;
-  settings = ap (λ (g : Registers). length g.settings) k.1 ∙ f.settings;
-  outs = outs;
-  ins = ins;
-}
+function_level left s v k f outs ins = grind (arith, same_seen, same_text)
 
 -- no setting changed, nor where an endpoint stands but endpoint 0
 record StillEnds (s v : State) : Type 0 where
@@ -217,34 +175,18 @@ record StillEnds (s v : State) : Type 0 where
 still_ends : (device : Accepted) (pipes : Pipes) (s v : State) → StillEnds s v
     → PipesInSync device pipes s → PipesInSync device pipes v
 still_ends device (Hub pipe) s v x f = still_status pipe s v x.settings x.changes x.held f
-still_ends device (Function pipes) s v x f = function_level pipes s v x.settings f
-    (λ e. still_out (pipe_at false e pipes) s v x.settings x.outs (f.outs e))
-    (λ e. fits_in-same (pipe_at true e pipes) s v x.settings x.ins (f.ins e))
+still_ends device (Function pipes) s v x f = grind (arith, fits_in-same, function_level, still_out)
 still_ends device (Absent said) s v x f = tt
 
 -- where nothing changed but where the device's transfer stands
 pub still_level : (device : Accepted) (pipes : Pipes) (s v : State) → OnlyStage s v
     → PipesInSync device pipes s → PipesInSync device pipes v
-still_level device pipes s v frame f = subst (PipesInSync device pipes) (sym frame)
-    (still_ends device pipes s _ (record {
-      settings = (refl, refl);
-      changes = refl;
-      held = refl;
-      outs = λ e. refl;
-      ins = λ e. refl;
-    }) f)
+still_level device pipes s v frame f = grind (arith, still_ends)
 
 -- and the data that control transfers brought
 pub written_level : (device : Accepted) (pipes : Pipes) (s v : State) → OnlyWrite s v
     → PipesInSync device pipes s → PipesInSync device pipes v
-written_level device pipes s v frame f = subst (PipesInSync device pipes) (sym frame)
-    (still_ends device pipes s _ (record {
-      settings = (refl, refl);
-      changes = refl;
-      held = refl;
-      outs = λ e. refl;
-      ins = λ e. refl;
-    }) f)
+written_level device pipes s v frame f = grind (arith, still_ends)
 
 -- The pipes to a function, of which a call went through one
 
@@ -252,26 +194,17 @@ written_level device pipes s v frame f = subst (PipesInSync device pipes) (sym f
 out_beside : (e : ℕ) (out : Option PipeState) (s v : State)
     → IfSome out (λ (p : PipeState). (p.is_in ≡ false) × (p.ep ≡ e)) → SameSettings root s v
     → out_end v e ≡ out_end s e → FitsOut out s → FitsOut out v
-out_beside e None s v place k same f = tt
-out_beside e (Some pipe) s v place k same f =
-    let end : out_end v pipe.ep ≡ out_end s pipe.ep = rw place.1 same in
-    set_sink pipe s v k (same_halts _ _ (ap (λ (x : OutEnd). x.state) end)) f
+out_beside e out s v place k same f = grind (arith, same_halts, set_sink)
 
 in_beside : (e : ℕ) (into : Option PipeState) (s v : State)
     → IfSome into (λ (p : PipeState). (p.is_in ≡ true) × (p.ep ≡ e)) → SameSettings root s v
     → in_end v e ≡ in_end s e → FitsIn into s → FitsIn into v
-in_beside e None s v place k same f = tt
-in_beside e (Some pipe) s v place k same (got, f) =
-    let end : in_end v pipe.ep ≡ in_end s pipe.ep = rw place.1 same in (
-      got,
-      still_source pipe got s v k (ap (λ (x : InEnd). x.place) end)
-          (ap (λ (x : InEnd). x.state) end) f,
-    )
+in_beside e into s v place k same f = grind (arith, still_source)
 
 module _ (device : Accepted) (pipes : FunctionPipes) (placed : AreInPlace pipes)
     (left : PipeState) (s v : State) (k : SameSettings root s v)
     (f : FunctionInSync device pipes s) where
-  pub out_fits : left.is_in ≡ false → OutPipeInSync left v
+  out_fits : left.is_in ≡ false → OutPipeInSync left v
       → ((e : ℕ) → (e == left.ep) ≡ false → out_end v e ≡ out_end s e)
       → ((e : ℕ) → in_end v e ≡ in_end s e) → FunctionInSync device (with_pipe left pipes) v
   out_fits way fits outs ins = function_level (with_pipe left pipes) s v k f
@@ -286,7 +219,7 @@ module _ (device : Accepted) (pipes : FunctionPipes) (placed : AreInPlace pipes)
       by_number e false apart = rw (at_elsewhere left pipes false e (λ same. apart))
           (out_beside e (pipe_at false e pipes) s v (placed false e) k (outs e apart) (f.outs e))
 
-  pub in_fits : left.is_in ≡ true → FitsIn (Some left) v → ((e : ℕ) → out_end v e ≡ out_end s e)
+  in_fits : left.is_in ≡ true → FitsIn (Some left) v → ((e : ℕ) → out_end v e ≡ out_end s e)
       → ((e : ℕ) → (e == left.ep) ≡ false → in_end v e ≡ in_end s e)
       → FunctionInSync device (with_pipe left pipes) v
   in_fits way fits outs ins = function_level (with_pipe left pipes) s v k f
@@ -306,12 +239,10 @@ module _ {device : Accepted} {pipes : FunctionPipes} (pipe : PipeState)
     (at : pipe_at pipe.is_in pipe.ep pipes ≡ Some pipe) (s : State)
     (f : FunctionInSync device pipes s) where
   pub out_of : pipe.is_in ≡ false → OutPipeInSync pipe s
-  out_of out = subst (λ o. FitsOut o s) (ap (λ b. pipe_at b pipe.ep pipes) (sym out) ∙ at)
-      (f.outs pipe.ep)
+  out_of out = grind arith
 
   pub in_of : pipe.is_in ≡ true → FitsIn (Some pipe) s
-  in_of into = subst (λ o. FitsIn o s) (ap (λ b. pipe_at b pipe.ep pipes) (sym into) ∙ at)
-      (f.ins pipe.ep)
+  in_of into = grind arith
 
 -- A call through the pipes to the device of an address
 
@@ -328,7 +259,7 @@ pub record PipesMove (device : Accepted) (address : ℕ) (ends : Type 0) (pipes 
 known_itself : {A : Type 0} (ends : Type 0) (answer : Result A PipeFault) (left : PipeState)
     (s : State) (Fits : PipeState → State → Type 0) → (ends → pipe_known answer left ≡ left) → ends
     → Fits (pipe_known answer left) s → Fits left s
-known_itself ends answer left s Fits is e f = subst (λ (b : PipeState). Fits b s) (is e) f
+known_itself ends answer left s Fits is e f = grind arith
 
 pub poll_moves : (device : Accepted) (pipe left : Interrupt) (old new : World)
     (result : Result (Option (ArrayVec ℕ)) PipeFault) (j : Location) (s v : State)
@@ -345,12 +276,7 @@ poll_moves device pipe left old new (Ok got) j s v made x ran = record {
     runs = ran.2 ∙ f.runs;
   };
 }
-poll_moves device pipe left old new (Err why) j s v made x ran =
-    record {
-      others = x.others;
-      same = ap (λ (g : Registers). g.address) ran.1;
-      itself = λ e at f. absurd (cc e);
-    }
+poll_moves device pipe left old new (Err why) j s v made x ran = grind arith
 
 -- through a pipe of a function
 
@@ -434,3 +360,38 @@ module _ (device : Accepted) (ends : Type 0) (pipes : FunctionPipes) (placed : A
                 (x.source there into level.0 level.1).0,
           )
           only.outs (λ a apart. only.others a (apart_of a apart))
+
+-- What transfers leave of the pipes to a device.
+
+-- each device over a call, where no address was held twice
+abbrev pub EachMoves : Accepted → ℕ → Type 0 → Pipes → Pipes → World → World → Type 0
+EachMoves device address ends pipes left old new = new.shared ≡ false
+    → EachWas (PipesMove device address ends pipes left) old new
+
+-- Where the bus is at work, the answer is not its own
+
+pub known_left : {A : Type 0} (answer : Result A PipeFault) (left : PipeState)
+    → ((fault : BusFault) → answer ≢ Err (pipe_fault.Bus fault)) → pipe_known answer left ≡ left
+known_left answer left other = grind arith
+
+sound_known : {A : Type 0} (old : World) (answer : Result A PipeFault) (left : PipeState)
+    (w : World)
+    → PipeKeeps old answer w → w.fault ≡ None → pipe_known answer left ≡ left
+sound_known old answer left w kept sound = grind (arith, known_left)
+
+-- Through one pipe to a device that was found, by what is left of each device
+module _ {device : Accepted} {below_hub : Bool} {pipes : FunctionPipes} (pipe left : PipeState)
+    (of : IsPipeOf device below_hub pipes pipe) where
+  pub call_each : {A : Type 0} (old : World) (answer : Result A PipeFault) (new : World)
+      (L : Relation) → PipeKeeps old answer new → (new.shared ≡ false → EachWas L old new)
+      → ((j : Location) (s v : State) → (new.fault ≡ None → pipe_known answer left ≡ left)
+      → L j s v → SameSettings j s v → PipesMove device pipe.target.addr (new.fault ≡ None)
+      (Function pipes) (Function (with_pipe left pipes)) j s v)
+      → EachMoves device device.address (new.fault ≡ None) (Function pipes)
+      (Function (with_pipe left pipes)) old new
+  call_each old answer new L kept leaves moves =
+      subst (λ a. EachMoves device a (new.fault ≡ None) (Function pipes)
+      (Function (with_pipe left pipes)) old new) (addressed pipe of)
+      (λ single. each_joint L SameSettings _
+      (λ j s v. moves j s v (sound_known old answer left new kept)) old new (leaves single)
+      (kept.worlds.devices.same single))

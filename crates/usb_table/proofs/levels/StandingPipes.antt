@@ -1,31 +1,28 @@
 -- Pipes of a function that stand in their places, and those that are picked among them.
 use Rattle.std.proofs.Common.{◌≡◌, ◌≢◌, ◌∙◌, refl, sym, ap, subst, arith, Bool, true, false, ℕ}
-use Rattle.std.proofs.Common.{zero, suc, ◌==◌, ◌≤◌, ◌<◌, ◌%◌, not, nat_le, List, [], ◌∷◌, length}
-use Rattle.std.proofs.Common.{get_or, slice_set, Option, Some, None, IfSome, if◌then◌else◌}
+use Rattle.std.proofs.Common.{zero, suc, ◌==◌, ◌≤◌, ◌<◌, not, List, [], ◌∷◌, length, get_or}
+use Rattle.std.proofs.Common.{slice_set, Option, Some, None, IfSome, if◌then◌else◌, inl, inr, ◌⊎◌}
 use Rattle.std.specs.Option.{option_map}
-use Rattle.usb_request.specs.{DIRECTION_IN}
 use Rattle.usb_descriptor.specs.{EndpointKind, UsableEndpoint}
 use Rattle.usb_descriptor.proofs.Interface.{usable_under-small}
 use Rattle.usb_device.specs.{with_at}
 use Rattle.usb_device.proofs.Interface.{at_mapped, at_other, at_same}
 use Rattle.usb_tree.proofs.Interface.{both, not-true}
-use Rattle.usb_transaction.specs.{Target}
-use Rattle.usb_pipe.specs.{PipeState, pipe_made}
-use Rattle.usb_enum.specs.{Accepted, configuration_of}
+use Rattle.usb_pipe.specs.{PipeState, pipe_made, Interrupt, interrupt_made, Condition}
+use Rattle.usb_enum.specs.{Accepted, Finding}
 use Rattle.usb_table.specs.{AreFunctionPipes, AreInPlace, At, EndpointChoice, FirstBulk}
 use Rattle.usb_table.specs.{FunctionPipes, end_under, first_lost, first_unclear, IsPlace, lost_at}
-use Rattle.usb_table.specs.{lost_if, moves_bulk, unclear, IsEndPipe, first_number, first_pipe}
-use Rattle.usb_table.specs.{function_made, gives_bytes, is_bulk_kind, gives_reports, only_if}
-use Rattle.usb_table.specs.{pipe_at, pipe_if, pipe_to, polls_through, receives_through, row_made}
-use Rattle.usb_table.specs.{sends_through, takes_bytes, way_to, with_pipe, with_rest}
+use Rattle.usb_table.specs.{IsEndPipe, first_number, first_pipe, function_made, only_if, pipe_at}
+use Rattle.usb_table.specs.{pipe_if, pipe_to, polls_through, receives_through, row_made}
+use Rattle.usb_table.specs.{sends_through, way_to, with_pipe, with_rest, Pipes, Absent, AreAbsent}
+use Rattle.usb_table.specs.{lost_row, IsStatusPipe, IsPipe, ArePipesTo, ArePipesOf, pipes_made}
+use Rattle.arrayvec.specs.ArrayVec.{ArrayVec}
+use Rattle.usb_pipe.specs.declared.condition.Condition.TheVariants.{Broken}
 
 -- Rows
 
 none_less : {P : Type 0} (n : ℕ) → n < 0 → P
-none_less n h = absurd (lt_zero n h)
-  where
-    lt_zero : (n : ℕ) → n < 0 → ⊥
-    lt_zero n h = omega (arith, h)
+none_less n h = grind arith
 
 module _ {A : Type 0} (none : A) where
   pub slice_set-row : (n : ℕ) (x : A) (row : List A) → n < length row
@@ -49,113 +46,64 @@ row_made-with : (n : ℕ) (pipe left : PipeState) (row : List (Option PipeState)
     → row_made (with_at None n (Some left) row) ≡ row_made row
 unfolding with_at
 row_made-with zero pipe left [] e same = absurd (cc e)
-row_made-with zero pipe left (y ∷ row) e same =
-    ap (λ x. x ∷ row_made row) (ap Some same ∙ sym (ap (option_map pipe_made) e))
+row_made-with zero pipe left (y ∷ row) e same = grind arith
 row_made-with (suc n) pipe left [] e same = absurd (cc e)
 row_made-with (suc n) pipe left (y ∷ row) e same =
-    ap (λ more. option_map pipe_made y ∷ more) (row_made-with n pipe left row e same)
+    grind (arith, row_made-with n pipe left row e same)
 
 -- The pipes with another one
 
 module _ (pipe : PipeState) (pipes : FunctionPipes) where
-  abbrev with_way : Bool → FunctionPipes
-  with_way is_in =
-      if is_in then record pipes { ins = with_at None pipe.ep (Some pipe) pipes.ins }
-      else record pipes { outs = with_at None pipe.ep (Some pipe) pipes.outs }
-
   -- it stands there
   pub at_with : (is_in : Bool) (e : ℕ) → pipe.is_in ≡ is_in → pipe.ep ≡ e
       → pipe_at is_in e (with_pipe pipe pipes) ≡ Some pipe
-  at_with is_in e way number = rw (← way, ← number) (by_way pipe.is_in)
-    where
-      by_way : (b : Bool) → pipe_at b pipe.ep (with_way b) ≡ Some pipe
-      by_way true = at_same None pipe.ep (Some pipe) pipes.ins
-      by_way false = at_same None pipe.ep (Some pipe) pipes.outs
+  at_with is_in e way number = grind (arith, at_same)
 
   -- all others stay
   pub at_elsewhere : (is_in : Bool) (e : ℕ) → (pipe.is_in ≡ is_in → (e == pipe.ep) ≡ false)
       → pipe_at is_in e (with_pipe pipe pipes) ≡ pipe_at is_in e pipes
-  at_elsewhere is_in e = by_ways pipe.is_in is_in
-    where
-      by_ways : (b c : Bool) → (b ≡ c → (e == pipe.ep) ≡ false)
-          → pipe_at c e (with_way b) ≡ pipe_at c e pipes
-      by_ways true true apart = at_other None pipe.ep e (Some pipe) pipes.ins (apart refl)
-      by_ways true false apart = refl
-      by_ways false true apart = refl
-      by_ways false false apart = at_other None pipe.ep e (Some pipe) pipes.outs (apart refl)
+  at_elsewhere is_in e h = grind (arith, at_other)
 
-  pub first_with : (is_in : Bool)
+  first_with : (is_in : Bool)
       → first_number is_in (with_pipe pipe pipes) ≡ first_number is_in pipes
-  first_with is_in = by_ways pipe.is_in is_in
-    where
-      by_ways : (b c : Bool) → first_number c (with_way b) ≡ first_number c pipes
-      by_ways true true = refl
-      by_ways true false = refl
-      by_ways false true = refl
-      by_ways false false = refl
+  first_with is_in = grind arith
 
   -- the marks stay
-  pub lost_with : (is_in : Bool) (e : ℕ)
+  lost_with : (is_in : Bool) (e : ℕ)
       → lost_at is_in e (with_pipe pipe pipes) ≡ lost_at is_in e pipes
-  lost_with is_in e = by_ways pipe.is_in is_in
-    where
-      by_ways : (b c : Bool) → lost_at c e (with_way b) ≡ lost_at c e pipes
-      by_ways true true = refl
-      by_ways true false = refl
-      by_ways false true = refl
-      by_ways false false = refl
+  lost_with is_in e = grind arith
 
   -- if it stood there, nothing changes
   pub with_same : pipe_at pipe.is_in pipe.ep pipes ≡ Some pipe → with_pipe pipe pipes ≡ pipes
-  with_same = by_way pipe.is_in
-    where
-      by_way : (b : Bool) → pipe_at b pipe.ep pipes ≡ Some pipe → with_way b ≡ pipes
-      by_way true at = ap (λ row. record pipes { ins = row }) (row_same pipe.ep pipe pipes.ins at)
-      by_way false at =
-          ap (λ row. record pipes { outs = row }) (row_same pipe.ep pipe pipes.outs at)
+  with_same h = grind (arith, row_same)
 
   with_made : (was : PipeState) → pipe_at pipe.is_in pipe.ep pipes ≡ Some was
       → pipe_made pipe ≡ pipe_made was → function_made (with_pipe pipe pipes) ≡ function_made pipes
-  with_made was at same = by_way pipe.is_in at
-    where
-      by_way : (b : Bool) → pipe_at b pipe.ep pipes ≡ Some was
-          → function_made (with_way b) ≡ function_made pipes
-      by_way true at = ap (λ row. record (function_made pipes) { ins = row })
-          (row_made-with pipe.ep was pipe pipes.ins at same)
-      by_way false at = ap (λ row. record (function_made pipes) { outs = row })
-          (row_made-with pipe.ep was pipe pipes.outs at same)
+  with_made was at same = grind (arith, row_made-with)
 
-pub lost_first : (is_in : Bool) (pipe : PipeState) (pipes : FunctionPipes)
+lost_first : (is_in : Bool) (pipe : PipeState) (pipes : FunctionPipes)
     → first_lost is_in (with_pipe pipe pipes) ≡ first_lost is_in pipes
-lost_first is_in pipe pipes =
-    ap (λ o. lost_if is_in o (with_pipe pipe pipes)) (first_with pipe pipes is_in)
-    ∙ by_number (first_number is_in pipes)
-  where
-    by_number : (o : Option ℕ) → lost_if is_in o (with_pipe pipe pipes) ≡ lost_if is_in o pipes
-    by_number None = refl
-    by_number (Some e) = lost_with pipe pipes is_in e
+lost_first is_in pipe pipes = grind (arith, first_with, lost_with)
 
 -- what a call leaves of a pipe is to the same endpoint
 
 pub same_way : (pipe left : PipeState) → pipe_made left ≡ pipe_made pipe → left.is_in ≡ pipe.is_in
-same_way pipe left same = ap (λ (p : PipeState). p.is_in) same
+same_way pipe left same = grind arith
 
 pub same_number : (pipe left : PipeState) → pipe_made left ≡ pipe_made pipe → left.ep ≡ pipe.ep
-same_number pipe left same = ap (λ (p : PipeState). p.ep) same
+same_number pipe left same = grind arith
 
 pub made_with : (pipe left : PipeState) (pipes : FunctionPipes)
     → pipe_at pipe.is_in pipe.ep pipes ≡ Some pipe → pipe_made left ≡ pipe_made pipe
     → function_made (with_pipe left pipes) ≡ function_made pipes
-made_with pipe left pipes at same =
-    with_made left pipes pipe (rw (same_way pipe left same, same_number pipe left same) at) same
+made_with pipe left pipes at same = grind (arith, same_number, same_way, with_made)
 
 -- of pipes as they were made each is as it was made
 at_row : (is_in : Bool) (e : ℕ) (pipes : FunctionPipes)
     → pipe_at is_in e (function_made pipes) ≡ option_map pipe_made (pipe_at is_in e pipes)
-at_row true e pipes = at_mapped None (option_map pipe_made) refl e pipes.ins
-at_row false e pipes = at_mapped None (option_map pipe_made) refl e pipes.outs
+at_row is_in e pipes = grind (arith, at_mapped)
 
-pub at_made : (is_in : Bool) (e : ℕ) (pipes left : FunctionPipes)
+at_made : (is_in : Bool) (e : ℕ) (pipes left : FunctionPipes)
     → function_made left ≡ function_made pipes
     → option_map pipe_made (pipe_at is_in e left) ≡ option_map pipe_made (pipe_at is_in e pipes)
 at_made is_in e pipes left same =
@@ -163,10 +111,9 @@ at_made is_in e pipes left same =
 
 -- Pipes that are picked
 
-pub place_of : (pipes : FunctionPipes) → AreInPlace pipes → (is_in : Bool) (e : ℕ)
+place_of : (pipes : FunctionPipes) → AreInPlace pipes → (is_in : Bool) (e : ℕ)
     (pipe : PipeState) → pipe_at is_in e pipes ≡ Some pipe → (pipe.is_in ≡ is_in) × (pipe.ep ≡ e)
-place_of pipes placed is_in e pipe at =
-    subst (λ o. IfSome o (λ (p : PipeState). (p.is_in ≡ is_in) × (p.ep ≡ e))) at (placed is_in e)
+place_of pipes placed is_in e pipe at = grind arith
 
 -- pipes to the same endpoints stand so, too
 pub placed_made : (pipes left : FunctionPipes) → function_made left ≡ function_made pipes
@@ -196,46 +143,22 @@ abbrev pub Picks : (FunctionPipes → Option PipeState) → Type 0
 Picks pick = (pipes : FunctionPipes) (pipe : PipeState) → AreInPlace pipes
     → pick pipes ≡ Some pipe → PickedAt pick pipes pipe
 
-pub at_picks : (is_in : Bool) (e : ℕ) → Picks (pipe_at is_in e)
-at_picks is_in e pipes pipe placed at =
-    let place = place_of pipes placed is_in e pipe at in
-    record {
-      at = ap (λ b. pipe_at b pipe.ep pipes) place.0 ∙ ap (λ n. pipe_at is_in n pipes) place.1 ∙ at;
-      again = λ left same. at_with left pipes is_in e (same_way pipe left same ∙ place.0)
-          (same_number pipe left same ∙ place.1);
-    }
+at_picks : (is_in : Bool) (e : ℕ) → Picks (pipe_at is_in e)
+at_picks is_in e = grind (arith, at_with, place_of, same_number, same_way)
 
 pub to_picks : (a : ℕ) → Picks (pipe_to a)
-to_picks a = at_picks (nat_le DIRECTION_IN a) (a % DIRECTION_IN)
+to_picks a = grind (arith, at_picks)
 
 -- the one at the number of the first bulk endpoint
 abbrev at_first : Bool → FunctionPipes → Option PipeState
 at_first is_in pipes = pipe_if is_in (first_number is_in pipes) pipes
 
 number_picks : (is_in : Bool) → Picks (at_first is_in)
-number_picks is_in pipes pipe placed h = by_number (first_number is_in pipes) refl h
-  where
-    by_number : (o : Option ℕ) → first_number is_in pipes ≡ o → pipe_if is_in o pipes ≡ Some pipe
-        → PickedAt (at_first is_in) pipes pipe
-    by_number None is at = absurd (cc at)
-    by_number (Some e) is at =
-        let x = at_picks is_in e pipes pipe placed at in
-        record {
-          at = x.at;
-          again = λ left same.
-              ap (λ o. pipe_if is_in o (with_pipe left pipes)) (first_with left pipes is_in ∙ is)
-              ∙ x.again left same;
-        }
+number_picks is_in = grind (arith, at_picks, first_with)
 
-pub only_some : (test : PipeState → Bool) (o : Option PipeState) (pipe : PipeState)
+only_some : (test : PipeState → Bool) (o : Option PipeState) (pipe : PipeState)
     → only_if test o ≡ Some pipe → (o ≡ Some pipe) × (test pipe ≡ true)
-only_some test None pipe h = absurd (cc h)
-only_some test (Some p) pipe h = by_test (test p) refl h
-  where
-    by_test : (b : Bool) → test p ≡ b → (if b then Some p else None) ≡ Some pipe
-        → (Some p ≡ Some pipe) × (test pipe ≡ true)
-    by_test false is e = absurd (cc e)
-    by_test true is e = let same : p ≡ pipe = cc e in (e, ap test (sym same) ∙ is)
+only_some test o pipe h = grind arith
 
 only_picks : (test : PipeState → Bool) → ((pipe left : PipeState)
     → pipe_made left ≡ pipe_made pipe → test left ≡ test pipe)
@@ -251,69 +174,44 @@ only_picks test still pick picks pipes pipe placed h =
     }
 
 pub first_picks : (is_in : Bool) → Picks (first_pipe is_in)
-first_picks is_in =
-    only_picks moves_bulk (λ pipe left same. ap moves_bulk same) (at_first is_in)
-    (number_picks is_in)
+first_picks is_in = grind (arith, number_picks, only_picks)
 
 pub sends_picks : (choice : EndpointChoice) → Picks (sends_through choice)
 sends_picks FirstBulk = first_picks false
-sends_picks (At a) =
-    only_picks takes_bytes (λ pipe left same. ap takes_bytes same) (pipe_to a) (to_picks a)
+sends_picks (At a) = grind (arith, only_picks, to_picks)
 
 pub receives_picks : (choice : EndpointChoice) → Picks (receives_through choice)
 receives_picks FirstBulk = first_picks true
-receives_picks (At a) =
-    only_picks gives_bytes (λ pipe left same. ap gives_bytes same) (pipe_to a) (to_picks a)
+receives_picks (At a) = grind (arith, only_picks, to_picks)
 
 pub polls_picks : (a : ℕ) → Picks (polls_through a)
-polls_picks a = only_picks gives_reports (λ pipe left same. ap gives_reports same) (pipe_to a)
-    (to_picks a)
+polls_picks a = grind (arith, only_picks, to_picks)
 
 -- Their directions
 
 pub first_way : (is_in : Bool) (pipes : FunctionPipes) (pipe : PipeState) → AreInPlace pipes
     → first_pipe is_in pipes ≡ Some pipe → pipe.is_in ≡ is_in
-first_way is_in pipes pipe placed h =
-    by_number (first_number is_in pipes) (only_some moves_bulk (at_first is_in pipes) pipe h).0
-  where
-    by_number : (o : Option ℕ) → pipe_if is_in o pipes ≡ Some pipe → pipe.is_in ≡ is_in
-    by_number None at = absurd (cc at)
-    by_number (Some e) at = (place_of pipes placed is_in e pipe at).0
+first_way is_in pipes pipe placed h = grind (arith, only_some, place_of)
 
 pub sends_way : (choice : EndpointChoice) (pipes : FunctionPipes) (pipe : PipeState)
     → AreInPlace pipes → sends_through choice pipes ≡ Some pipe → pipe.is_in ≡ false
 sends_way FirstBulk pipes pipe placed h = first_way false pipes pipe placed h
-sends_way (At a) pipes pipe placed h =
-    not-true pipe.is_in (only_some takes_bytes (pipe_to a pipes) pipe h).1
+sends_way (At a) pipes pipe placed h = grind (arith, not-true, only_some)
 
 pub receives_way : (choice : EndpointChoice) (pipes : FunctionPipes) (pipe : PipeState)
     → AreInPlace pipes → receives_through choice pipes ≡ Some pipe → pipe.is_in ≡ true
 receives_way FirstBulk pipes pipe placed h = first_way true pipes pipe placed h
-receives_way (At a) pipes pipe placed h =
-    (both pipe.is_in (is_bulk_kind pipe.kind)
-    (only_some gives_bytes (pipe_to a pipes) pipe h).1).0
+receives_way (At a) pipes pipe placed h = grind (arith, both, only_some)
 
 pub polls_way : (a : ℕ) (pipes : FunctionPipes) (pipe : PipeState)
     → polls_through a pipes ≡ Some pipe → pipe.is_in ≡ true
-polls_way a pipes pipe h =
-    (both pipe.is_in (not (is_bulk_kind pipe.kind))
-    (only_some gives_reports (pipe_to a pipes) pipe h).1).0
+polls_way a pipes pipe h = grind (arith, both, only_some)
 
 -- Pipes to a function that was found
 
 pub in_place : (device : Accepted) (below_hub : Bool) (pipes : FunctionPipes)
     → AreFunctionPipes device below_hub pipes → AreInPlace pipes
-in_place device below_hub pipes are is_in e =
-    by_pipe (end_under are.settings device is_in e) (lost_at is_in e pipes) (pipe_at is_in e pipes)
-    (are.each is_in e)
-  where
-    by_pipe : (end : Option UsableEndpoint) (lost : Option EndpointKind) (o : Option PipeState)
-        → IsPlace device below_hub is_in e end lost o
-        → IfSome o (λ p. (p.is_in ≡ is_in) × (p.ep ≡ e))
-    by_pipe end lost None is = tt
-    by_pipe None None (Some pipe) is = absurd is
-    by_pipe (Some end) None (Some pipe) is = (is.way, is.number)
-    by_pipe end (Some kind) (Some pipe) is = absurd (cc is)
+in_place device below_hub pipes are = grind arith
 
 -- one of them
 pub record IsPipeOf (device : Accepted) (below_hub : Bool) (pipes : FunctionPipes)
@@ -346,17 +244,13 @@ pipe_of device below_hub pipes pipe are at =
 module _ {device : Accepted} {below_hub : Bool} {pipes : FunctionPipes} (pipe : PipeState)
     (of : IsPipeOf device below_hub pipes pipe) where
   pub addressed : pipe.target.addr ≡ device.address
-  addressed = ap (λ (t : Target). t.addr) of.is.target
+  addressed = grind arith
 
   pub far_end : pipe.ep ≢ 0
-  far_end =
-      let small = (usable_under-small of.are.settings device.low pipe.is_in pipe.ep
-      (configuration_of device) of.end of.usable).0 in omega (arith, small)
+  far_end = grind (arith, usable_under-small)
 
   pub some_bytes : 1 ≤ pipe.max
-  some_bytes = rw of.is.max
-      (usable_under-small of.are.settings device.low pipe.is_in pipe.ep (configuration_of device)
-      of.end of.usable).2
+  some_bytes = grind (arith, usable_under-small)
 
 -- What is left of a pipe, if there is one
 
@@ -366,32 +260,23 @@ IsRest (Some pipe) None = ⊥
 IsRest (Some pipe) (Some left) = pipe_made left ≡ pipe_made pipe
 
 pub same_rest : (pipe : Option PipeState) → IsRest pipe pipe
-same_rest None = refl
-same_rest (Some pipe) = refl
+same_rest pipe = grind arith
 
 -- it goes the same way
 pub rest_way : (is_in : Bool) (o rest : Option PipeState)
     → IfSome o (λ (pipe : PipeState). pipe.is_in ≡ is_in) → IsRest o rest
     → IfSome rest (λ (pipe : PipeState). pipe.is_in ≡ is_in)
-rest_way is_in o None way is = tt
-rest_way is_in None (Some left) way is = absurd (cc is)
-rest_way is_in (Some pipe) (Some left) way is = same_way pipe left is ∙ way
+rest_way is_in o rest way is = grind (arith, same_way)
 
 pub first_ways : (is_in : Bool) (pipes : FunctionPipes) → AreInPlace pipes
     → IfSome (first_pipe is_in pipes) (λ (pipe : PipeState). pipe.is_in ≡ is_in)
-first_ways is_in pipes placed = by_pipe (first_pipe is_in pipes) refl
-  where
-    by_pipe : (o : Option PipeState) → first_pipe is_in pipes ≡ o
-        → IfSome o (λ (pipe : PipeState). pipe.is_in ≡ is_in)
-    by_pipe None h = tt
-    by_pipe (Some pipe) h = first_way is_in pipes pipe placed h
+first_ways is_in pipes placed = grind (arith, first_way)
 
 -- put back it is picked again, and the pipes are to the same endpoints
 pub rest_again : (pick : FunctionPipes → Option PipeState) → Picks pick → (pipes : FunctionPipes)
     → AreInPlace pipes → (o rest : Option PipeState) → pick pipes ≡ o → IsRest o rest
     → pick (with_rest rest pipes) ≡ rest
-rest_again pick picks pipes placed None rest at is =
-    subst (λ r. pick (with_rest r pipes) ≡ r) (sym is) at
+rest_again pick picks pipes placed None rest at is = grind arith
 rest_again pick picks pipes placed (Some pipe) None at is = absurd is
 rest_again pick picks pipes placed (Some pipe) (Some left) at is =
     (picks pipes pipe placed at).again left is
@@ -399,8 +284,7 @@ rest_again pick picks pipes placed (Some pipe) (Some left) at is =
 pub rest_made : (pick : FunctionPipes → Option PipeState) → Picks pick → (pipes : FunctionPipes)
     → AreInPlace pipes → (o rest : Option PipeState) → pick pipes ≡ o → IsRest o rest
     → function_made (with_rest rest pipes) ≡ function_made pipes
-rest_made pick picks pipes placed None rest at is =
-    ap (λ r. function_made (with_rest r pipes)) is
+rest_made pick picks pipes placed None rest at is = grind arith
 rest_made pick picks pipes placed (Some pipe) None at is = absurd is
 rest_made pick picks pipes placed (Some pipe) (Some left) at is =
     made_with pipe left pipes (picks pipes pipe placed at).at is
@@ -408,37 +292,23 @@ rest_made pick picks pipes placed (Some pipe) (Some left) at is =
 -- where a pipe is put back as it was, nothing changes
 pub rest_same : (pick : FunctionPipes → Option PipeState) → Picks pick → (pipes : FunctionPipes)
     → AreInPlace pipes → (o : Option PipeState) → pick pipes ≡ o → with_rest o pipes ≡ pipes
-rest_same pick picks pipes placed None at = refl
-rest_same pick picks pipes placed (Some pipe) at =
-    with_same pipe pipes (picks pipes pipe placed at).at
+rest_same pick picks pipes placed o at = grind (arith, with_same)
 
 -- a pipe of the other direction is not the first bulk one of this one
 number_apart : (is_in : Bool) (left : PipeState) (pipes : FunctionPipes)
     → (left.is_in ≡ is_in → ⊥) → at_first is_in (with_pipe left pipes) ≡ at_first is_in pipes
-number_apart is_in left pipes apart =
-    ap (λ o. pipe_if is_in o (with_pipe left pipes)) (first_with left pipes is_in)
-    ∙ by_number (first_number is_in pipes)
-  where
-    by_number : (o : Option ℕ) → pipe_if is_in o (with_pipe left pipes) ≡ pipe_if is_in o pipes
-    by_number None = refl
-    by_number (Some e) = at_elsewhere left pipes is_in e (λ same. absurd (apart same))
+number_apart is_in left pipes apart = grind (arith, at_elsewhere, first_with)
 
 pub first_beside : (is_in other : Bool) (rest : Option PipeState) (pipes : FunctionPipes)
     → IfSome rest (λ (pipe : PipeState). pipe.is_in ≡ other) → (other ≡ is_in → ⊥)
     → first_pipe is_in (with_rest rest pipes) ≡ first_pipe is_in pipes
-first_beside is_in other None pipes way apart = refl
-first_beside is_in other (Some left) pipes way apart =
-    ap (only_if moves_bulk) (number_apart is_in left pipes (λ same. apart (sym way ∙ same)))
+first_beside is_in other rest pipes way apart = grind (arith, number_apart)
 
 -- nor does it change whether the halt of the first one can be cleared
 pub unclear_beside : (is_in other : Bool) (rest : Option PipeState) (pipes : FunctionPipes)
     → IfSome rest (λ (pipe : PipeState). pipe.is_in ≡ other) → (other ≡ is_in → ⊥)
     → first_unclear is_in (with_rest rest pipes) ≡ first_unclear is_in pipes
-unclear_beside is_in other None pipes way apart = refl
-unclear_beside is_in other (Some left) pipes way apart =
-    ap (λ o. unclear o (first_lost is_in (with_pipe left pipes)))
-    (number_apart is_in left pipes (λ same. apart (sym way ∙ same)))
-    ∙ ap (unclear (at_first is_in pipes)) (lost_first is_in left pipes)
+unclear_beside is_in other rest pipes way apart = grind (arith, lost_first, number_apart)
 
 -- The pipe to an address, by its direction
 
@@ -449,5 +319,73 @@ one_way is_in pipe false = if not is_in then pipe else None
 
 pub way_to-one : (is_in : Bool) (a : ℕ) (pipes : FunctionPipes) (pipe : PipeState)
     → pipe_to a pipes ≡ Some pipe → way_to is_in a pipes ≡ one_way pipe.is_in (Some pipe) is_in
-way_to-one true a pipes pipe at = ap (only_if (λ (p : PipeState). p.is_in)) at
-way_to-one false a pipes pipe at = ap (only_if takes_bytes) at
+way_to-one is_in a pipes pipe at = grind arith
+
+-- A transfer leaves pipes to the same endpoints.
+
+pub broken_or_not : (c : Condition) → (c ≡ Broken) ⊎ (c ≢ Broken)
+broken_or_not c = grind arith
+
+pub empty_or_not : (xs : List ℕ) → (xs ≡ []) ⊎ (xs ≢ [])
+empty_or_not [] = inl refl
+empty_or_not (x ∷ xs) = inr (λ h. cc)
+
+-- Pipes are to a device just where they are as they were made
+
+end_to : (device : Accepted) (below_hub is_in : Bool) (e : ℕ) (end : Option UsableEndpoint)
+    (pipe left : Option PipeState) → option_map pipe_made left ≡ option_map pipe_made pipe
+    → IsPipe device below_hub is_in e end pipe → IsPipe device below_hub is_in e end left
+end_to device below_hub is_in e end pipe left same to = grind arith
+
+same_first : (is_in : Bool) (pipes left : FunctionPipes)
+    → function_made left ≡ function_made pipes
+    → first_number is_in left ≡ first_number is_in pipes
+same_first is_in pipes left same = grind arith
+
+same_lost : (is_in : Bool) (pipes left : FunctionPipes)
+    → function_made left ≡ function_made pipes → lost_row is_in left ≡ lost_row is_in pipes
+same_lost is_in pipes left same = grind arith
+
+place_to : (device : Accepted) (below_hub is_in : Bool) (e : ℕ) (end : Option UsableEndpoint)
+    (lost : Option EndpointKind) (pipe left : Option PipeState)
+    → option_map pipe_made left ≡ option_map pipe_made pipe
+    → IsPlace device below_hub is_in e end lost pipe
+    → IsPlace device below_hub is_in e end lost left
+place_to device below_hub is_in e end lost pipe left same to = grind (arith, end_to)
+
+pub function_to : (device : Accepted) (below_hub : Bool) (pipes left : FunctionPipes)
+    → function_made left ≡ function_made pipes → AreFunctionPipes device below_hub pipes
+    → AreFunctionPipes device below_hub left
+function_to device below_hub pipes left same are = record {
+  function = are.function;
+  settings = are.settings;
+  all = are.all;
+  each = λ is_in e.
+      rw (same_lost is_in pipes left same)
+      (place_to device below_hub is_in e _ _ _ _ (at_made is_in e pipes left same)
+      (are.each is_in e));
+  first = λ is_in. same_first is_in pipes left same ∙ are.first is_in;
+}
+
+status_to : (device : Accepted) (below_hub : Bool) (pipe left : Interrupt)
+    → interrupt_made left ≡ interrupt_made pipe → IsStatusPipe device below_hub pipe
+    → IsStatusPipe device below_hub left
+status_to device below_hub pipe left same to = grind arith
+
+pipes_to : (device : Accepted) (below_hub : Bool) (pipes left : Pipes)
+    → pipes_made left ≡ pipes_made pipes → ArePipesTo device below_hub pipes
+    → ArePipesTo device below_hub left
+pipes_to device below_hub pipes left same are = grind (arith, function_to, status_to)
+
+made_absent : (left : Pipes) (said : ArrayVec ℕ) → pipes_made left ≡ Absent said → AreAbsent left
+made_absent left said same = grind arith
+
+-- Calls keep them
+
+abbrev pub Keep : Finding → Pipes → Pipes → Type 0
+Keep finding pipes left = (below_hub : Bool) → ArePipesOf finding below_hub pipes
+    → ArePipesOf finding below_hub left
+
+pub same_keep : (finding : Finding) (pipes left : Pipes) → pipes_made left ≡ pipes_made pipes
+    → Keep finding pipes left
+same_keep finding pipes left same = grind (arith, made_absent, pipes_to)

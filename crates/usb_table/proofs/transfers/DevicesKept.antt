@@ -1,17 +1,16 @@
 -- Transfers through pipes leave each device with its description and registers, ask nothing of
 -- ports, and add nothing to what is left to do.
-use Rattle.std.proofs.Common.{◌≡◌, ◌≢◌, ◌⊎◌, inl, inr, ℕ, ◌==◌, true, false, List, Option, None}
-use Rattle.std.proofs.Common.{Some, Result, Ok, Err, refl, ap, sym, subst, ◌∙◌, Bool}
+use Rattle.std.proofs.Common.{arith, ◌≡◌, ◌≢◌, ◌⊎◌, inl, inr, ℕ, ◌==◌, true, false, List, Option}
+use Rattle.std.proofs.Common.{None, Result, Ok, Err, refl, ap, sym, subst, ◌∙◌, Bool}
 use Rattle.std.specs.Global.{Vec}
 use Rattle.std.proofs.lemmas.Bool.{cases_eq}
 use Rattle.arrayvec.specs.ArrayVec.{ArrayVec}
 use Rattle.usb_packet.specs.{Toggle, One}
 use Rattle.usb_port.specs.{PortState}
 use Rattle.usb_request.specs.{PORT_OUT, SET_FEATURE, bytes_of, clear_endpoint_halt, Setup}
-use Rattle.usb_device.specs.{ServedEndpoint, BulkOut, BulkIn, Changes, OnlyControl, Is, Outcome}
-use Rattle.usb_device.specs.{stalled, unhalts, on_endpoint, outcome, State, begun_again, begun}
-use Rattle.usb_device.specs.{accepted, Spec, Registers, first_stage, ending, Location, reach_on}
-use Rattle.usb_device.specs.{state_on}
+use Rattle.usb_device.specs.{ServedEndpoint, OnlyControl, Is, Outcome, stalled, unhalts}
+use Rattle.usb_device.specs.{on_endpoint, outcome, State, begun_again, begun, accepted, Spec}
+use Rattle.usb_device.specs.{Registers, first_stage, ending, Location}
 use Rattle.usb_world.specs.{Attempt, BusFault, is_setup, EachWas, DidIn, DidOut, IsMade, IsIn}
 use Rattle.usb_world.specs.{IsOut, asks_no_port, LeavesPortAlone, Step, attempt, after}
 use Rattle.usb_world.specs.{with_attempt, Course, here, step, World, HasFault}
@@ -41,44 +40,33 @@ use Rattle.usb_hub.proofs.Interface.{each_leaves, order_elsewhere, write_backlog
 use Rattle.usb_hub.proofs.Interface.{write_so}
 use Rattle.usb_enum.proofs.Interface.{ends_without_fault}
 use Rattle.usb_table.specs.{SameSettings, KeepsSettings, OnlyTransfers}
-use Rattle.usb_table.proofs.levels.KeptPipes.{broken_or_not, empty_or_not}
+use Rattle.usb_table.proofs.levels.StandingPipes.{broken_or_not, empty_or_not}
 
 -- Each device over such an attempt
 
 abbrev pub RanAs : Location → State → State → Type 0
 RanAs j s v = Ran s v
 
-data IsBulkAttempt (a : Attempt) : Type 0 where
+pub data IsBulkAttempt (a : Attempt) : Type 0 where
   into : IsIn a → (a.ep == 0) ≡ false → IsBulkAttempt a
   out : (t : Toggle) (bytes : List ℕ) → IsOut a t bytes → (a.ep == 0) ≡ false → IsBulkAttempt a
 
 far_kind : (a : Attempt) → IsBulkAttempt a → is_setup a.kind ≡ false
-far_kind a (into i far) = ap is_setup i.kind
-far_kind a (out t bytes i far) = ap is_setup i.kind
+far_kind a h = grind arith
 
 as_it_was : (s v : State) → v ≡ s → Ran s v
-as_it_was s v e = (ap (λ x. x.spec) e, ap (λ x. x.registers) e, ap (λ x. x.changes.halted) e)
+as_it_was s v e = grind arith
 
 ran_same : (s u v : State) → v ≡ u → Ran s u → Ran s v
-ran_same s u v e h = (
-  ap (λ x. x.spec) e ∙ h.0,
-  ap (λ x. x.registers) e ∙ h.1,
-  ap (λ x. x.changes.halted) e ∙ h.2,
-)
+ran_same s u v e h = grind arith
 
 did_in : (a : Attempt) (w : World) (j : Location) (s v : State) → (a.ep == 0) ≡ false
     → DidIn a w j s v → RanAs j s v
-did_in a w j s v far (DidIn.other d e) = as_it_was s v e
-did_in a w j s v far (DidIn.silent at y o e) = as_it_was s v e
-did_in a w j s v far (DidIn.asked at y b below h x o e) =
-    ran_same s _ v e (in_kept s _ a.ep a.max x.first x.second x.third far)
+did_in a w j s v far h = grind (arith, as_it_was, in_kept, ran_same)
 
 did_out : (a : Attempt) (t : Toggle) (bytes : List ℕ) (w : World) (j : Location) (s v : State)
     → (a.ep == 0) ≡ false → DidOut a t bytes w j s v → RanAs j s v
-did_out a t bytes w j s v far (DidOut.other d e) = as_it_was s v e
-did_out a t bytes w j s v far (DidOut.silent at y o e) = as_it_was s v e
-did_out a t bytes w j s v far (DidOut.asked at y x o e) =
-    ran_same s _ v e (out_kept s a.ep t bytes x.first x.second x.third far)
+did_out a t bytes w j s v far h = grind (arith, as_it_was, out_kept, ran_same)
 
 each_far : (a : Attempt) (w : World) → IsBulkAttempt a → IsMade a w → (after (attempt a) w).shared
     ≡ false → EachWas RanAs w (after (attempt a) w)
@@ -89,15 +77,14 @@ each_far a w (out t bytes i far) m single =
     (after (attempt a) w) (each_out a w t bytes m i single)
 
 each_itself : (w : World) → EachWas RanAs w w
-each_itself w = each_none RanAs (λ j s. (refl, refl, refl)) w
+each_itself w = grind (arith, each_none)
 
 each_ran_then : (u w v : World) → EachWas RanAs u w → EachWas RanAs w v → EachWas RanAs u v
 each_ran_then u w v x y = each_joined RanAs RanAs RanAs
     (λ j s t v h k. (k.0 ∙ h.0, k.1 ∙ h.1, k.2 ∙ h.2)) u w v x y
 
 each_ran_at : (u w v : World) → w.roots ≡ v.roots → EachWas RanAs u w → EachWas RanAs u v
-each_ran_at u w v e x j s on there = x j s (ap (λ k. reach_on k j) e ∙ on) (ap (λ k. state_on k j) e
-    ∙ there)
+each_ran_at u w v e x = grind arith
 
 -- no address was held twice before, and each device stays
 record Stayed (w v : World) : Type 0 where
@@ -107,8 +94,7 @@ record Stayed (w v : World) : Type 0 where
 made_single : (a : Attempt) (w : World) → IsMade a w → (after (attempt a) w).shared ≡ false
     → w.shared ≡ false
 unfolding with_attempt
-made_single a w m single =
-    sym (ready_shared w) ∙ (neither _ _ (sym (ap (λ x. x.shared) (made_is a w m)) ∙ single)).0
+made_single a w m single = grind (arith, made_is, neither, ready_shared)
 
 step_stays : (a : Attempt) (w : World) → IsBulkAttempt a → IsSettled w.roots
     → (after (attempt a) w).shared ≡ false → Stayed w (after (attempt a) w)
@@ -131,7 +117,7 @@ pub record Spared (old new : World) : Type 0 where
   pub rests : new.fault ≡ None → TouchesNoPort old new
   pub backlog : new.fault ≡ None → KeepsAll old new
 
-abbrev IsFarStep : Step → Type 0
+abbrev pub IsFarStep : Step → Type 0
 IsFarStep s = (a : Attempt) × (s ≡ attempt a) × IsBulkAttempt a
 
 any_stays : (s : Step) (w : World) → IsFarStep s → IsSettled w.roots → (after s w).shared ≡ false
@@ -149,7 +135,7 @@ any_keeps m v r few s w (a, e, far) settled = rw e (λ ports.
 
 module _ (K : Step → World → Type 0) (far : (s : Step) (w : World) → K s w → IsFarStep s) where
   course_stays : {w v : World} → Course K w v → IsSettled w.roots → v.shared ≡ false → Stayed w v
-  course_stays (here w) settled single = record { before = single; each = each_itself w }
+  course_stays (here w) settled single = grind (arith, each_itself)
   course_stays (step s {w} {v} k c) settled single =
       let rest = course_stays c (settled_after s w settled) single in
       let first = any_stays s w (far s w k) settled rest.before in
@@ -209,7 +195,7 @@ module _ (K : Step → World → Type 0) (far : (s : Step) (w : World) → K s w
 
 only_far : (t : Target) (ep : ℕ) → ep ≢ 0 → (s : Step) (w : World) → IsOnly (in_attempt t ep) s w
     → IsFarStep s
-only_far t ep far s w e = (_, e, into (record { kind = refl; payload = refl }) (unequal ep 0 far))
+only_far t ep far s w e = grind (arith, unequal)
 
 sends_far : (t : Target) (ep : ℕ) (first : Toggle) (bytes : List ℕ) (old : World) → ep ≢ 0
     → (s : Step) (w : World) → SendsAt t ep first bytes old s w → IsFarStep s
@@ -232,8 +218,7 @@ polls_spare pipe far old result left new settled x =
 
 spared_if : {old new : World} → IsSettled old.roots ⊎ (new ≡ old)
     → (IsSettled old.roots → Spared old new) → Spared old new
-spared_if {old} (inl settled) spared = spared settled
-spared_if {old} (inr same) spared = rw same (spared_none old)
+spared_if h spared = grind (arith, spared_none)
 
 -- What each leaves, with the addresses
 
@@ -292,13 +277,7 @@ module _ (wanted : ℕ) (pipe : PipeState) (far : pipe.ep ≢ 0) (old : World)
     (answer : Result (Vec ℕ) PipeFault) (left : PipeState) (new : World)
     (x : Receives wanted pipe old answer left new) where
   came_or_same : IsSettled old.roots ⊎ (new ≡ old)
-  came_or_same = elim (broken_or_not pipe.condition) [
-    | inl broken ↦ inr (x.broken broken).2
-    | inr works ↦ elim (cases_eq wanted 0) [
-      | inl nothing ↦ inr (x.nothing works nothing).2
-      | inr more ↦ inl (x.moved works more).settled
-    ]
-  ]
+  came_or_same = grind (arith, broken_or_not, cases_eq)
 
   pub receive_keeps : PipeKeeps old answer new
   receive_keeps =
@@ -337,12 +316,11 @@ module _ (pipe : PipeState) (far : pipe.ep ≢ 0) (old : World)
 -- CLEAR_FEATURE(ENDPOINT_HALT)
 
 -- an endpoint halts no more, or the request is refused
-abbrev IsOfEndpoint : Outcome → Type 0
+abbrev pub IsOfEndpoint : Outcome → Type 0
 IsOfEndpoint o = (o ≡ stalled) ⊎ ((which : ServedEndpoint) × (o ≡ unhalts which))
 
 of_endpoint : (which : Option ServedEndpoint) → IsOfEndpoint (on_endpoint unhalts which)
-of_endpoint None = inl refl
-of_endpoint (Some which) = inr (which, refl)
+of_endpoint which = grind arith
 
 clear_outcome : (endpoint : ℕ) (spec : Spec) (g : Registers)
     → IsOfEndpoint (outcome spec g (clear_endpoint_halt endpoint))
@@ -350,37 +328,26 @@ unfolding clear_endpoint_halt outcome
 clear_outcome endpoint spec g = of_endpoint _
 
 begun_spec : (s : State) (which : ServedEndpoint) → (begun_again s which).spec ≡ s.spec
-begun_spec s (BulkOut e) = refl
-begun_spec s (BulkIn e) = refl
-begun_spec s Changes = refl
+begun_spec s which = grind arith
 
 begun_same : (s : State) (row : List PortState) (n : ℕ) (o : Outcome) → IsOfEndpoint o
     → ((begun s row n o).spec ≡ s.spec) × ((begun s row n o).registers ≡ s.registers)
-begun_same s row n o (inl e) = rw e (refl, refl)
-begun_same s row n o (inr (which, e)) = rw e (begun_spec s which, refl)
+begun_same s row n o h = grind (arith, begun_spec)
 
 endpoint_takes_no_address : (row : List PortState) (s : State) (n : ℕ) (address : Option ℕ)
     (o : Outcome) → IsOfEndpoint o → first_stage row s n o ≡ ending address → address ≡ None
-endpoint_takes_no_address row s n address o (inl e) is = let h = rw e at is in absurd (cc h)
-endpoint_takes_no_address row s n address o (inr (which, e)) is = let h = rw e at is in cc h
+endpoint_takes_no_address row s n address o h is = grind arith
 
 module _ (t : Target) (request : Setup) (of : (spec : Spec) (g : Registers)
     → IsOfEndpoint (outcome spec g request)) (old new : World) (j : Location) (s v : State) where
   accepted_stays : (row : List PortState) → OnlyControl (accepted s row request) v
       → v.registers ≡ (accepted s row request).registers → SameSettings j s v
-  accepted_stays row frame same =
-      let kept = begun_same s row request.length _ (of s.spec s.registers) in
-      (ap (λ x. x.spec) frame ∙ kept.0, same ∙ kept.1)
+  accepted_stays row frame same = grind (arith, begun_same)
 
   write_stays : (result : Result (Unit {0}) PipeFault) → WriteLeaves t request result old new j s v
       → SameSettings j s v
-  write_stays =
-      write_so t request old new j s v (SameSettings j s v) accepted_stays
-      (λ row address is frame given. accepted_stays row frame
-      (given_registers address (accepted s row request) v
-      (endpoint_takes_no_address row s request.length address
-      (outcome s.spec s.registers request) (of s.spec s.registers) is) given))
-      (λ frame same. (ap (λ x. x.spec) frame, same))
+  write_stays result h =
+      grind (arith, accepted_stays, endpoint_takes_no_address, given_registers, write_so)
 
 module _ (endpoint : ℕ) where
   clear_asks_no_port : asks_no_port (clear_endpoint_halt endpoint) ≡ true
@@ -391,11 +358,11 @@ module _ (endpoint : ℕ) where
   unfolding clear_endpoint_halt
   clear_sets_none = refl
 
-  pub clear_length : (clear_endpoint_halt endpoint).length ≡ 0
+  clear_length : (clear_endpoint_halt endpoint).length ≡ 0
   unfolding clear_endpoint_halt
   clear_length = refl
 
-pub cleared_ordered : (pipe : PipeState) (old : World) (result : Result (Unit {0}) PipeFault)
+cleared_ordered : (pipe : PipeState) (old : World) (result : Result (Unit {0}) PipeFault)
     (left : PipeState) (new : World) → Cleared pipe old result left new
     → Commanded pipe.target (clear_endpoint_halt (halt_address pipe.ep pipe.is_in)) old result new
 cleared_ordered pipe old result left new x = record {
@@ -427,17 +394,13 @@ cleared_keeps_settings pipe old result left new x = record {
 }
 
 pub sent_or_not : (b : Bool) → (b ≡ false) ⊎ (b ≡ true)
-sent_or_not false = inl refl
-sent_or_not true = inr refl
+sent_or_not b = grind arith
 
 module _ (is_sent : Bool) (pipe : PipeState) (old : World)
     (answer : Result (Unit {0}) PipeFault) (left : PipeState) (new : World)
     (x : Clears is_sent pipe old answer left new) where
   clears_told : (fault : BusFault) → answer ≡ Err (pipe_fault.Bus fault) → HasFault fault new
-  clears_told fault e = elim (sent_or_not is_sent) [
-    | inl not ↦ let is = (x.ready not).answer in absurd (cc (sym is ∙ e))
-    | inr sent ↦ rw e at (x.sent sent).ends
-  ]
+  clears_told fault e = grind (arith, sent_or_not)
 
   clears_only : OnlyTransfers old new
   clears_only = elim (sent_or_not is_sent) [
@@ -465,8 +428,7 @@ module _ (is_sent : Bool) (pipe : PipeState) (old : World)
 write_single : (t : Target) (request : Setup) (result : Result (Unit {0}) PipeFault)
     (old new : World) → IsSettled old.roots → Writes t request old result new → new.shared ≡ false
     → old.shared ≡ false
-write_single t request (Ok done) old new settled x single =
-    trail_unshared x.set_up.trail (trail_unshared x.status.trail single)
+write_single t request (Ok done) old new settled x single = grind (arith, trail_unshared)
 write_single t request (Err why) old new settled (inl x) single =
     transacted_unshared set_up_as (setup_attempt t (bytes_of request)) old new (Err x.fault)
     x.set_up settled single
@@ -478,8 +440,4 @@ write_single t request (Err why) old new settled (inr x) single =
 pub clears_single : (is_sent : Bool) (pipe : PipeState) (old : World)
     (result : Result (Unit {0}) PipeFault) (left : PipeState) (new : World)
     → Clears is_sent pipe old result left new → new.shared ≡ false → old.shared ≡ false
-clears_single is_sent pipe old result left new x single = elim (sent_or_not is_sent) [
-  | inl not ↦ ap (λ w. w.shared) (sym (x.ready not).world_kept) ∙ single
-  | inr so ↦ write_single pipe.target (clear_endpoint_halt (halt_address pipe.ep pipe.is_in))
-      result old new (x.sent so).settled (x.sent so).stages single
-]
+clears_single is_sent pipe old result left new x single = grind (arith, sent_or_not, write_single)

@@ -1,19 +1,19 @@
 -- A poll of a hub leaves its status pipe level, tells of its ports, and is answered where the hub
 -- is reached.
-use Rattle.std.proofs.Common.{◌≡◌, ◌≢◌, ◌∙◌, refl, sym, ap, subst, Bool, true, false, ℕ, ◌&&◌}
-use Rattle.std.proofs.Common.{eq-eqb, List, ◌||◌, not, Option, Some, None, IfSome, is_some, Result}
-use Rattle.std.proofs.Common.{arith, Ok, Err, IfOk, IsOk, MatchResult, if◌then◌else◌}
+use Rattle.std.proofs.Common.{◌≡◌, ◌≢◌, ◌∙◌, refl, sym, ap, subst, Bool, true, false, ℕ, eq-eqb}
+use Rattle.std.proofs.Common.{List, Option, Some, None, IfSome, is_some, Result, arith, Ok, Err}
+use Rattle.std.proofs.Common.{IfOk, IsOk, MatchResult}
 use Rattle.std.proofs.lemmas.Option.{same_Some}
 use Rattle.arrayvec.specs.ArrayVec.{ArrayVec}
 use Rattle.usb_device.specs.{State, Spec, place, reach, Location, path_to, state_there, reach_on}
 use Rattle.usb_device.specs.{change_bytes, hub_ports, state_on, told_bits}
 use Rattle.usb_world.specs.{Attempt, Outcome, is_setup, Was, EachWas, LeavesPortAlone, Course, here}
-use Rattle.usb_world.specs.{attempt, at_attempt, Relation, World}
-use Rattle.usb_tree.specs.{address_of, IsSettled, deep_at}
+use Rattle.usb_world.specs.{at_attempt, Relation, World}
+use Rattle.usb_tree.specs.{address_of, IsSettled}
 use Rattle.usb_world.proofs.Interface.{course_then, data_asks_nothing, each_none}
 use Rattle.usb_bus.specs.{StepRun}
-use Rattle.usb_transaction.specs.{AttemptsMade, transaction_bound, Target, Answerer, is_at}
-use Rattle.usb_transaction.specs.{AttemptLog, NoThreeDamaged, Listens}
+use Rattle.usb_transaction.specs.{AttemptsMade, transaction_bound, Answerer, is_at, AttemptLog}
+use Rattle.usb_transaction.specs.{NoThreeDamaged, Listens}
 use Rattle.usb_transaction.proofs.Interface.{trail_settled}
 use Rattle.usb_pipe.specs.{PipeFault, FaultAfter, Interrupt, IsNoBusFault, PollLeaves, PollTells}
 use Rattle.usb_pipe.specs.{ToldOf, PollingFailure, interrupt_made}
@@ -27,11 +27,10 @@ use Rattle.usb_table.specs.{StatusPipeInSync, InSyncAt, IsHeld, KeepsInSync, Bit
 use Rattle.usb_table.specs.{IsListening, KeepsPolled, TablePolls, SparesBulk, IsStatusPipe}
 use Rattle.usb_table.specs.{ArePipesIf, ArePipesTo, Table, pipes_at, GoesThrough, NotPolled}
 use Rattle.usb_table.specs.{OnlyTransfers, PipesPolled, PollTook, PolledThrough}
-use Rattle.usb_table.proofs.levels.FittingPipes.{PipesMove, poll_moves}
-use Rattle.usb_table.proofs.levels.Levels.{held_address, moved_levels, single, stands_there}
-use Rattle.usb_table.proofs.levels.Levels.{still_levels, stood_at}
-use Rattle.usb_table.proofs.levels.MovedPipes.{EachMoves}
-use Rattle.usb_table.proofs.transfers.SparedBulk.{spares-changes, spares-same}
+use Rattle.usb_table.proofs.levels.FittingPipes.{PipesMove, poll_moves, EachMoves}
+use Rattle.usb_table.proofs.levels.PathCalls.{held_address, moved_levels, single, stands_there}
+use Rattle.usb_table.proofs.levels.PathCalls.{still_levels, stood_at}
+use Rattle.usb_table.proofs.transfers.FreeRequests.{spares-changes, spares-same}
 use Rattle.usb_table.proofs.transfers.DevicesKept.{RanAs, polls_only, polls_spare, same_spares}
 
 -- INs ask nothing of any port
@@ -41,8 +40,7 @@ trail_rests : (x : List ℕ) {a : Attempt} {old mid : World} {outcomes : List Ou
     → Course (LeavesPortAlone x) old mid
 trail_rests x kind AttemptLog.start settled = here _
 trail_rests x {a} kind (AttemptLog.next w t m) settled =
-    course_then (attempt a) (trail_rests x kind t settled)
-    (data_asks_nothing a w x kind (trail_settled t settled))
+    grind (arith, trail_rests x kind t settled, course_then, data_asks_nothing, trail_settled)
 
 -- A poll of the hub at a path
 
@@ -53,16 +51,16 @@ module _ (path : List ℕ) (device : Accepted) (pipe rest : Interrupt) (old new 
     (are : IsStatusPipe device (is_below_hub path) pipe)
     (x : PolledThrough pipe before result rest after) where
   far : pipe.ep ≢ 0
-  far e = absurd (omega (arith, are.other, e))
+  far e = grind arith
 
   made : interrupt_made rest ≡ interrupt_made pipe
-  made = ap interrupt_made x.polls.pipe_left
+  made = grind arith
 
   addressed : pipe.target.addr ≡ device.address
-  addressed = ap (λ (t : Target). t.addr) are.target
+  addressed = grind arith
 
   leaves : after.shared ≡ false → EachWas (PollLeaves pipe before result rest after) before after
-  leaves = poll_tells pipe result rest before after x.settled x.polls
+  leaves = grind (arith, poll_tells)
 
   ran : after.shared ≡ false → EachWas RanAs before after
   ran = (polls_spare pipe far before result rest after x.settled x.polls).ran
@@ -130,7 +128,7 @@ module _ (path : List ℕ) (device : Accepted) (pipe rest : Interrupt) (old new 
   -- whoever has the address of the path is the hub
   there : IsHeld old before → (j : Location) (s : State) → reach_on before.roots j ≡ true
       → state_on before.roots j ≡ Some s → is_at s pipe.target ≡ true → path ≡ path_to j
-  there held = stands_there path old before held device stands pipe.target.addr addressed
+  there held = grind (arith, addressed, stands_there)
 
   hub_told : IsHeld old before → InSyncAt path old before → (got : Option (ArrayVec ℕ))
       → result ≡ Ok got → HubTold path before result after
@@ -203,25 +201,13 @@ module _ (path : List ℕ) (device : Accepted) (pipe rest : Interrupt) (old new 
   module _ (held : IsHeld old before) (level : InSyncAt path old before)
       (three : NoThreeDamaged before) (heard : IsListening path device after) where
     before_it : Was RanAs before heard.spot heard.state
-    before_it = ran (unshared held) heard.spot heard.state heard.on heard.stands
+    before_it = grind (arith, ran, unshared)
 
     fitted : Fitted before_it.before
     fitted = fits held level heard.spot heard.state heard.is before_it
 
-    abbrev hears_by : Bool → Bool → Bool → Spec → Bool
-    hears_by low pre deep d = if low then d.low && (not deep || pre) else not d.low
-
     listened : Listens pipe.target heard.spot before_it.before
-    listened = record {
-      at = fitted.1;
-      loud = ap (λ (d : Spec). d.silent) (sym before_it.so.0) ∙ heard.listens.loud;
-      hears =
-          ap (λ (t : Target). hears_by t.low t.pre (deep_at false heard.spot.rest)
-          before_it.before.spec) are.target
-          ∙ ap (λ (d : Spec). hears_by device.low (device.low && is_below_hub path)
-          (deep_at false heard.spot.rest) d) (sym before_it.so.0)
-          ∙ heard.listens.hears;
-    }
+    listened = grind (arith, before_it, fitted)
 
     never : (why : PipeFault) → IsNoBusFault {A = Option (ArrayVec ℕ)} (Err why) → result ≡ Err why
         → ⊥
@@ -250,20 +236,13 @@ module _ (path : List ℕ) (device : Accepted) (pipe rest : Interrupt) (old new 
 
   ok_got : (r : Result (Option (ArrayVec ℕ)) PipeFault) → IsOk r → (got : Option (ArrayVec ℕ))
       × (r ≡ Ok got)
-  ok_got (Ok got) ok = (got, refl)
-  ok_got (Err fault) ok = absurd (cc ok)
+  ok_got r ok = grind arith
 
   same_one : (d : Accepted) → accepted_device_at path old.entries ≡ Some d → device ≡ d
   same_one d e = same_Some device d (sym stands ∙ e)
 
-  pub hub_polled : KeepsPolled path old before result new after
-  hub_polled = record {
-    levels = hub_levels;
-    told = λ held level d e hub ok. let g = ok_got result ok in hub_told held level g.0 g.1;
-    why = λ held level three d e hub heard. hub_served held level three
-        (rw (same_one d e) heard);
-    spares = hub_spares;
-  }
+  hub_polled : KeepsPolled path old before result new after
+  hub_polled = grind (arith, hub_levels, hub_served, hub_spares, hub_told, ok_got, same_one)
 
 -- Whatever stands there
 
@@ -289,18 +268,14 @@ module _ (path : List ℕ) (old new : Table) (before after : World)
       → PipesPolled pipes before result left after → KeepsPolled path old before result new after
   polled_to device (Hub pipe) left e was is are x =
       hub_polled path device pipe x.0 old new before after result goes e was (is ∙ x.1) are.1 x.2
-  polled_to device (Function pipes) left e was is are x =
-      none_polled (λ d f hub. absurd (cc (same_Some device d (sym e ∙ f), hub, are.function)))
-      (x.0, is ∙ x.1 ∙ sym was, x.2)
+  polled_to device (Function pipes) left e was is are x = grind (arith, none_polled, same_Some)
   polled_to device (Absent said) left e was is are x = absurd are
 
   polled_by : (found : Option Accepted) → accepted_device_at path old.entries ≡ found
       → ArePipesIf found (is_below_hub path) (pipes_at path old)
       → PipesPolled (pipes_at path old) before result (pipes_at path new) after
       → KeepsPolled path old before result new after
-  polled_by None e none x =
-      let y = rw none.1 at x in
-      none_polled (λ d f hub. absurd (cc (sym e ∙ f))) (y.0, y.1 ∙ sym none.1, y.2)
+  polled_by None e none x = grind (arith, none_polled)
   polled_by (Some device) e are x =
       polled_to device (pipes_at path old) (pipes_at path new) e refl refl are x
 
@@ -309,13 +284,11 @@ module _ (path : List ℕ) (old new : Table) (before after : World)
 took_by : (old : World) (result : Result (Option (ArrayVec ℕ)) PipeFault) (new : World)
     → MatchResult result (λ _. AttemptsMade 1 old new) (λ fault. FaultAfter 0 old fault new)
     → PollTook old result new
-took_by old (Ok None) new ends = tt
-took_by old _ new ends = ends
+took_by old result new ends = grind arith
 
 polled_took : (pipes left : Pipes) (old : World) (result : Result (Option (ArrayVec ℕ)) PipeFault)
     (new : World) → PipesPolled pipes old result left new → PollTook old result new
-polled_took (Hub pipe) left old result new x = took_by old result new x.2.polls.ends
-polled_took _ left old result new x = rw x.0 tt
+polled_took pipes left old result new x = grind (arith, took_by)
 
 pub table_polls : (path : List ℕ) (old new : Table) (before after : World)
     (text now : Option (List ℕ)) (result : Result (Option (ArrayVec ℕ)) PipeFault)

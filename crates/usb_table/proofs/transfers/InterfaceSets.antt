@@ -1,7 +1,6 @@
 -- SET_INTERFACE to the device at a path: what it leaves of all devices and pipes.
-use Rattle.std.proofs.Common.{◌≡◌, ◌∙◌, refl, sym, ap, inl, inr, Bool, true, false, ℕ, ◌<◌, ◌&&◌}
-use Rattle.std.proofs.Common.{not, if◌then◌else◌, List, Option, Some, None, Result, Ok, Err}
-use Rattle.std.proofs.Common.{is_some}
+use Rattle.std.proofs.Common.{arith, ◌≡◌, refl, ap, inl, inr, Bool, true, false, ℕ, ◌<◌, ◌&&◌, not}
+use Rattle.std.proofs.Common.{if◌then◌else◌, List, Option, Some, None, Result, Ok, Err, is_some}
 use Rattle.std.proofs.lemmas.Bool.{and_parts}
 use Rattle.usb_request.specs.{PORT_OUT, SET_FEATURE, set_interface}
 use Rattle.usb_descriptor.specs.{settable_in}
@@ -16,22 +15,20 @@ use Rattle.usb_address.specs.{KeepsAddresses}
 use Rattle.usb_hub.specs.{Commanded, InterfaceAsked}
 use Rattle.usb_enum.specs.{Accepted, configuration_of, target_of}
 use Rattle.usb_enum.proofs.Interface.{ends_without_fault}
-use Rattle.usb_table.specs.{Absent, AreFunctionPipes, ArePipesIf, ArePipesTo, Function}
-use Rattle.usb_table.specs.{FunctionInSync, FunctionPipes, GoesThrough, Hub, InterfaceSent}
-use Rattle.usb_table.specs.{InterfaceSentIf, InterfaceSet, NoDevice, NoInterface, NotTried}
-use Rattle.usb_table.specs.{OnlySets, Pipes, SameDevice, SameSettings, SettingLeft, Table}
-use Rattle.usb_table.specs.{TableFault, TableSetsInterface, TransferFault, accepted_device_at}
-use Rattle.usb_table.specs.{function_set, interface_asked, interface_target, is_below_hub, pipes_at}
-use Rattle.usb_table.specs.{pipes_set}
+use Rattle.usb_table.specs.{AreFunctionPipes, ArePipesIf, ArePipesTo, Function, FunctionInSync}
+use Rattle.usb_table.specs.{FunctionPipes, GoesThrough, InterfaceSent, InterfaceSentIf}
+use Rattle.usb_table.specs.{InterfaceSet, NoInterface, NotTried, OnlySets, Pipes, SameDevice}
+use Rattle.usb_table.specs.{SameSettings, SettingLeft, Table, TableFault, TableSetsInterface}
+use Rattle.usb_table.specs.{TransferFault, accepted_device_at, function_set, interface_asked}
+use Rattle.usb_table.specs.{interface_target, is_below_hub, pipes_at, pipes_set}
 use Rattle.usb_table.proofs.TransferLeaves.{told_answer}
-use Rattle.usb_table.proofs.levels.FittingPipes.{PipesMove, still_level}
-use Rattle.usb_table.proofs.levels.Levels.{moved_levels, still_levels}
+use Rattle.usb_table.proofs.levels.FittingPipes.{PipesMove, still_level, EachMoves}
+use Rattle.usb_table.proofs.levels.PathCalls.{moved_levels, still_levels}
 use Rattle.usb_table.proofs.levels.SetLevels.{loss_kept, loss_level, set_level}
 use Rattle.usb_table.proofs.levels.StandingPipes.{in_place}
 use Rattle.usb_table.proofs.transfers.DevicesKept.{same_spares}
 use Rattle.usb_table.proofs.transfers.PathTransfers.{changes_there}
 use Rattle.usb_table.proofs.transfers.PlainRequests.{bus_told}
-use Rattle.usb_table.proofs.levels.MovedPipes.{EachMoves}
 
 -- Each device
 
@@ -39,25 +36,12 @@ use Rattle.usb_table.proofs.levels.MovedPipes.{EachMoves}
 setting_left : (t : Target) (interface setting : ℕ) (answer : Result (Unit {0}) PipeFault)
     (j : Location) (s v : State) → InterfaceAsked t interface setting answer j s v
     → is_at s t ≡ true → SettingLeft interface setting answer s v
-setting_left t interface setting (Ok done) j s v x at = (x.done at refl).2
-setting_left t interface setting (Err pipe_fault.Stalled) j s v x at = (x.stalled at refl).0
-setting_left t interface setting (Err _) j s v x at = x.either
+setting_left t interface setting answer j s v x at = grind arith
 
 same_device : (t : Target) (interface setting : ℕ) (answer : Result (Unit {0}) PipeFault)
     (j : Location) (s v : State) → InterfaceAsked t interface setting answer j s v
     → SameDevice j s v
-same_device t interface setting answer j s v x = elim x.either [
-  | inl only ↦ record {
-    spec = ap (λ (d : State). d.spec) only;
-    address = ap (λ (d : State). d.registers.address) only;
-    configuration = ap (λ (d : State). d.registers.configuration) only;
-  }
-  | inr took ↦ record {
-    spec = ap (λ (d : State). d.spec) took.is;
-    address = ap (λ (d : State). d.registers.address) took.is;
-    configuration = ap (λ (d : State). d.registers.configuration) took.is;
-  }
-]
+same_device t interface setting answer j s v x = grind arith
 
 -- All devices and ports
 
@@ -133,13 +117,13 @@ module _ (device : Accepted) (below_hub : Bool) (interface setting : ℕ) (pipes
 module _ (path : List ℕ) (interface setting : ℕ) (byte : interface < 256) (old new : Table)
     (before after : World) (text now : Option (List ℕ)) (goes : GoesThrough path old new)
     (went : StepRun write_bound before text after now) (result : Result (Unit {0}) TableFault) where
-  abbrev target : Result Target TransferFault
+  abbrev pub target : Result Target TransferFault
   target = interface_target path interface setting old.entries
 
-  abbrev set : Result (Unit {0}) PipeFault → Pipes → Pipes
+  abbrev pub set : Result (Unit {0}) PipeFault → Pipes → Pipes
   set = pipes_set (accepted_device_at path old.entries) (is_below_hub path) interface setting
 
-  abbrev Told : Type 0
+  abbrev pub Told : Type 0
   Told = TableSetsInterface path interface setting old before text result new after now
 
   -- it was not sent
@@ -165,7 +149,7 @@ module _ (path : List ℕ) (interface setting : ℕ) (byte : interface < 256) (o
     left = function_set device (is_below_hub path) interface setting x.answer pipes
 
     left_is : pipes_at path new ≡ Function left
-    left_is = rw (found, was) at x.left_is
+    left_is = grind arith
 
     moves : EachMoves device device.address (after.fault ≡ None) (Function pipes) (Function left)
         before after
@@ -208,12 +192,7 @@ module _ (path : List ℕ) (interface setting : ℕ) (byte : interface < 256) (o
       → target ≡ Ok (target_of device (is_below_hub path))
       → InterfaceSent (target_of device (is_below_hub path)) interface setting set
       (pipes_at path old) before result (pipes_at path new) after → Told
-  sent_to device found (Hub pipe) was are both asks x =
-      let no = (and_parts (not (is_some device.hub)) _ both).0 in
-      absurd (cc (sym (ap not are.0) ∙ no))
-  sent_to device found (Function pipes) was are both asks x =
-      sent device found pipes was are (and_parts (not (is_some device.hub)) _ both).1 asks x
-  sent_to device found (Absent said) was are both asks x = absurd are
+  sent_to device found pipes was are both asks x = grind (arith, and_parts, sent)
 
   by_test : (device : Accepted) → accepted_device_at path old.entries ≡ Some device
       → ArePipesTo device (is_below_hub path) (pipes_at path old) → (b : Bool)
@@ -221,20 +200,15 @@ module _ (path : List ℕ) (interface setting : ℕ) (byte : interface < 256) (o
       → target ≡ (if b then Ok (target_of device (is_below_hub path)) else Err NoInterface)
       → InterfaceSentIf (if b then Ok (target_of device (is_below_hub path)) else Err NoInterface)
       interface setting set (pipes_at path old) before result (pipes_at path new) after → Told
-  by_test device found are true both asks x =
-      sent_to device found (pipes_at path old) refl are both asks x
-  by_test device found are false both asks x = refused NoInterface asks x
+  by_test device found are b both asks x = grind (arith, refused, sent_to)
 
   by_device : (o : Option Accepted) → accepted_device_at path old.entries ≡ o
       → ArePipesIf o (is_below_hub path) (pipes_at path old)
       → target ≡ interface_asked (is_below_hub path) interface setting o
       → InterfaceSentIf (interface_asked (is_below_hub path) interface setting o)
       interface setting set (pipes_at path old) before result (pipes_at path new) after → Told
-  by_device None found are asks x = refused NoDevice asks x
-  by_device (Some device) found are asks x = by_test device found are
-      (not (is_some device.hub) && settable_in interface setting (configuration_of device)) refl
-      asks x
+  by_device o found are asks x = grind (arith, by_test, refused)
 
   pub table_sets : InterfaceSentIf target interface setting set (pipes_at path old) before result
       (pipes_at path new) after → Told
-  table_sets x = by_device (accepted_device_at path old.entries) refl goes.fits refl x
+  table_sets x = grind (arith, by_device)

@@ -1,9 +1,9 @@
 -- The halts that are cleared through the pipes at a path are those of the device there.
-use Rattle.std.proofs.Common.{◌≡◌, ◌≢◌, inl, inr, ◌∙◌, refl, sym, ap, subst, Bool, true, false, ℕ}
+use Rattle.std.proofs.Common.{arith, ◌≡◌, ◌≢◌, ◌∙◌, refl, sym, ap, subst, Bool, true, false, ℕ}
 use Rattle.std.proofs.Common.{◌==◌, List, Option, None, Some, Result, Ok, Err, is_ok, is_some}
 use Rattle.std.proofs.Common.{if◌then◌else◌}
 use Rattle.usb_device.specs.{EndpointState as End, in_end, InEnd, Location, NothingMoved, out_end}
-use Rattle.usb_device.specs.{OutEnd, rested, State}
+use Rattle.usb_device.specs.{OutEnd, State}
 use Rattle.usb_world.specs.{BusFault, EachWas, World}
 use Rattle.usb_tree.specs.{address_of}
 use Rattle.usb_world.proofs.Interface.{each_joined, each_none, each_wider}
@@ -21,20 +21,19 @@ use Rattle.usb_table.specs.{PipesCleared, PipesClearedOf, table_answer, with_pip
 use Rattle.usb_pipe.specs.declared.fault.PipeFault.TheVariants as pipe_fault
 use Rattle.usb_enum.specs.{Accepted}
 use Rattle.usb_table.specs.declared.fault.TableFault.TheVariants as table_fault
-use Rattle.usb_table.proofs.levels.FittingPipes.{PipesMove, clear_moves, in_of, out_of, state_at}
-use Rattle.usb_table.proofs.transfers.HaltClears.{in_cleared, moved_then, out_cleared}
-use Rattle.usb_table.proofs.transfers.HaltClears.{same_rows-moved}
-use Rattle.usb_table.proofs.levels.KeptPipes.{function_to}
-use Rattle.usb_table.proofs.levels.MovedPipes.{EachMoves, known_left}
-use Rattle.usb_table.proofs.levels.StandingPipes.{IsPipeOf, IsRest, addressed, first_beside}
-use Rattle.usb_table.proofs.levels.StandingPipes.{first_picks, first_way, first_ways, in_place}
-use Rattle.usb_table.proofs.levels.StandingPipes.{pipe_of, rest_again, rest_made, rest_same}
-use Rattle.usb_table.proofs.levels.StandingPipes.{rest_way, same_rest, same_way, to_picks, one_way}
-use Rattle.usb_table.proofs.levels.StandingPipes.{way_to-one}
+use Rattle.usb_table.proofs.levels.FittingPipes.{clear_moves, in_of, out_of, state_at, EachMoves}
+use Rattle.usb_table.proofs.levels.FittingPipes.{known_left}
+use Rattle.usb_table.proofs.transfers.FreeRequests.{in_cleared, moved_then, out_cleared}
+use Rattle.usb_table.proofs.transfers.FreeRequests.{same_rows-moved}
+use Rattle.usb_table.proofs.levels.StandingPipes.{function_to, IsPipeOf, IsRest, addressed}
+use Rattle.usb_table.proofs.levels.StandingPipes.{first_beside, first_picks, first_way, first_ways}
+use Rattle.usb_table.proofs.levels.StandingPipes.{in_place, pipe_of, rest_again, rest_made}
+use Rattle.usb_table.proofs.levels.StandingPipes.{rest_same, rest_way, same_rest, same_way}
+use Rattle.usb_table.proofs.levels.StandingPipes.{to_picks, one_way, way_to-one}
 use Rattle.usb_table.proofs.transfers.PathTransfers.{PathReaches, changes_there, done_through}
 use Rattle.usb_table.proofs.transfers.PathTransfers.{levels_there, not_bus, reaches_synced}
 use Rattle.usb_table.proofs.transfers.PathTransfers.{synced_if, Synced, none_there, through_path}
-use Rattle.usb_table.proofs.ThroughPipes.{through_both}
+use Rattle.usb_table.proofs.levels.PathCalls.{through_both}
 use Rattle.usb_table.proofs.transfers.DevicesKept.{clears_single, sent_or_not, clear_keeps}
 use Rattle.std.proofs.Math.Path.{fun_ext}
 
@@ -46,57 +45,31 @@ begun_ends : (is_sent done : Bool) (pipe : PipeState) (old : World)
     → (done ≡ true → is_ok answer ≡ true) → Clears is_sent pipe old answer left new
     → (before after : End) → BegunAgain is_sent answer before after
     → HaltCleared is_sent done pipe left before after
-begun_ends is_sent done pipe old (Ok u) left new less x before after b =
-    let stays : is_sent ≡ false → after ≡ before =
-    λ not. b ∙ ap (λ c. if c then rested else before) not in
-    let begins : is_sent ≡ true → after ≡ rested =
-    λ so. b ∙ ap (λ c. if c then rested else before) so in
-    record {
-      works = λ not. ((x.ready not).pipe_kept, stays not);
-      begun = λ e so. ((x.sent so).pipe_left, begins so);
-      either = elim (sent_or_not is_sent) [
-        | inl not ↦ inl (stays not)
-        | inr so ↦ inr (begins so)
-      ];
-    }
-begun_ends is_sent done pipe old (Err why) left new less x before after b = record {
-  works = λ not. let is = (x.ready not).answer in absurd (cc is);
-  begun = λ e so. let ok = less e in absurd (cc ok);
-  either = b;
-}
+begun_ends is_sent done pipe old answer left new less x before after b = grind (arith, sent_or_not)
 
 none_ends : (is_sent : PipeState → Bool) (done : Bool) (pipe : Option PipeState)
     → (done ≡ true → ⊥) → (ends : ℕ → End) → HaltClearedBy is_sent done pipe pipe ends ends
-none_ends is_sent done None not ends = λ e. refl
-none_ends is_sent done (Some pipe) not ends = (
-  record { works = λ none. (refl, refl); begun = λ e. absurd (not e); either = inl refl },
-  λ e apart. refl,
-)
+none_ends is_sent done pipe not ends = grind arith
 
 -- no address was held twice before
 pub cleared_single : (pipe left : Option PipeState) (old : World)
     (answer : Result (Unit {0}) PipeFault) (new : World) → ClearedBy pipe old answer left new
     → new.shared ≡ false → old.shared ≡ false
-cleared_single None left old answer new x single = ap (λ w. w.shared) (sym x.2) ∙ single
-cleared_single (Some pipe) None old answer new x single = absurd x
-cleared_single (Some pipe) (Some left) old answer new x single =
-    clears_single (needs_clear pipe) pipe old answer left new x.clears single
+cleared_single pipe left old answer new x single = grind (arith, clears_single)
 
 -- the pipe that is left is to the same endpoint
 pub cleared_rest : (pipe left : Option PipeState) (old : World)
     (answer : Result (Unit {0}) PipeFault) (new : World) → ClearedBy pipe old answer left new
     → IsRest pipe left
-cleared_rest None left old answer new x = x.1
-cleared_rest (Some pipe) None old answer new x = absurd x
-cleared_rest (Some pipe) (Some left) old answer new x = x.same
+cleared_rest pipe left old answer new x = grind arith
 
 -- One device at the address, over the clear of one pipe or of both
 
 -- a call is done only if the answer is one of success; where it ends so, that is not the bus's own
-record FitsAnswer (ends : Type 0) (done : Bool) (answer : Result (Unit {0}) PipeFault)
+pub record FitsAnswer (ends : Type 0) (done : Bool) (answer : Result (Unit {0}) PipeFault)
     : Type 0 where
-  sure : ends → (why : BusFault) → answer ≢ Err (pipe_fault.Bus why)
-  less : done ≡ true → is_ok answer ≡ true
+  pub sure : ends → (why : BusFault) → answer ≢ Err (pipe_fault.Bus why)
+  pub less : done ≡ true → is_ok answer ≡ true
 
 module _ (device : Accepted) (ends : Type 0) (is_sent : PipeState → Bool) (done : Bool) where
   -- the halts of the pipes of both directions, if there is one, were cleared
@@ -122,18 +95,7 @@ module _ (device : Accepted) (ends : Type 0) (is_sent : PipeState → Bool) (don
   none_step : (was : Bool → Option PipeState) (pipes : FunctionPipes)
       → ((b : Bool) (e : ℕ → End) → HaltClearedBy is_sent done (was b) (was b) e e) → (w : World)
       → ClearSteps was was pipes pipes w w
-  none_step was pipes same w =
-      each_none (ClearStep was was pipes pipes)
-      (λ j s. record {
-        others = λ h. refl;
-        same = refl;
-        itself = λ e at level. record {
-          moved = same_rows-moved s s refl refl;
-          out = same false (state_at false s);
-          into = same true (state_at true s);
-          level = level;
-        };
-      }) w
+  none_step was pipes same w = grind (arith, each_none, same_rows-moved, state_at)
 
   -- of the OUT pipe, and then of the IN pipe
   steps_then : (was now : Bool → Option PipeState) (pipes mid left : FunctionPipes)
@@ -226,10 +188,7 @@ module _ (device : Accepted) (ends : Type 0) (done : Bool) where
 
   idle : (way b : Bool) (e : ℕ → End)
       → HaltClearedBy needs_clear done (one_way way None b) (one_way way None b) e e
-  idle true true e = λ n. refl
-  idle true false e = λ n. refl
-  idle false true e = λ n. refl
-  idle false false e = λ n. refl
+  idle way b e = grind arith
 
   -- of one direction, if there is one
   first_step : {below_hub : Bool} (way : Bool) (pipes : FunctionPipes)
@@ -267,18 +226,10 @@ module _ (device : Accepted) (ends : Type 0) (done : Bool) where
     between = with_rest y.rest_out pipes
 
     rest_out : IsRest (first_pipe false pipes) y.rest_out
-    rest_out = cleared_rest (first_pipe false pipes) y.rest_out old y.first y.mid y.out
+    rest_out = grind (arith, cleared_rest)
 
     rest_in : IsRest (first_pipe true pipes) y.rest_in
-    rest_in = by_answer y.first (first_unclear true pipes) y.into
-      where
-        by_answer : (first : Result (Unit {0}) PipeFault) (why : Option TransferFault)
-            → ClearedAfter first why (first_pipe true pipes) y.mid result y.rest_in new
-            → IsRest (first_pipe true pipes) y.rest_in
-        by_answer (Ok u) None z =
-            cleared_rest (first_pipe true pipes) y.rest_in y.mid z.0 new z.2
-        by_answer (Ok u) (Some why) z = rw z.1 (same_rest (first_pipe true pipes))
-        by_answer (Err fault) why z = rw z.1 (same_rest (first_pipe true pipes))
+    rest_in = grind (arith, cleared_rest, same_rest)
 
     are_between : AreFunctionPipes device below_hub between
     are_between = function_to device below_hub pipes between
@@ -310,10 +261,7 @@ module _ (device : Accepted) (ends : Type 0) (done : Bool) where
     -- the answer of a pipe
     pipe_answers : (answer : Result (Unit {0}) PipeFault) → result ≡ table_answer answer
         → FitsAnswer ends done answer
-    pipe_answers answer told = record {
-      sure = λ e. not_bus answer result told (sure e);
-      less = λ e. done_through answer result told ∙ less e;
-    }
+    pipe_answers answer told = grind (arith, done_through, not_bus)
 
     -- the first one, and what follows it
     first_then : (first : Result (Unit {0}) PipeFault) (mid : World) → FitsAnswer ends done first
@@ -371,13 +319,7 @@ module _ (device : Accepted) (ends : Type 0) (done : Bool) where
 
     pub in_turn_moves : EachMoves device device.address ends (Function pipes) (Function left) old
         new
-    in_turn_moves single =
-        each_wider _ (PipesMove device device.address ends (Function pipes) (Function left))
-        (λ j s v c. record {
-          others = c.others;
-          same = c.same;
-          itself = λ e at f. (c.itself e at f).level;
-        }) old new (both_steps single)
+    in_turn_moves = grind (arith, both_steps, each_wider)
 
 -- At a path
 

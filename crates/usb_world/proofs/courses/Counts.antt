@@ -38,7 +38,7 @@ row_reset : (x : Bool) (b : PortState) (s : State) (a k : Ports)
 unfolding row_of
 row_reset x b s a k = grind arith
 
-pub row_called : (c : PortCall) (k : Ports) (i : ℕ) → row_of (changed_at (called c) k i [])
+row_called : (c : PortCall) (k : Ports) (i : ℕ) → row_of (changed_at (called c) k i [])
     ≡ slice_set (row_of k) i (called_port c (slice_index_or (row_of k) i off))
 unfolding row_of changed_at
 row_called c (vacant b k) (suc i) = ap (λ r. b ∷ r) (row_called c k i)
@@ -73,12 +73,12 @@ root_called port (Some c) old new is named step =
     (called_root port c old is)
 
 -- a step is a root call of its feature
-pub set_step : (port feature : ℕ) (old new : World) → IsRootPort old port → IsSetFeature feature
+set_step : (port feature : ℕ) (old new : World) → IsRootPort old port → IsSetFeature feature
     → ((c : PortCall) → set_call feature ≡ Some c → new ≡ after (root_call c port) old)
     → SetsRoot port feature old new
 set_step port feature old new is named step = grind (arith, root_called)
 
-pub clear_step : (port feature : ℕ) (old new : World) → IsRootPort old port → IsClearFeature feature
+clear_step : (port feature : ℕ) (old new : World) → IsRootPort old port → IsClearFeature feature
     → ((c : PortCall) → clear_call feature ≡ Some c → new ≡ after (root_call c port) old)
     → ClearsRoot port feature old new
 clear_step port feature old new is named step = grind (arith, root_called)
@@ -149,12 +149,12 @@ changes_path : (f : Place → Place) (k : Ports) (p : List ℕ) → changes (row
     ≤ changes (row_of k) + 1
 changes_path f k p = grind (arith, changes_at)
 
-pub happened_changes : (a : Action) (ds : List Spec) (k : Ports)
+happened_changes : (a : Action) (ds : List Spec) (k : Ports)
     → changes (row_of (after_change a ds k)) ≤ changes (row_of k) + 1
 happened_changes a ds k = grind (arith, changes_path, happened_by)
 
 -- an event that came
-pub event_spends : (old new : World) → changes (root_row new) ≤ changes (root_row old) + 1
+event_spends : (old new : World) → changes (root_row new) ≤ changes (root_row old) + 1
     → roots_of new ≡ roots_of old → new.taken ≡ old.taken + 1
     → to_come new + 1 ≡ to_come old → new.attempts ≡ old.attempts → new.limit ≡ old.limit
     → AttemptsWithin 0 old new
@@ -184,7 +184,7 @@ pub clear_none : {A : Type 0} (feature : ℕ) → IsClearFeature feature → Non
 clear_none feature named e = false_true (ap is_some e ∙ named)
 
 -- a root call that leaves C_PORT_CONNECTION as it was, or clears it, makes no attempt and no event
-pub writes_spend : (port : ℕ) (p : PortState) (old new : World) → IsRootPort old port
+writes_spend : (port : ℕ) (p : PortState) (old new : World) → IsRootPort old port
     → change_of p ≤ change_of (root_port_at old port) → RootCalled port p old new
     → AttemptsWithin 0 old new
 unfolding root_port_at

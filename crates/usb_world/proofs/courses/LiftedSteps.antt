@@ -1,6 +1,6 @@
 -- What holds over each part of a step holds over steps and courses.
 use Rattle.std.proofs.Common.{arith, ◌≡◌, ◌⊎◌, inl, inr, ℕ, ◌&&◌, if◌then◌else◌, Bool, true, false}
-use Rattle.std.proofs.Common.{List, [], ◌∷◌, Option, None, Some, is_some, refl}
+use Rattle.std.proofs.Common.{List, [], ◌∷◌, Option, None, Some, is_some, refl, ap}
 use Rattle.usb_port.specs.{PortCall, is_clearing}
 use Rattle.usb_device.specs.{Spec, Ports, called, replaced, changed}
 use Rattle.usb_world.specs.{Action, Plug, Unplug, Event, Attempt, BusFault, Limit, is_made}
@@ -44,7 +44,7 @@ Keeps J w v = J w → J v
 pub keeps_events : (J : World → Type 0)
     → ((e : Event) (es : List Event) (w : World) → w.left ≡ e ∷ es → Keeps J w (after_event e es w))
     → OverEvents (Keeps J)
-keeps_events J came = record { same = λ w h. h; joined = λ w m v x y h. y (x h); came = came }
+keeps_events J came = grind arith
 
 -- Events
 
@@ -62,14 +62,14 @@ happened_by P (Change (Unplug x)) devices k p same there = there None x
 happened_by P (Ask ask) devices k p same there = same
 
 module _ {R : World → World → Type 0} (l : OverEvents R) where
-  pub over_first : (events : List Event) (w : World) → w.left ≡ events
+  over_first : (events : List Event) (w : World) → w.left ≡ events
       → R w (after_first_event events w)
   over_first events w e = grind arith
 
   pub over_taken : (f : Option BusFault) (w : World) → R w (event_taken f w)
   over_taken f w = grind arith
 
-  pub over_due : (events : List Event) (w : World) → w.left ≡ events
+  over_due : (events : List Event) (w : World) → w.left ≡ events
       → R w (after_due_events events w)
   unfolding after_due_events after_event
   over_due [] w e = l.same w
@@ -133,3 +133,31 @@ pub kept_course : {K : Step → World → Type 0} (J : World → Type 0)
     → J v
 kept_course J keeps (here w) h = h
 kept_course J keeps (step s {w} {v} k more) h = kept_course J keeps more (keeps s w k h)
+
+-- What the events that come before an attempt, or as a step, leave of a world as it was.
+
+-- a world but for its ports, the events to come, how many came, and when the last one did
+abbrev pub with_events_of : World → World → World
+with_events_of w v =
+    record v { roots = w.roots; left = w.left; taken = w.taken; attempts_then = w.attempts_then }
+
+-- all else is as it was
+abbrev pub SameBeside : World → World → Type 0
+SameBeside w v = with_events_of w v ≡ w
+
+pub beside_events : OverEvents SameBeside
+unfolding after_event
+beside_events = grind arith
+
+pub ready_beside : (w : World) → SameBeside w (at_attempt w)
+ready_beside w = over_ready beside_events w
+
+pub first_fault : (events : List Event) (w : World) → (after_first_event events w).fault ≡ w.fault
+unfolding after_event
+first_fault events w = grind arith
+
+pub ready_shared : (w : World) → (at_attempt w).shared ≡ w.shared
+ready_shared w = ap (λ v. v.shared) (ready_beside w)
+
+pub came_shared : {w v : World} → Coming w v → v.shared ≡ w.shared
+came_shared c = ap (λ v. v.shared) (over_coming beside_events c)

@@ -7,7 +7,7 @@ use Rattle.usb_world.specs.{Action, Plug, Unplug, with_plugged, after_change, wa
 use Rattle.usb_world.specs.declared.event.Action.TheVariants.{Change, Ask}
 use Rattle.usb_tree.specs.{has_power, has_power_at, pending, pending_at, is_way, on_way}
 use Rattle.usb_tree.proofs.Interface.{decided, false_true}
-use Rattle.usb_world.proofs.ways.WayChanges.{changed_apart, SameThere, changed_there}
+use Rattle.usb_world.proofs.ports.PortCalls.{changed_apart, SameThere, changed_there}
 
 -- A path to which the changed place is on the way
 

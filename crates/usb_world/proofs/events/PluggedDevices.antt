@@ -1,63 +1,328 @@
--- What is plugged where in a course of steps.
-use Rattle.std.proofs.Common.{◌≡◌, ℕ, ◌+◌, ◌<◌, ◌&&◌, ⊎_elim, not, true, false, List, [], ◌∷◌, ◌++◌}
-use Rattle.std.proofs.Common.{length, take, drop, Option, None, Some, is_some, option_map}
-use Rattle.std.proofs.Common.{slice_get, nat_lt, nat_le, refl, ap, sym, subst, ◌∙◌, arith}
-use Rattle.std.proofs.Common.{append_assoc, length-append}
-use Rattle.std.proofs.lemmas.Bool.{ltb-true}
+-- What is plugged where in a course of steps, as a plan has it and as the ports have it.
+use Rattle.std.proofs.Common.{◌≡◌, ℕ, zero, suc, ◌-◌, ◌≤◌, ◌<◌, ◌==◌, not, cond, true, false, List}
+use Rattle.std.proofs.Common.{[], ◌∷◌, ◌++◌, length, take, Option, None, Some, is_some, slice_get}
+use Rattle.std.proofs.Common.{nat_eq, nat_le, All, refl, ap, sym, subst, ◌∙◌, arith, ⊎_elim}
+use Rattle.std.proofs.Common.{Ordering, Less, Equal, Greater, is_eq, ◌+◌, ◌&&◌, option_map, nat_lt}
+use Rattle.std.proofs.Common.{append_assoc, length-append, Bool, if◌then◌else◌}
+use Rattle.std.specs.Prelude.{⊤}
+use Rattle.std.specs.Ordering.{match_ordering}
+use Rattle.std.specs.Cmp.Lexicographic.{bytes_decides}
+use Rattle.std.specs.List.{starts_with}
+use Rattle.std.specs.BTreeMap.{insert_entry}
+use Rattle.std.proofs.lemmas.Bool.{eqb-true, leb-true, lt-ltb, ltb-true}
 use Rattle.std.proofs.lemmas.List.Elements.{All-head, All-tail}
+use Rattle.std.proofs.lemmas.Map.Entries.{lookup-filter-keys}
+use Rattle.std.proofs.lemmas.Map.Lookups.{exact_bytes}
+use Rattle.std.proofs.lemmas.Map.Text.{is_eq-slice_cmp}
+use Rattle.usb_port.specs.{path_cmp, parent_of, port_on_hub, IsPath, IsPortNumber, PortCall}
+use Rattle.usb_port.proofs.Interface.{is_path, rejoined}
+use Rattle.usb_device.specs.{Spec, Ports, called, replaced, changed, state_there, IsSpec, Place}
+use Rattle.usb_device.specs.{Sent, State, changed_at, ended, forgotten, fresh, new_ports, port_at}
+use Rattle.usb_device.specs.{port_there, reset_state, row_of, state_at, taken, vacant}
+use Rattle.usb_tree.specs.{same_path, is_way, after_sent, on_way, reset_if, same_number}
+use Rattle.usb_world.specs.{PluggedMap, index_at, device_indexed, plugged_without, spec_port_count}
+use Rattle.usb_world.specs.{is_rooted, parent_has, has_port, Action, Plug, Unplug, Event}
+use Rattle.usb_world.specs.{after_most, PlanData, IsPlan, is_taken, action_fits, event_fits}
+use Rattle.usb_world.specs.{events_fit, plugged_by, plugged_after, FollowsPlan, AtPorts, way_of}
+use Rattle.usb_world.specs.{PlugsAtPort, spec_of, World, NoneNames, Undisturbed, names_path}
+use Rattle.usb_world.specs.{after_change, with_plugged, after_event, at_attempt, with_attempt}
+use Rattle.usb_world.specs.{AnyStep, Course, opening, ports_in, Attempt, Consistent, Damage}
+use Rattle.usb_tree.proofs.Interface.{false_true, both, either_of, decided, self_path}
+use Rattle.usb_world.proofs.ways.Ways.{same_is, way_starts, undisturbed_on_way, way_itself}
+use Rattle.usb_world.proofs.courses.Counts.{happened_long, new_long, row_long}
+use Rattle.usb_world.proofs.courses.Courses.{sane_called_at, sane_happened, sane_ports}
+use Rattle.usb_world.proofs.events.PlugEvents.{happened_there}
+use Rattle.usb_world.proofs.packets.Packets.{forgotten_state, heard_state, packet_state, stands}
+use Rattle.usb_world.proofs.packets.Packets.{state_stands}
+use Rattle.usb_world.proofs.ports.PortCalls.{call_state}
+use Rattle.usb_world.proofs.ports.SanePorts.{ports_stand, row_stands, sane_new_ports}
+use Rattle.usb_device.proofs.Interface.{answer-spec, row_of-after, row_of-forgotten}
 use Rattle.std.proofs.lemmas.Option.{slice_get_cases}
 use Rattle.std.proofs.Math.Seq.{take-append_seam, drop-append_seam}
-use Rattle.usb_device.specs.{Spec, Ports, called, replaced, changed, state_there}
-use Rattle.usb_world.specs.{Action, Plug, Unplug, Event, after_most, PlanData, IsPlan, is_taken}
-use Rattle.usb_world.specs.{action_fits, event_fits, events_fit, PluggedMap, plugged_by}
-use Rattle.usb_world.specs.{plugged_after, index_at, device_indexed, has_port, FollowsPlan, AtPorts}
-use Rattle.usb_world.specs.{PlugsAtPort, spec_of, World, NoneNames, Undisturbed, names_path, way_of}
-use Rattle.usb_world.specs.{after_change, with_plugged, after_event, at_attempt, damage_in}
-use Rattle.usb_world.specs.{with_attempt, AnyStep, Course, opening, ports_in}
 use Rattle.usb_world.specs.declared.event.Action.TheVariants.{Change, Ask}
-use Rattle.usb_tree.specs.{is_way}
-use Rattle.usb_tree.proofs.Interface.{false_true, both}
-use Rattle.usb_world.proofs.courses.LiftedSteps.{OverSteps, Keeps, keeps_events, happened_by}
-use Rattle.usb_world.proofs.courses.LiftedSteps.{over_course}
-use Rattle.usb_world.proofs.ways.Ways.{undisturbed_on_way}
-use Rattle.usb_world.proofs.events.PluggedShapes.{Shape, ShapeFits, spec_there, has_there}
-use Rattle.usb_world.proofs.events.PluggedShapes.{shape_with, there_other, gaps, empty_gaps}
-use Rattle.usb_world.proofs.events.PluggedShapes.{fits_gaps, fits_there}
-use Rattle.usb_world.proofs.events.PluggedPorts.{shape, described_there, shape_root, shape_attempt}
-use Rattle.usb_world.proofs.events.PluggedPorts.{shape_new, shape_event}
-use Rattle.usb_world.proofs.events.PluggedTrees.{told_of, Agrees, agrees_plug, agrees_unplug}
-use Rattle.usb_world.proofs.events.PluggedTrees.{has_port-there}
+use Rattle.usb_world.proofs.courses.LiftedSteps.{OverSteps, Keeps, keeps_events, over_course}
+
+-- The devices that stand at ports
+
+-- the description of the one at a path
+abbrev pub described : Ports → List ℕ → Option Spec
+described k p = option_map spec_of (state_there k p)
+
+abbrev has_there : Ports → List ℕ → Bool
+has_there k p = is_some (port_there k p)
+
+-- resets, packets and calls leave it
+
+reset_spec : (b : Bool) (o : Option State) → option_map spec_of (option_map (reset_if b) o)
+    ≡ option_map spec_of o
+unfolding reset_state
+reset_spec b o = grind arith
+
+forgotten_spec : (o : Option State) → option_map spec_of (option_map forgotten o)
+    ≡ option_map spec_of o
+forgotten_spec o = grind arith
+
+heard_spec : (q : Sent) (d on : Bool) (x : Option Place)
+    → option_map spec_of (heard_state q d on x) ≡ option_map spec_of (stands x)
+heard_spec q d on x = grind (arith, answer-spec)
+
+sent_spec : (o : Option Sent) (k : Ports) (j : ℕ) (p : List ℕ)
+    → option_map spec_of (state_at (after_sent o k) j p) ≡ option_map spec_of (state_at k j p)
+sent_spec None k j p = refl
+sent_spec (Some q) k j p = ap (option_map spec_of) (packet_state q false k j p) ∙ reset_spec _ _
+    ∙ heard_spec q _ _ _ ∙ ap (option_map spec_of) (state_stands k j p)
+
+pub attempt_spec : (a : Attempt) (d : Option Damage) (k : Ports) (p : List ℕ)
+    → described (ports_in a d k) p ≡ described k p
+unfolding ports_in
+attempt_spec a d k p = grind (arith, forgotten_spec, forgotten_state, sent_spec)
+
+pub root_spec : (c : PortCall) (n : ℕ) (k : Ports) (p : List ℕ)
+    → described (changed (called c) k (n ∷ [])) p ≡ described k p
+root_spec c (suc i) k (suc j ∷ p) = ap (option_map spec_of) (call_state c k i j p) ∙ reset_spec _ _
+root_spec c n k p = refl
+
+attempt_row : (a : Attempt) (d : Option Damage) (k : Ports) → row_of (ports_in a d k) ≡ row_of k
+unfolding ports_in
+attempt_row a d k = grind (arith, row_of-after, row_of-forgotten)
+
+-- nothing stands at a new port
+new_bare : (n j : ℕ) (p : List ℕ) → state_at (new_ports n) j p ≡ None
+unfolding new_ports state_at
+new_bare (suc n) (suc j) p = new_bare n j p
+new_bare n j p = refl
+
+-- nor below an empty place
+below_bare : (k : Ports) (i : ℕ) (e : List ℕ) (j : ℕ) (p : List ℕ) → on_way i e j p ≡ true
+    → state_at k i e ≡ None → state_at k j p ≡ None
+unfolding state_at is_way
+below_bare ended i e j p w h = refl
+below_bare (vacant b k) i e zero p w h = refl
+below_bare (vacant b k) (suc i) e (suc j) p w h = below_bare k i e j p w h
+below_bare (taken b s a k) zero [] zero p w h = cc
+below_bare (taken b s a k) zero (n ∷ e) zero (zero ∷ p) w h = refl
+below_bare (taken b s a k) zero (suc i ∷ e) zero (suc j ∷ p) w h = below_bare a i e j p w h
+below_bare (taken b s a k) (suc i) e (suc j) p w h = below_bare k i e j p w h
+below_bare k i e j p w h = false_true w
+
+-- what stands at a path after something was plugged or unplugged at another: nothing, on past that
+replaced_spec : (o : Option Spec) (k : Ports) (i : ℕ) (e : List ℕ) (j : ℕ) (p : List ℕ)
+    → option_map spec_of (state_at (changed_at (replaced o) k i e) j p)
+    ≡ (if on_way i e j p then (if (same_number i j && same_path e p) && is_some (port_at k i e)
+    then o else None) else option_map spec_of (state_at k j p))
+unfolding changed_at fresh is_way port_at state_at
+replaced_spec o ended i e j p = grind arith
+replaced_spec o (vacant b k) zero e j p = grind (arith, new_bare)
+replaced_spec o (vacant b k) (suc i) e zero p = refl
+replaced_spec o (vacant b k) (suc i) e (suc j) p = replaced_spec o k i e j p
+replaced_spec o (taken b s a k) zero (suc i ∷ e) zero (suc j ∷ p) = replaced_spec o a i e j p
+replaced_spec o (taken b s a k) zero e j p = grind (arith, new_bare)
+replaced_spec o (taken b s a k) (suc i) e zero p = grind arith
+replaced_spec o (taken b s a k) (suc i) e (suc j) p = replaced_spec o k i e j p
+
+-- the same of paths
+
+there_none : (k : Ports) (e p : List ℕ) → is_way e p ≡ true → (e ≡ [] → ⊥)
+    → described k e ≡ None → described k p ≡ None
+unfolding is_way
+there_none k e p w f h = grind (arith, below_bare)
+
+described_replaced : (o : Option Spec) (k : Ports) (e p : List ℕ)
+    → described (changed (replaced o) k e) p ≡ (if way_of e p then
+    (if same_path e p && has_there k e then o else None) else described k p)
+unfolding is_way
+described_replaced o k (suc i ∷ e) (suc j ∷ p) = replaced_spec o k i e j p
+described_replaced o k (zero ∷ e) (zero ∷ p) = grind arith
+described_replaced o k e p = refl
+
+there_here : (t : Spec) (k : Ports) (e : List ℕ) → has_there k e ≡ true
+    → described (changed (replaced (Some t)) k e) e ≡ Some t
+there_here t k e h = grind (arith, described_replaced, self_path, way_itself)
+
+there_below : (t : Spec) (k : Ports) (e p : List ℕ) → has_there k e ≡ true → is_way e p ≡ true
+    → same_path e p ≡ false → described (changed (replaced (Some t)) k e) p ≡ None
+there_below t k e p f w h = grind (arith, described_replaced)
+
+there_other : (o : Option Spec) (k : Ports) (e p : List ℕ) → is_way e p ≡ false
+    → described (changed (replaced o) k e) p ≡ described k p
+there_other o k e p w = grind (arith, described_replaced)
+
+-- Paths
+
+pub self_found : (e : List ℕ) → is_eq (path_cmp e e) ≡ true
+self_found e = is_eq-slice_cmp e e ∙ (bytes_decides e e).1 refl
+
+pub found_same : (q e : List ℕ) → is_eq (path_cmp q e) ≡ true → q ≡ e
+found_same q e h = (bytes_decides q e).0 (sym (is_eq-slice_cmp q e) ∙ h)
+
+path_cmp-other : (q e : List ℕ) → same_path e q ≡ false → is_eq (path_cmp q e) ≡ false
+path_cmp-other q e n = ⊎_elim (λ y. false_true (sym n ∙ ap (same_path e) (found_same q e y)
+    ∙ self_path e)) (λ y. y) (decided (is_eq (path_cmp q e)))
+
+-- What is plugged at a path
+
+insert_here : (tree : PluggedMap) (e : List ℕ) (d : ℕ) → index_at (insert_entry path_cmp tree e d) e
+    ≡ Some d
+insert_here [] e d = rw (self_found e) refl
+insert_here (x ∷ tree) e d = grind (arith, insert_here tree e d, self_found)
+
+insert_other : (tree : PluggedMap) (e : List ℕ) (d : ℕ) (q : List ℕ) → is_eq (path_cmp q e) ≡ false
+    → index_at (insert_entry path_cmp tree e d) q ≡ index_at tree q
+insert_other [] e d q n = rw n refl
+insert_other (x ∷ tree) e d q n = split (path_cmp e x.0) refl (insert_other tree e d q n)
+  where
+    split : (r : Ordering) → path_cmp e x.0 ≡ r → index_at (insert_entry path_cmp tree e d) q
+        ≡ index_at tree q → index_at (match_ordering r ((e, d) ∷ x ∷ tree) ((x.0, d) ∷ tree)
+        (x ∷ insert_entry path_cmp tree e d)) q ≡ index_at (x ∷ tree) q
+    split Less h ih = rw n refl
+    split Equal h ih = let m : is_eq (path_cmp q x.0) ≡ false =
+        ap (λ y. is_eq (path_cmp q y)) (sym (exact_bytes e x.0 h)) ∙ n in rw m refl
+    split Greater h ih = ap (cond (is_eq (path_cmp q x.0)) (Some x.1)) ih
+
+unplugged_at : (tree : PluggedMap) (e q : List ℕ) → index_at (plugged_without e tree) q
+    ≡ cond (not (is_way e q)) (index_at tree q) None
+unfolding plugged_without
+unplugged_at tree e q =
+    lookup-filter-keys (λ p. is_eq (path_cmp q p)) (λ p. not (starts_with nat_eq p e))
+    (not (is_way e q))
+    (λ k h. ap (λ p. not (starts_with nat_eq p e)) (sym (found_same q k h))
+    ∙ ap not (sym (way_starts e q))) tree
+
+-- the device that a plan has there has the description of that which stands there
+abbrev PlugAgrees : List Spec → Option Spec → Option ℕ → Type 0
+PlugAgrees ds None None = ⊤
+PlugAgrees ds (Some t) (Some d) = slice_get ds d ≡ Some t
+PlugAgrees ds _ _ = ⊥
+
+told_of : (ds : List Spec) (o : Option Spec) (d : Option ℕ) → PlugAgrees ds o d
+    → o ≡ device_indexed ds d
+told_of ds o d h = grind arith
+
+plug_agrees_none : (ds : List Spec) (o : Option Spec) (d : Option ℕ) → PlugAgrees ds o d → d ≡ None
+    → o ≡ None
+plug_agrees_none ds o d h e = told_of ds o d h ∙ ap (device_indexed ds) e
+
+told_by : (ds : List Spec) (o p : Option Spec) (d c : Option ℕ) → o ≡ p → d ≡ c → PlugAgrees ds p c
+    → PlugAgrees ds o d
+told_by ds o p d c x y h = rw (x, y) h
+
+abbrev Agrees : List Spec → Ports → PluggedMap → Type 0
+Agrees ds k tree = (q : List ℕ) → PlugAgrees ds (described k q) (index_at tree q)
+
+agrees_plug : (ds : List Spec) (k : Ports) (tree : PluggedMap) (e : List ℕ) (d : ℕ) (t : Spec)
+    → slice_get ds d ≡ Some t → has_there k e ≡ true → index_at tree e ≡ None
+    → Agrees ds k tree
+    → Agrees ds (changed (replaced (Some t)) k e) (insert_entry path_cmp tree e d)
+agrees_plug ds k tree e d t is port free a q =
+    grind (
+      arith,
+      insert_here,
+      insert_other,
+      path_cmp-other,
+      plug_agrees_none,
+      same_is,
+      there_below,
+      there_here,
+      there_none,
+      there_other,
+      told_by,
+    )
+
+agrees_unplug : (ds : List Spec) (k : Ports) (tree : PluggedMap) (e : List ℕ)
+    → is_some (index_at tree e) ≡ true → Agrees ds k tree
+    → Agrees ds (changed (replaced None) k e) (plugged_without e tree)
+agrees_unplug ds k tree e is a q = grind (arith, described_replaced, told_by, unplugged_at)
+
+-- Where a plan has a port, one stands
+
+last_of : (p : List ℕ) (n : ℕ) → All IsPortNumber (p ++ n ∷ []) → IsPortNumber n
+last_of [] n all = All-head IsPortNumber n [] all
+last_of (m ∷ p) n all = last_of p n (All-tail IsPortNumber m (p ++ n ∷ []) all)
+
+has_there-below : (k : Ports) (p : List ℕ) (m : ℕ) → Consistent k → IsPath p → 1 ≤ m
+    → m ≤ spec_port_count (described k p) → has_there k (p ++ m ∷ []) ≡ true
+unfolding spec_port_count
+has_there-below k [] m sane is some h = absurd (omega (arith, is.0))
+has_there-below k (zero ∷ p) m sane is some h = grind arith
+has_there-below k (suc i ∷ p) zero sane is some h = absurd (omega (arith, some))
+has_there-below k (suc i ∷ p) (suc m) sane is some h = grind (arith, ports_stand)
+
+port_of_parent : (ds : List Spec) (k : Ports) (tree : PluggedMap) (e p : List ℕ)
+    → Consistent k → Agrees ds k tree → IsPath e → parent_of e ≡ Some p
+    → parent_has ds tree (Some p) (port_on_hub e) ≡ true → has_there k e ≡ true
+unfolding parent_has
+port_of_parent ds k tree e p sane a is up h =
+    let whole = rejoined e p up in
+    let last : IsPortNumber (port_on_hub e) =
+    last_of p (port_on_hub e) (subst (All IsPortNumber) whole is.2) in
+    let count : nat_le (port_on_hub e) (spec_port_count (described k p)) ≡ true =
+    ap (λ o. nat_le (port_on_hub e) (spec_port_count o))
+    (told_of ds (described k p) (index_at tree p) (a p)) ∙ h in
+    ap (has_there k) whole ∙ has_there-below k p (port_on_hub e) sane (is_path e p is up) last.0
+    (leb-true (port_on_hub e) _ count)
+
+long_parent : (e : List ℕ) → 1 < length e → parent_of e ≡ Some (take (length e - 1) e)
+unfolding parent_of
+long_parent e h = rw (lt-ltb 1 (length e) h) refl
+
+has_port-there : (ds : List Spec) (k : Ports) (n : ℕ) (tree : PluggedMap) (e : List ℕ)
+    → Consistent k → length (row_of k) ≡ n → Agrees ds k tree → IsPath e
+    → has_port n ds tree e ≡ true → has_there k e ≡ true
+has_port-there ds k n tree [] sane row a is h = absurd (omega (arith, is.0))
+has_port-there ds k n tree (zero ∷ e) sane row a is h =
+    absurd (omega (arith, (All-head IsPortNumber zero e is.2).0))
+has_port-there ds k n tree (suc i ∷ []) sane row a is h = grind (arith, both, leb-true, row_stands)
+has_port-there ds k n tree (suc i ∷ m ∷ e) sane row a is h =
+    let path = suc i ∷ m ∷ e in
+    let up : parent_of path ≡ Some (take (length path - 1) path) = long_parent path (omega arith) in
+    port_of_parent ds k tree path _ sane a is up
+    (⊎_elim (λ y. absurd (omega (arith, eqb-true (length path) 1 y)))
+    (λ y. ap (λ o. parent_has ds tree o (port_on_hub path)) (sym up) ∙ y)
+    (either_of (length path == 1) _ (both (is_rooted n path) _ h).1))
+
+-- What stands in a course of steps
 
 -- the same devices stand at the same ports, and the same events are left
-record SameShape (w v : World) : Type 0 where
-  left : v.left ≡ w.left
-  taken : v.taken ≡ w.taken
-  devices : v.devices ≡ w.devices
-  shape : shape v.roots ≡ shape w.roots
+pub record SameStands (w v : World) : Type 0 where
+  pub left : v.left ≡ w.left
+  pub taken : v.taken ≡ w.taken
+  pub devices : v.devices ≡ w.devices
+  pub stands : (p : List ℕ) → described v.roots p ≡ described w.roots p
+  pub row : length (row_of v.roots) ≡ length (row_of w.roots)
+  pub sane : Consistent w.roots → Consistent v.roots
 
--- What each event keeps, and what hangs only on what is plugged and left, each course keeps
+-- What each event keeps, and what hangs only on what stands and is left, each course keeps
 module _ (J : World → Type 0) (by_event : (e : Event) (events : List Event) (w : World)
     → w.left ≡ e ∷ events → J w → J (after_event e events w))
-    (by_rest : (w v : World) → SameShape w v → J w → J v) where
+    (by_rest : (w v : World) → SameStands w v → J w → J v) where
   plan_steps : OverSteps AnyStep (Keeps J)
   unfolding with_attempt
   plan_steps = record {
     events = keeps_events J by_event;
-    made = λ a w made k.
-        let same : shape (ports_in a (damage_in (at_attempt w)) (at_attempt w).roots)
-        ≡ shape (at_attempt w).roots =
-        shape_attempt a (damage_in (at_attempt w)) (at_attempt w).roots in
-        by_rest (at_attempt w) _ (record {
-          left = refl;
-          taken = refl;
-          devices = refl;
-          shape = same;
-        });
-    root = λ c n w k.
-        let same : shape (changed (called c) w.roots (n ∷ [])) ≡ shape w.roots =
-        shape_root c w.roots (n ∷ []) in
-        by_rest w _ (record { left = refl; taken = refl; devices = refl; shape = same });
-    refused = λ w. by_rest w _ (record { left = refl; taken = refl; devices = refl; shape = refl });
+    made = λ a w made k. by_rest (at_attempt w) _ (record {
+      left = refl;
+      taken = refl;
+      devices = refl;
+      stands = attempt_spec a _ _;
+      row = ap length (attempt_row a _ _);
+      sane = sane_ports a _ _;
+    });
+    root = λ c n w k. by_rest w _ (record {
+      left = refl;
+      taken = refl;
+      devices = refl;
+      stands = root_spec c n w.roots;
+      row = row_long (called c) w.roots (n ∷ []);
+      sane = sane_called_at c w.roots (n ∷ []);
+    });
+    refused = λ w. by_rest w _ (record {
+      left = refl;
+      taken = refl;
+      devices = refl;
+      stands = λ p. refl;
+      row = refl;
+      sane = λ h. h;
+    });
   }
 
   course_keeps : {w v : World} → Course AnyStep w v → J w → J v
@@ -74,26 +339,17 @@ record Went (plan : PlanData) (past : List Event) (w : World) : Type 0 where
 went_next : (plan : PlanData) (past : List Event) (e : Event) (events : List Event) (w : World)
     → w.left ≡ e ∷ events → Went plan past w → Went plan (past ++ e ∷ []) (after_event e events w)
 unfolding after_event
-went_next plan past e events w s h = record {
-  split = h.split ∙ ap (λ l. past ++ l) s ∙ sym (append_assoc past (e ∷ []) events);
-  count = ap (λ n. n + 1) h.count ∙ sym (length-append past (e ∷ []));
-  devices = h.devices;
-}
+went_next plan past e events w s h = grind (arith, append_assoc, length-append)
 
-went_rest : (plan : PlanData) (past : List Event) (w v : World) → SameShape w v → Went plan past w
+went_rest : (plan : PlanData) (past : List Event) (w v : World) → SameStands w v → Went plan past w
     → Went plan past v
 went_rest plan past w v a h = grind arith
 
 went_opening : (plan : PlanData) → Went plan [] (opening plan)
-went_opening plan = record { split = refl; count = refl; devices = refl }
+went_opening plan = grind arith
 
 went_is : (plan : PlanData) (past : List Event) (w : World) → Went plan past w → FollowsPlan plan w
-went_is plan past w h = record {
-  left = sym (drop-append_seam past w.left) ∙ ap (drop (length past)) (sym h.split)
-      ∙ ap (λ n. drop n plan.events) (sym h.count);
-  devices = h.devices;
-  taken = omega (arith, h.count, ap length h.split, length-append past w.left);
-}
+went_is plan past w h = grind (arith, drop-append_seam, length-append)
 
 abbrev Went_on : PlanData → World → Type 0
 Went_on plan w = (past : List Event) × Went plan past w
@@ -114,57 +370,45 @@ unfolding plugged_by
 plugged_by-next tree [] e = refl
 plugged_by-next tree (x ∷ past) e = plugged_by-next (plugged_after x.action tree) past e
 
-record ShapeAgrees (ds : List Spec) (n : ℕ) (x : Shape) (tree : PluggedMap) : Type 0 where
-  fits : ShapeFits x n
-  agrees : Agrees ds x tree
+-- the ports have what the plan has
+record Stands (ds : List Spec) (n : ℕ) (k : Ports) (tree : PluggedMap) : Type 0 where
+  sane : Consistent k
+  row : length (row_of k) ≡ n
+  agrees : Agrees ds k tree
 
 index_at-free : (tree : PluggedMap) (e : List ℕ) → not (is_taken tree e) ≡ true
     → index_at tree e ≡ None
 index_at-free tree e h = grind arith
 
-standing_plug : (ds : List Spec) (n : ℕ) (k : Ports) (tree : PluggedMap) (e : List ℕ) (d : ℕ)
-    → action_fits n ds tree (Change (Plug e d)) ≡ true → PlugsAtPort (Change (Plug e d))
-    → ShapeAgrees ds n (shape k) tree
-    → ShapeAgrees ds n (shape (after_change (Change (Plug e d)) ds k))
-    (plugged_after (Change (Plug e d)) tree)
-standing_plug ds n k tree e d h is s =
+agrees_next : (a : Action) (ds : List Spec) (n : ℕ) (k : Ports) (tree : PluggedMap)
+    → action_fits n ds tree a ≡ true → PlugsAtPort a → Stands ds n k tree
+    → Agrees ds (after_change a ds k) (plugged_after a tree)
+agrees_next (Change (Plug e d)) ds n k tree h is s =
     let parts = both (has_port n ds tree e && not (is_taken tree e)) (nat_lt d (length ds)) h in
     let place = both (has_port n ds tree e) _ parts.0 in
     split (slice_get ds d) refl (ltb-true d (length ds) parts.1)
-    (has_port-there ds (shape k) n tree e s.fits s.agrees is place.0)
+    (has_port-there ds k n tree e s.sane s.row s.agrees is place.0)
     (index_at-free tree e place.1)
   where
-    split : (o : Option Spec) → slice_get ds d ≡ o → d < length ds → has_there (shape k) e ≡ true
-        → index_at tree e ≡ None → ShapeAgrees ds n (shape (with_plugged o e k))
+    split : (o : Option Spec) → slice_get ds d ≡ o → d < length ds → has_there k e ≡ true
+        → index_at tree e ≡ None → Agrees ds (with_plugged o e k)
         (plugged_after (Change (Plug e d)) tree)
     split None g l p f = ⊎_elim (λ y. false_true (ap is_some (sym g ∙ y.2)))
         (λ y. absurd (omega (arith, l, y.0))) (slice_get_cases ds d).1
-    split (Some t) g l p f =
-        let same : shape (changed (replaced (Some t)) k e) ≡ shape_with (Some t) (shape k) e =
-        shape_event (Some t) k e in
-        rw same (record {
-          fits = fits_there (Some t) (shape k) n e s.fits;
-          agrees = agrees_plug ds (shape k) tree e d t g p f s.agrees;
-        })
+    split (Some t) g l p f = agrees_plug ds k tree e d t g p f s.agrees
+agrees_next (Change (Unplug e)) ds n k tree h is s = grind (arith, agrees_unplug)
+agrees_next (Ask ask) ds n k tree h is s = s.agrees
 
-standing_unplug : (ds : List Spec) (n : ℕ) (k : Ports) (tree : PluggedMap) (e : List ℕ)
-    → action_fits n ds tree (Change (Unplug e)) ≡ true → ShapeAgrees ds n (shape k) tree
-    → ShapeAgrees ds n (shape (after_change (Change (Unplug e)) ds k))
-    (plugged_after (Change (Unplug e)) tree)
-standing_unplug ds n k tree e h s =
-    grind (arith, agrees_unplug, fits_there, shape, shape_event, shape_with)
-
-standing_next : (a : Action) (ds : List Spec) (n : ℕ) (k : Ports) (tree : PluggedMap)
-    → action_fits n ds tree a ≡ true → PlugsAtPort a → ShapeAgrees ds n (shape k) tree
-    → ShapeAgrees ds n (shape (after_change a ds k)) (plugged_after a tree)
-standing_next (Change (Plug e d)) ds n k tree h is s = standing_plug ds n k tree e d h is s
-standing_next (Change (Unplug e)) ds n k tree h is s = standing_unplug ds n k tree e h s
-standing_next (Ask ask) ds n k tree h is s = s
+stands_next : (a : Action) (ds : List Spec) → All IsSpec ds → (n : ℕ) (k : Ports)
+    (tree : PluggedMap) → action_fits n ds tree a ≡ true → PlugsAtPort a → Stands ds n k tree
+    → Stands ds n (after_change a ds k) (plugged_after a tree)
+stands_next a ds ruled n k tree h is s = grind (arith, agrees_next, happened_long, sane_happened)
 
 -- what stands is what the events that came left, and those that are left may come
 record Left (plan : PlanData) (past : List Event) (w : World) : Type 0 where
   went : Went plan past w
-  stands : ShapeAgrees plan.devices plan.roots (shape w.roots) (plugged_by [] past)
+  ruled : All IsSpec plan.devices
+  stands : Stands plan.devices plan.roots w.roots (plugged_by [] past)
   rest : events_fit plan.roots plan.devices (plugged_by [] past) w.left ≡ true
   paths : AtPorts w.left
 
@@ -178,26 +422,28 @@ left_next plan past e events w s h =
     let parts = both (event_fits plan.roots plan.devices tree e) _ rest in
     let fits = both (nat_le e.after after_most) _ parts.0 in
     let paths : AtPorts (e ∷ events) = subst AtPorts s h.paths in
-    let stands = standing_next e.action plan.devices plan.roots w.roots tree fits.1
+    let stands = stands_next e.action plan.devices h.ruled plan.roots w.roots tree fits.1
     (All-head (λ x. PlugsAtPort x.action) e events paths) h.stands in
     record {
       went = went_next plan past e events w s h.went;
+      ruled = h.ruled;
       stands = rw (plugged_by-next [] past e, h.went.devices) stands;
       rest = ap (λ t. events_fit plan.roots plan.devices t events) (plugged_by-next [] past e)
           ∙ parts.1;
       paths = All-tail (λ x. PlugsAtPort x.action) e events paths;
     }
 
-left_rest : (plan : PlanData) (past : List Event) (w v : World) → SameShape w v → Left plan past w
+left_rest : (plan : PlanData) (past : List Event) (w v : World) → SameStands w v → Left plan past w
     → Left plan past v
-left_rest plan past w v a h = grind arith
+left_rest plan past w v a h = grind (arith, told_by, went_rest)
 
-gaps_agree : (ds : List Spec) (n : ℕ) → Agrees ds (gaps n) []
-gaps_agree ds n q = grind (arith, empty_gaps, gaps, spec_there)
+new_agrees : (ds : List Spec) (n : ℕ) → Agrees ds (new_ports n) []
+new_agrees ds n q = grind (arith, new_bare)
 
 left_opening : (plan : PlanData) → IsPlan plan → AtPorts plan.events → Left plan [] (opening plan)
 unfolding plugged_by
-left_opening plan is paths = grind (arith, fits_gaps, gaps_agree, shape_new, went_opening)
+left_opening plan is paths =
+    grind (arith, new_agrees, new_long, sane_new_ports, stands, went_opening)
 
 abbrev Left_on : PlanData → World → Type 0
 Left_on plan w = (past : List Event) × Left plan past w
@@ -214,20 +460,13 @@ pub devices_left : (plan : PlanData) → IsPlan plan → AtPorts plan.events →
     → option_map spec_of (state_there w.roots path) ≡ device_indexed plan.devices
     (index_at (plugged_by [] (take w.taken plan.events)) path)
 devices_left plan is paths w c path =
-    grind (arith, described_there, shape, spec_there, take-append_seam, told_of, what_is_left)
+    grind (arith, take-append_seam, told_of, what_is_left)
 
 -- What no event named
 
-way_away : (o : Option Spec) (x : Shape) (e p : List ℕ) → way_of e p ≡ false
-    → spec_there (shape_with o x e) p ≡ spec_there x p
-way_away o x e p h = grind (arith, there_other)
-
 happened_away : (a : Action) (ds : List Spec) (k : Ports) (p : List ℕ) → names_path ds a p ≡ false
-    → spec_there (shape (after_change a ds k)) p ≡ spec_there (shape k) p
-happened_away a ds k p =
-    happened_by (λ v named. named ≡ false → spec_there (shape v) p ≡ spec_there (shape k) p) a ds k
-    p (λ h. refl)
-    (λ o e h. ap (λ x. spec_there x p) (shape_event o k e) ∙ way_away o (shape k) e p h)
+    → described (after_change a ds k) p ≡ described k p
+happened_away a ds k p h = ap (option_map spec_of) (happened_there a ds k p h).2
 
 none_parts : (ds : List Spec) (past : List Event) (e : Event) (p : List ℕ)
     → NoneNames ds (past ++ e ∷ []) p → NoneNames ds past p × (names_path ds e.action p ≡ false)
@@ -237,21 +476,15 @@ none_parts ds (x ∷ past) e p h = let rest = none_parts ds past e p h.1 in ((h.
 record Unnamed (w : World) (p : List ℕ) (past : List Event) (u : World) : Type 0 where
   split : w.left ≡ past ++ u.left
   devices : u.devices ≡ w.devices
-  so : NoneNames w.devices past p → spec_there (shape u.roots) p ≡ spec_there (shape w.roots) p
+  so : NoneNames w.devices past p → described u.roots p ≡ described w.roots p
 
 unnamed_next : (w : World) (p : List ℕ) (past : List Event) (e : Event) (events : List Event)
     (u : World) → u.left ≡ e ∷ events → Unnamed w p past u
     → Unnamed w p (past ++ e ∷ []) (after_event e events u)
 unfolding after_event
-unnamed_next w p past e events u s h = record {
-  split = h.split ∙ ap (λ l. past ++ l) s ∙ sym (append_assoc past (e ∷ []) events);
-  devices = h.devices;
-  so = λ n. let parts = none_parts w.devices past e p n in
-      happened_away e.action u.devices u.roots p (ap (λ ds. names_path ds e.action p) h.devices
-      ∙ parts.1) ∙ h.so parts.0;
-}
+unnamed_next w p past e events u s h = grind (arith, append_assoc, happened_away, none_parts)
 
-unnamed_rest : (w : World) (p : List ℕ) (past : List Event) (u v : World) → SameShape u v
+unnamed_rest : (w : World) (p : List ℕ) (past : List Event) (u v : World) → SameStands u v
     → Unnamed w p past u → Unnamed w p past v
 unnamed_rest w p past u v a h = grind arith
 
@@ -277,8 +510,7 @@ undisturbed_keeps p w v c u =
     (λ x y a h. (h.0, unnamed_rest w p h.0 x y a h.1)) c
     ([], record { split = refl; devices = refl; so = λ n. refl }) in
     let same : u.events ≡ all.0 = same_front u.events all.0 v.left (sym u.split ∙ all.1.split) in
-    described_there v.roots p ∙ all.1.so (subst (λ l. NoneNames w.devices l p) same u.silent)
-    ∙ sym (described_there w.roots p)
+    all.1.so (subst (λ l. NoneNames w.devices l p) same u.silent)
 
 -- the same on the way
 pub undisturbed_way : (x p : List ℕ) (w v : World) → is_way x p ≡ true → Course AnyStep w v

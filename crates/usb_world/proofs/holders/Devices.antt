@@ -1,28 +1,69 @@
 -- One device over attempts: what it was before, seen from where it is reachable now.
-use Rattle.std.proofs.Common.{arith, ◌≡◌, ℕ, ◌==◌, ◌&&◌, ◌⊎◌, inl, inr, Bool, true, false, List}
-use Rattle.std.proofs.Common.{None, Some, is_some, ap, ap₂, sym, subst, ◌∙◌}
+use Rattle.std.proofs.Common.{◌≡◌, ℕ, true, false, List, Option, Some, option_map, sym, ap, ap₂}
+use Rattle.std.proofs.Common.{◌∙◌, arith, ◌==◌, ◌&&◌, ◌⊎◌, inl, inr, Bool, None, is_some, subst}
 use Rattle.std.proofs.lemmas.Option.{same_Some}
-use Rattle.usb_packet.specs.{Toggle}
-use Rattle.usb_device.specs.{State, Reply, Way, state_on, Location, path_to, reach_on}
-use Rattle.usb_world.specs.{Attempt, World, at_attempt, damage_in, attempt, after, made_resets}
-use Rattle.usb_world.specs.{resets, is_setup, token_way, payload_way, answer_way, IsSetup, IsOut}
-use Rattle.usb_world.specs.{IsIn, hears_attempt, IsMade, HolderIn, Relation, Was, EachWas, Ways}
-use Rattle.usb_world.specs.{DidIn, DidOut, DidSetup}
+use Rattle.usb_device.specs.{State, Ports, reach_at, state_at, Location, path_to, reach_on}
+use Rattle.usb_device.specs.{state_on, held_addresses, repeats, Reply, Way}
+use Rattle.usb_world.specs.{Attempt, Damage, ports_in, World, at_attempt, with_attempt, attempt}
+use Rattle.usb_world.specs.{after, IsMade, HolderIn, is_setup, damage_in, made_resets, resets}
+use Rattle.usb_world.specs.{token_way, payload_way, answer_way, IsSetup, IsOut, IsIn, hears_attempt}
+use Rattle.usb_world.specs.{Relation, Was, EachWas, Ways, DidIn, DidOut, DidSetup}
 use Rattle.usb_tree.specs.{address_of, same_number, same_path, reset_if, deep_at, NobodyHolds}
-use Rattle.usb_tree.proofs.Interface.{both, decided, same_equal, swapped}
+use Rattle.usb_world.proofs.addresses.AddressesKept.{data_calm, ready_stood}
+use Rattle.usb_world.proofs.packets.Packets.{forgotten_ports, stands, state_stands}
 use Rattle.usb_world.proofs.courses.Courses.{made_reach}
-use Rattle.usb_world.proofs.addresses.AddressesKept.{ready_stood}
-use Rattle.usb_world.proofs.addresses.AddressesInTransfers.{data_calm}
-use Rattle.usb_world.proofs.ports.RootResets.{same_number-is, same_is}
-use Rattle.usb_world.proofs.holders.OneDevice.{other_address, reach-full, full_state}
-use Rattle.usb_world.proofs.packets.PacketEffects.{stands, state_stands}
-use Rattle.usb_world.proofs.holders.OneHolder.{holder_holds}
-use Rattle.usb_world.proofs.holders.OneHolderAttempts.{ready_settled, made_is, made_true, nobody_in}
-use Rattle.usb_world.proofs.holders.OneHolderAttempts.{holder_in, silent_in, others_in, setup_in}
+use Rattle.usb_tree.proofs.Interface.{is_twice-one_path, both, decided, same_equal, swapped}
+use Rattle.usb_world.proofs.holders.OneHolder.{acts, Holder, holder_holds}
+use Rattle.usb_world.proofs.holders.OneHolderAttempts.{made_is, holder_in, ready_settled, made_true}
+use Rattle.usb_world.proofs.holders.OneHolderAttempts.{nobody_in, silent_in, others_in, setup_in}
 use Rattle.usb_world.proofs.holders.OneHolderAttempts.{out_in, ExchangedIn, AllWhole, undamaged}
 use Rattle.usb_world.proofs.holders.OneHolderAttempts.{damage_ready, in_gone_in, reply_gone}
-use Rattle.usb_world.proofs.holders.OneHolderAttempts.{gone_whole}
-use Rattle.usb_world.proofs.holders.HolderOfAttempt.{holder_or_nobody}
+use Rattle.usb_world.proofs.holders.OneHolderAttempts.{gone_whole, holder_or_nobody}
+use Rattle.usb_packet.specs.{Toggle}
+use Rattle.usb_world.proofs.ways.Ways.{same_number-is, same_is}
+use Rattle.usb_world.proofs.holders.OneDevice.{other_address, reach-full, full_state}
+
+-- Devices that are reachable after an attempt, or the events before it: the one that holds its
+-- address still is, and each was before.
+
+-- forgetting what is remembered changes no port
+stays_reachable : (a : Attempt) (d : Option Damage) (k : Ports) (h : Holder a.addr k)
+    → reach_on (ports_in a d k) h.spot ≡ true
+unfolding ports_in
+stays_reachable a d k h =
+    (forgotten_ports _ h.spot.row h.spot.rest).0
+    ∙ (acts a d k h).on
+
+pub stays_reachable_in : (a : Attempt) (w : World) (h : HolderIn a w)
+    → reach_on (after (attempt a) w).roots h.spot ≡ true
+unfolding with_attempt
+stays_reachable_in a w h =
+    ap (λ v. reach_on v.roots h.spot) (made_is a w h.made)
+    ∙ stays_reachable a _ (at_attempt w).roots (holder_in a w h)
+
+-- before the events that were due
+pub due_back : (w : World) (j : Location) → reach_on (at_attempt w).roots j ≡ true
+    → (reach_on w.roots j ≡ true) × (state_on (at_attempt w).roots j ≡ state_on w.roots j)
+due_back w j = ready_stood w (path_to j)
+
+-- before IN and OUT
+pub data_back : (a : Attempt) (w : World) → IsMade a w → is_setup a.kind ≡ false → (j : Location)
+    → reach_on (after (attempt a) w).roots j ≡ true → reach_on (at_attempt w).roots j ≡ true
+data_back a w m kind j on =
+    made_reach a (at_attempt w) (path_to j)
+    (data_calm a _ (at_attempt w).roots (ready_settled w m.settled)
+    kind j.row j.rest) (ap (λ x. reach_on x.roots j) (sym (made_is a w m)) ∙ on)
+
+-- where no address is held twice, two reachable devices at one address are one
+pub one_state : (n : ℕ) (k : Ports) (i j : ℕ) (e p : List ℕ) (u s : State)
+    → repeats (held_addresses k) ≡ false → reach_at k i e ≡ true → state_at k i e ≡ Some u
+    → address_of u ≡ n → reach_at k j p ≡ true → state_at k j p ≡ Some s → address_of s ≡ n → s ≡ u
+one_state n k i j e p u s single on there at on2 there2 at2 =
+    let x : _ = is_twice-one_path k i e j p n single on (ap (option_map address_of) there
+    ∙ ap (λ y. Some y) at) on2 (ap (option_map address_of) there2 ∙ ap (λ y. Some y) at2) in
+    same_Some s u (sym there2 ∙ sym (ap₂ (state_at k) x.0 x.1) ∙ there)
+
+-- One device over attempts: what it was before, seen from where it is reachable now.
 
 -- Over courses
 
@@ -90,7 +131,7 @@ module _ (a : Attempt) (w : World) (m : IsMade a w) (u : (after (attempt a) w).s
     ≡ true) (there : state_on (after (attempt a) w).roots j ≡ Some v) where
   rest_made : made_resets a (at_attempt w) (path_to j) ≡ false
   unfolding resets
-  rest_made = ap (λ x. x && made_resets a (at_attempt w) (path_to j)) (sym (made_true a w m)) ∙ rest
+  rest_made = grind (arith, made_true)
 
   on_ready : reach_on (at_attempt w).roots j ≡ true
   on_ready = made_reach a (at_attempt w) (path_to j) rest_made
@@ -232,9 +273,7 @@ pub each_holder : (a : Attempt) (w : World) → IsMade a w → is_setup a.kind �
     → ((j : Location) (s v : State) → (address_of s == a.addr) ≡ false → v ≡ s → R j s v)
     → ((h : HolderIn a w) (v : State) → state_on (after (attempt a) w).roots h.spot ≡ Some v
     → R h.spot h.own v) → EachWas R w (after (attempt a) w)
-each_holder a w m kind u R other itself j v on there =
-    at_place a w m u j v (data_resets_none a w m kind j) on there R (λ s. other j s v)
-    (λ h. itself h v)
+each_holder a w m kind u R other itself = grind (arith, at_place, data_resets_none)
 
 pub each_in : (a : Attempt) (w : World) → IsMade a w → IsIn a → (after (attempt a) w).shared ≡ false
     → EachWas (DidIn a w) w (after (attempt a) w)

@@ -1,29 +1,77 @@
 -- Between attempts nothing is remembered: so an attempt concerns the device at its address alone.
-use Rattle.std.proofs.Common.{append-nil, arith, ◌≡◌, ℕ, zero, suc, ◌==◌, ◌&&◌, inl, inr, Bool}
-use Rattle.std.proofs.Common.{true, false, List, [], ◌∷◌, Option, None, Some, option_map, refl, ap}
-use Rattle.std.proofs.Common.{sym, subst, ◌∙◌, is_some}
-use Rattle.usb_world.proofs.packets.PacketEffects.{stands, state_stands, packet_state, true_deep}
-use Rattle.usb_world.proofs.packets.PacketEffects.{heard_state}
-use Rattle.usb_tree.proofs.Interface.{both, false_true, and_of, decided, is_twice-one_path}
-use Rattle.usb_tree.proofs.Interface.{equal_same, self_number, self_path, reset_if-false}
-use Rattle.usb_tree.proofs.Interface.{forgotten-nothing}
-use Rattle.usb_device.specs.{Answer, Content, Sent, Leaves, State, forgotten, reset_state, asks}
-use Rattle.usb_device.specs.{Ports, ended, vacant, taken, full, reach_at, state_at, place_at}
-use Rattle.usb_device.specs.{Location, place_on, reach_on, asked_by, answer_of, effect_of}
-use Rattle.usb_device.specs.{after_packet, listed, all_forgotten, Place, answers, sent_in}
-use Rattle.usb_device.specs.{forgotten_in, changed_at, path_to}
-use Rattle.usb_device.specs.declared.transfer.RememberedPacket.TheVariants.{Nothing}
-use Rattle.usb_tree.specs.{address_of, same_number, same_path, resets_at, reset_if, after_sent}
+use Rattle.std.proofs.Common.{◌≡◌, ℕ, zero, suc, ◌&&◌, Bool, true, false, List, [], ◌∷◌, Some, refl}
+use Rattle.std.proofs.Common.{subst, append-nil, arith, ◌==◌, inl, inr, Option, None, option_map}
+use Rattle.std.proofs.Common.{ap, sym, ◌∙◌, is_some}
+use Rattle.usb_port.specs.{PortState}
+use Rattle.usb_device.specs.{State, Ports, vacant, taken, reach_at, state_at, Answer, Content, Sent}
+use Rattle.usb_device.specs.{Leaves, forgotten, reset_state, asks, ended, full, place_at, Location}
+use Rattle.usb_device.specs.{place_on, reach_on, asked_by, answer_of, effect_of, after_packet}
+use Rattle.usb_device.specs.{listed, all_forgotten, Place, answers, sent_in, forgotten_in}
+use Rattle.usb_device.specs.{changed_at, path_to}
+use Rattle.usb_tree.specs.{same_number, same_path, address_of, resets_at, reset_if, after_sent}
 use Rattle.usb_tree.specs.{answers_to, after_attempt, deep_at, calls_on, IsTokenFor, IsDataOut}
 use Rattle.usb_tree.specs.{IsAckOut, IfOut, IsAttemptAt, sent_resets, attempt_resets, IsSettled}
 use Rattle.usb_tree.specs.{NobodyHolds, OneHolds, OthersForgot, Alone, AloneAt}
-use Rattle.usb_world.proofs.packets.AttemptPackets.{token_out, ack_out, calm_sent, rested_answer}
-use Rattle.usb_world.proofs.packets.AttemptPackets.{forgotten_state, ack_calls}
-use Rattle.usb_world.proofs.courses.StepInvariants.{each_settled}
-use Rattle.usb_world.proofs.ways.LoneWalks.{Each, Others, along_way}
-use Rattle.usb_world.proofs.ways.WayChanges.{place_at-changed}
+use Rattle.usb_tree.proofs.Interface.{false_true, both, and_of, decided, is_twice-one_path}
+use Rattle.usb_tree.proofs.Interface.{equal_same, self_number, self_path, reset_if-false}
+use Rattle.usb_tree.proofs.Interface.{forgotten-nothing}
+use Rattle.usb_world.proofs.packets.Packets.{stands, state_stands, packet_state, true_deep}
+use Rattle.usb_world.proofs.packets.Packets.{heard_state, calm_token as token_out}
+use Rattle.usb_world.proofs.packets.Packets.{calm_ack as ack_out, calm_sent, rested_answer}
+use Rattle.usb_world.proofs.packets.Packets.{forgotten_state, ack_calls}
+use Rattle.usb_device.specs.declared.transfer.RememberedPacket.TheVariants.{Nothing}
+use Rattle.usb_world.proofs.courses.Courses.{each_settled}
+use Rattle.usb_world.proofs.ports.PortCalls.{place_at-changed}
 use Rattle.usb_device.proofs.Interface.{changed_at-same, changed_at-twice}
-use Rattle.usb_port.specs.{PortState}
+
+-- A walk to one device of a tree in which all others are at rest, in what way so ever.
+
+-- so it is of each device of a tree, by whether it is reached, where the row is or is not
+abbrev pub Each : (Bool → State → Type 0) → Bool → Ports → Type 0
+Each S on k = (i : ℕ) (e : List ℕ) (t : State) → state_at k i e ≡ Some t
+    → S (on && reach_at k i e) t
+
+-- and of each but the one at a path
+abbrev pub Others : (Bool → State → Type 0) → Ports → ℕ → List ℕ → Type 0
+Others S k j p = (i : ℕ) (e : List ℕ) (t : State) → (same_number i j && same_path e p) ≡ false
+    → state_at k i e ≡ Some t → S (reach_at k i e) t
+
+-- what is so of a tree and a path in it, at the device there, and on past a port, a device above it
+-- and a device before it
+pub record AlongWay (S : Bool → State → Type 0) (P : Bool → Ports → ℕ → List ℕ → Type 0) : Type 0
+  where
+    pub here : (deep : Bool) (b : PortState) (s : State) (a k : Ports) → b.enable ≡ true
+        → Each S true a → Each S true k → P deep (taken b s a k) zero []
+    pub below : (deep : Bool) (b : PortState) (s : State) (a k : Ports) (j : ℕ) (p : List ℕ)
+        → b.enable ≡ true → S true s → Each S true k → P true a j p
+        → P deep (taken b s a k) zero (suc j ∷ p)
+    pub past_port : (deep : Bool) (b : PortState) (k : Ports) (j : ℕ) (p : List ℕ) → P deep k j p
+        → P deep (vacant b k) (suc j) p
+    pub past_device : (deep : Bool) (b : PortState) (s : State) (a k : Ports) (j : ℕ) (p : List ℕ)
+        → S b.enable s → Each S b.enable a → P deep k j p → P deep (taken b s a k) (suc j) p
+
+pub along_way : {S : Bool → State → Type 0} {P : Bool → Ports → ℕ → List ℕ → Type 0}
+    → AlongWay S P → (deep : Bool) (k : Ports) (j : ℕ) (p : List ℕ) → reach_at k j p ≡ true
+    → Others S k j p → P deep k j p
+unfolding state_at reach_at
+along_way l deep (vacant b k) (suc j) p h c =
+    l.past_port deep b k j p (along_way l deep k j p h (λ i e. c (suc i) e))
+along_way {S} {P} l deep (taken b s a k) zero [] h c =
+    l.here deep b s a k h
+    (λ i e t f. subst (λ x. S (x && reach_at a i e) t) h (c zero (suc i ∷ e) t refl f))
+    (λ i e t f. c (suc i) e t refl f)
+along_way {S} {P} l deep (taken b s a k) zero (suc j ∷ p) h c =
+    let on : _ = both b.enable (reach_at a j p) h in
+    l.below deep b s a k j p on.0 (subst (λ x. S x s) on.0 (c zero [] s refl refl))
+    (λ i e t f. c (suc i) e t refl f)
+    (along_way l true a j p on.1
+    (λ i e t d f. subst (λ x. S (x && reach_at a i e) t) on.0 (c zero (suc i ∷ e) t d f)))
+along_way l deep (taken b s a k) (suc j) p h c =
+    l.past_device deep b s a k j p (c zero [] s refl refl)
+    (λ i e t f. c zero (suc i ∷ e) t refl f) (along_way l deep k j p h (λ i e. c (suc i) e))
+along_way l deep k j p h c = false_true h
+
+-- Between attempts nothing is remembered: so an attempt concerns the device at its address alone.
 
 -- a device's answer
 abbrev pub answer_at : Sent → Bool → Option Place → List Answer
@@ -86,7 +134,7 @@ Resting q on t = on ≡ true → IsRested q t
 -- Where the packet is for nobody
 
 -- it changes nothing, and nothing is answered
-abbrev Unmoved : Sent → Bool → Ports → Type 0
+abbrev pub Unmoved : Sent → Bool → Ports → Type 0
 Unmoved q deep k = (after_packet q deep k ≡ k) × (answers q deep k ≡ [])
 
 rest_device : (q : Sent) (deep : Bool) (b : PortState) (s : State) (a k : Ports)
@@ -110,12 +158,12 @@ rest_all q deep (taken b s a k) c =
 -- Where it is for one device at most
 
 -- it changes the place of that device alone, and that device's is the answer
-pub record LonePacket (q : Sent) (deep : Bool) (k : Ports) (j : ℕ) (p : List ℕ) : Type 0 where
-  pub ports : after_packet q deep k ≡ changed_at (sent_in q (deep_at deep p)) k j p
-  pub answer : answers q deep k ≡ answer_at q (deep_at deep p) (place_at k j p)
-  pub on : reach_at (after_packet q deep k) j p ≡ true
+record LonePacket (q : Sent) (deep : Bool) (k : Ports) (j : ℕ) (p : List ℕ) : Type 0 where
+  ports : after_packet q deep k ≡ changed_at (sent_in q (deep_at deep p)) k j p
+  answer : answers q deep k ≡ answer_at q (deep_at deep p) (place_at k j p)
+  on : reach_at (after_packet q deep k) j p ≡ true
 
-pub lone_packet : (q : Sent) (deep : Bool) (k : Ports) (j : ℕ) (p : List ℕ)
+lone_packet : (q : Sent) (deep : Bool) (k : Ports) (j : ℕ) (p : List ℕ)
     → reach_at k j p ≡ true → Others (Resting q) k j p → LonePacket q deep k j p
 unfolding after_packet answers changed_at place_at reach_at
 lone_packet q = along_way {S = Resting q} {P = LonePacket q} (record {
@@ -275,13 +323,7 @@ pub others_rest : (q : Sent) (k : Ports) (x : Location) → Alone (Some q) k x
 others_rest q k x h i e t d f on = (h.forgot i e t d f, h.uncalled q refl i e t d f on)
 
 pub sent_to_one : (o : Option Sent) (k : Ports) (x : Location) → Alone o k x → SentToOne o k x
-sent_to_one None k x h = record {
-  ports = sym (changed_at-same k x.row x.rest);
-  on = h.on;
-  answer = refl;
-  forgot = h.forgot;
-  others = λ i e d. reset_if-false (state_at k i e);
-}
+sent_to_one None k x h = grind (arith, changed_at-same, reset_if-false)
 sent_to_one (Some q) k x h = record {
   ports = lone.ports;
   on = lone.on;
@@ -303,12 +345,7 @@ sent_to_one (Some q) k x h = record {
 
 pub alone_holder : (n : ℕ) (t : Option Sent) → IfOut (IsTokenFor n) t → (k : Ports) (x : Location)
     → IsSettled k → OneHolds n k x → Alone t k x
-alone_holder n t is k x s o = record {
-  on = o.on;
-  forgot = λ i e v w h. settled_memory k i e v s h;
-  uncalled = λ q eq i e v w h on. token_calls n q.content v (subst (IfOut (IsTokenFor n)) eq is)
-      (other_address n k x.row x.rest o i e v w h on);
-}
+alone_holder n t is k x s o = grind (arith, other_address, settled_memory, token_calls)
 
 pub alone_sent : (o : Option Sent) (k : Ports) (p : List ℕ) → AloneAt o k p
     → AloneAt None (after_sent o k) p
@@ -332,7 +369,7 @@ alone_ack o k p h is = grind arith
 
 module _ (n : ℕ) (t d r : Option Sent) (is : IsAttemptAt n t d r) (k : Ports) (x : Location)
     (one : Alone t k x) where
-  abbrev deep : Bool
+  abbrev pub deep : Bool
   deep = deep_at false x.rest
 
   pub second_alone : Alone d (after_sent t k) x
@@ -359,10 +396,7 @@ module _ (n : ℕ) (t d r : Option Sent) (is : IsAttemptAt n t d r) (k : Ports) 
       ∙ changed_at-twice (step_in r deep) (λ y. step_in d deep (step_in t deep y)) k x.row x.rest
 
   pub all_is : after_attempt t d r k ≡ changed_at (place_after t d r deep) k x.row x.rest
-  all_is = others_forget (after_sent r (after_sent d (after_sent t k))) x.row x.rest last_alone.on
-      last_alone.forgot ∙ ap (λ y. changed_at forgotten_in y x.row x.rest) end_is
-      ∙ changed_at-twice forgotten_in (λ y. step_in r deep (step_in d deep (step_in t deep y))) k
-      x.row x.rest
+  all_is = grind (arith, changed_at-twice, end_is, last_alone, others_forget)
 
 pub one_device : (n : ℕ) (t d r : Option Sent) → IsAttemptAt n t d r → (k : Ports) (at : Location)
     → IsSettled k → OneHolds n k at → OneActs t d r k at

@@ -11,7 +11,6 @@ use Rattle.usb_device.specs.{data_row, Way, is_whole, through, heard, is_good, s
 use Rattle.usb_device.specs.{setup_exchange, out_exchange, in_exchange, setup_law, out_law, in_law}
 use Rattle.usb_device.specs.{Ports, full, acted, row_of, state_at, place_at, state_on, answer_of}
 use Rattle.usb_device.specs.{effect_of, listed, held_addresses, repeats, Effect, Leaves}
-use Rattle.usb_device.specs.{forgotten_in}
 use Rattle.usb_device.specs.declared.answer.Answer.TheVariants as answer
 use Rattle.usb_device.specs.declared.transfer.RememberedPacket.TheVariants as memory
 use Rattle.usb_request.specs.{setup_of}
@@ -27,12 +26,11 @@ use Rattle.usb_world.specs.declared.types.Outcome.TheVariants as outcome
 use Rattle.usb_world.specs.declared.exchange.ExchangeAnswer.TheVariants.{Nothing}
 use Rattle.usb_tree.specs.{address_of, after_sent, answers_to, heard_by, deep_at, IsSettled}
 use Rattle.usb_tree.specs.{NobodyHolds, OneHolds, Found}
-use Rattle.usb_world.proofs.packets.AttemptPackets.{CalmOut, token_out as token_calm}
-use Rattle.usb_world.proofs.packets.AttemptPackets.{ack_out as ack_calm}
+use Rattle.usb_world.proofs.packets.Packets.{CalmOut, calm_token as token_calm}
+use Rattle.usb_world.proofs.packets.Packets.{calm_ack as ack_calm, stands, state_stands}
 use Rattle.std.proofs.lemmas.Option.{same_Some}
 use Rattle.usb_world.proofs.holders.OneDevice.{settled_memory, nobody_answers, one_device}
 use Rattle.usb_world.proofs.holders.OneDevice.{answers_at, place_after, OneActs, step_in}
-use Rattle.usb_world.proofs.packets.PacketEffects.{stands, state_stands}
 use Rattle.usb_world.proofs.courses.Courses.{goes}
 
 -- what a device that stands deep or not, with these ports, makes of an attempt with it alone
@@ -61,7 +59,7 @@ pub outcome_unread : (h : ExchangeAnswer) (m : Mark) (max : ℕ) → h ≡ Nothi
 unfolding outcome_of is_read
 outcome_unread h m max e = grind arith
 
-pub outcome_got : (o : Option Answer) (m : Mark) (max : ℕ)
+outcome_got : (o : Option Answer) (m : Mark) (max : ℕ)
     → outcome_of (heard_all (listed o [])) m max ≡ got max (heard (way_back m) o)
 unfolding outcome_of is_read
 outcome_got o m max = grind arith
@@ -221,14 +219,11 @@ module _ (a : Attempt) (d : Option Damage) (k : Ports) (h : Holder a.addr k) whe
 
   first_place : option_map (step_in (token_out a d) is_deep) (place_at k j p)
       ≡ Some (full b first.1 first_below)
-  first_place = ap (option_map (step_in (token_out a d) is_deep)) h.stands
-      ∙ ap (λ x. Some x) (sent_stands is_deep b (token_out a d) s below)
+  first_place = grind (arith, sent_stands, step_in)
 
   second_place : step_in (payload_out a d) is_deep (full b first.1 first_below)
       ≡ full b second.1 second_below
-  second_place = sent_stands is_deep b (payload_out a d) first.1 first_below
-      ∙ ap (λ x. full b (heard_by (payload_out a d) is_deep first.1 (row_of x)).1 second_below)
-      first_same
+  second_place = grind (arith, first_same, sent_stands)
 
   first_told : answers_to (token_out a d) k ≡ listed first.0 []
   first_told =
@@ -243,14 +238,7 @@ module _ (a : Attempt) (d : Option Damage) (k : Ports) (h : Holder a.addr k) whe
 
   is_place : place_at (ports_in a d k) j p ≡ Some (full b (forgotten third.1) third_below)
   unfolding ports_in
-  is_place =
-      acts.place ∙ ap (option_map
-      (place_after (token_out a d) (payload_out a d) (reply_out a d k) is_deep)) h.stands
-      ∙ ap (λ x. Some (forgotten_in (step_in (reply_out a d k) is_deep
-      (step_in (payload_out a d) is_deep x)))) (sent_stands is_deep b (token_out a d) s below)
-      ∙ ap (λ x. Some (forgotten_in (step_in (reply_out a d k) is_deep x))) second_place
-      ∙ ap (λ x. Some (forgotten_in x))
-      (sent_stands is_deep b (reply_out a d k) second.1 second_below)
+  is_place = grind (arith, acts, place_after, second_place, sent_stands, step_in)
 
   pub is_state : state_at (ports_in a d k) j p ≡ Some (forgotten third.1)
   is_state = sym (state_stands (ports_in a d k) j p) ∙ ap stands is_place
@@ -266,8 +254,7 @@ module _ (a : Attempt) (d : Option Damage) (k : Ports) (h : Holder a.addr k) whe
 
   pub placed : (r : Reply) → ExchangedWithHolder a d k h r → place_at (ports_in a d k) j p
       ≡ Some (full b r.1 (acted effect below))
-  placed r x = is_place ∙ ap₂ (λ u y. Some (full b u y))
-      (same_Some (forgotten third.1) r.1 (sym is_state ∙ x.state)) below_then
+  placed r x = grind (arith, below_then, is_place, is_state, same_Some)
 
   -- SETUP and OUT: the token T is not answered, and X is not answered by data
   module _ (T X : Packet) (token_is : token_of a ≡ T) (payload_is : payload_of a ≡ Some X)
@@ -278,7 +265,7 @@ module _ (a : Attempt) (d : Option Damage) (k : Ports) (h : Holder a.addr k) whe
     abbrev pub to_data : Reply
     to_data = through (payload_way a d is_deep s) to_token.1 own_row X
 
-    pub first_sent : first ≡ to_token
+    first_sent : first ≡ to_token
     first_sent = grind (arith, token_comes)
 
     second_sent : second ≡ to_data
@@ -301,7 +288,7 @@ module _ (a : Attempt) (d : Option Damage) (k : Ports) (h : Holder a.addr k) whe
         (reply_of (heard_in a d k) (mark_in a d k) a.max) false is_deep second.1
         (row_of second_below) (sent_reply n)
 
-    pub sent : gives_no_data to_data.0 ≡ true
+    sent : gives_no_data to_data.0 ≡ true
         → ExchangedWithHolder a d k h (sends s own_row T X (token_way a d is_deep s)
         (payload_way a d is_deep s) (answer_way a d k))
     sent n = grind (arith, is_state, outcome_got, second_sent, sent_heard, sent_third)

@@ -1,37 +1,51 @@
--- A silent holder, attempts without damage, and the attempts of a world.
+-- Attempts where one reachable device holds their address, or none does.
 use Rattle.usb_device.specs.{setup_law, Content, Sent, State, Reply, forgotten, accepted, Way, lost}
 use Rattle.usb_device.specs.{heard, is_good, acked, in_law, Ports, row_of, state_at, state_on}
-use Rattle.usb_device.specs.{reply_to, listed, held_addresses, repeats}
+use Rattle.usb_device.specs.{reply_to, listed, held_addresses, repeats, Answer, all_reached}
+use Rattle.usb_device.specs.{paths_at, holder_among, holder_of}
 use Rattle.std.proofs.Common.{inl, inr, arith, ◌≡◌, ℕ, suc, ◌+◌, ◌&&◌, if◌then◌else◌, Bool, true}
 use Rattle.std.proofs.Common.{false, List, [], ◌∷◌, ◌++◌, Option, None, Some, is_some, refl, ap}
-use Rattle.std.proofs.Common.{ap₂, sym, subst, ◌∙◌}
-use Rattle.usb_tree.proofs.Interface.{decided, unequal, same_equal}
-use Rattle.usb_packet.specs.{Packet, Token, Toggle, InTok}
+use Rattle.std.proofs.Common.{ap₂, sym, subst, ◌∙◌, ◌⊎◌, ◌≤◌, length, ◌==◌, option_map}
+use Rattle.usb_tree.proofs.Interface.{decided, unequal, same_equal, who_holds, false_true}
+use Rattle.usb_tree.proofs.Interface.{equal_same, swapped, occurs, one_if, occurs-reached}
+use Rattle.usb_packet.specs.{Packet, Token, Toggle, InTok, TokenKind, OutTok, SetupTok}
 use Rattle.usb_packet.specs.declared.Packet.TheVariants as packet
 use Rattle.usb_port.specs.{PortState}
 use Rattle.usb_request.specs.{setup_of}
 use Rattle.usb_device.specs.declared.answer.Answer.TheVariants as answer
 use Rattle.usb_device.specs.Attempt.{whole}
-use Rattle.usb_device.proofs.Interface.{silent-stays, silent-unread}
+use Rattle.usb_device.proofs.Interface.{silent-stays, silent-unread, way_addresses, held-reached}
 use Rattle.usb_world.specs.{Attempt, Limit, Damage, ExchangeAnswer, mark_of, harm_to, marked}
 use Rattle.usb_world.specs.{marked_some, token_of, payload_of, answer_mark, goes_out, heard_all}
 use Rattle.usb_world.specs.{token_out, payload_out, heard_in, mark_in, place_of_answer, ports_in}
 use Rattle.usb_world.specs.{reply_in, World, Made, is_made, resets, AnyStep, at_attempt, damage_in}
 use Rattle.usb_world.specs.{with_attempt, outcome_in, attempt, after, way_to, token_way, answer_way}
 use Rattle.usb_world.specs.{reply_way, out_alone, in_alone, IsSetup, IsOut, IsIn, hears_attempt}
-use Rattle.usb_world.specs.{IsMade, HolderIn, payload_way, got}
+use Rattle.usb_world.specs.{IsMade, HolderIn, payload_way, got, AttemptAnswerer, reply_out}
+use Rattle.usb_world.specs.{exchange_in, made_in, IsAttempt, sends_data, Exchange, Mark, Whole}
+use Rattle.usb_world.specs.{lost_in, cleared_in, reply_of, Exchanged, silent_exchange}
 use Rattle.usb_world.specs.declared.types.Outcome.TheVariants as outcome
 use Rattle.usb_world.specs.declared.wire.Mark.TheVariants as mark
 use Rattle.usb_tree.specs.{same_number, same_path, reset_if, heard_by, deep_at, attempt_resets}
-use Rattle.usb_tree.specs.{IsSettled, NobodyHolds}
-use Rattle.usb_world.proofs.courses.StepInvariants.{settled_steps}
-use Rattle.usb_world.proofs.courses.LiftedSteps.{over_ready}
+use Rattle.usb_tree.specs.{IsSettled, NobodyHolds, after_sent, answers_to, IfOut, IsTokenFor}
+use Rattle.usb_tree.specs.{address_of}
+use Rattle.usb_world.proofs.courses.Courses.{settled_steps, goes}
+use Rattle.usb_world.proofs.courses.LiftedSteps.{over_ready, ready_beside}
 use Rattle.usb_world.proofs.holders.OneHolder.{replied, outcome_unread, remembers, acts, rests}
 use Rattle.usb_world.proofs.holders.OneHolder.{first, second, third, second_below, is_heard_in}
 use Rattle.usb_world.proofs.holders.OneHolder.{is_state, token_of-fields, none_is, in_same, asked}
 use Rattle.usb_world.proofs.holders.OneHolder.{good, asked_reply, nobody, setup_one, out_one}
 use Rattle.usb_world.proofs.holders.OneHolder.{in_one, setup_alone, Holder, ExchangedWithHolder}
-use Rattle.usb_world.proofs.events.DueEvents.{ready_beside}
+use Rattle.usb_world.proofs.holders.OneHolder.{sent_heard, asked_heard, data_is, setup_quiet}
+use Rattle.usb_world.proofs.holders.OneHolder.{out_quiet}
+use Rattle.arrayvec.specs.ArrayVec.{ArrayVec}
+use Rattle.usb_world.specs.declared.exchange.ExchangeAnswer.TheVariants.{Collision, Nothing}
+use Rattle.usb_world.proofs.holders.OneDevice.{nobody_answers, sent_to_nobody, settled_memory}
+use Rattle.usb_world.proofs.holders.OneDevice.{token_calls}
+use Rattle.usb_device.specs.declared.holders.Holder.TheVariants.{Nobody}
+use Rattle.usb_world.proofs.ways.Routes.{rest_clears}
+
+-- A silent holder, attempts without damage, and the attempts of a world.
 
 -- each packet of an attempt that goes out comes whole
 pub record AllWhole (a : Attempt) (damage : Option Damage) (k : Ports) (deep : Bool) (s : State) :
@@ -47,7 +61,7 @@ pub record ExchangedIn (a : Attempt) (w : World) (h : HolderIn a w) (r : Reply) 
 
 -- A silent device
 
-pub silent_reply : (c : Content) (s : State) (row : List PortState) → s.spec.silent ≡ true
+silent_reply : (c : Content) (s : State) (row : List PortState) → s.spec.silent ≡ true
     → reply_to c s row ≡ (None, s)
 silent_reply c s row h = grind (arith, replied, silent-stays, silent-unread)
 
@@ -60,7 +74,7 @@ module _ (a : Attempt) (d : Option Damage) (k : Ports) (h : Holder a.addr k) whe
 
   module _ (silent : s.spec.silent ≡ true) where
     pub first_silent : first a d k h ≡ (None, s)
-    first_silent = silent_heard (token_out a d) (deep_at false p) s (row_of below) silent
+    first_silent = grind (arith, silent_heard)
 
     second_silent : second a d k h ≡ (None, s)
     second_silent = grind (arith, first_silent, silent_heard)
@@ -77,7 +91,7 @@ module _ (a : Attempt) (d : Option Damage) (k : Ports) (h : Holder a.addr k) whe
     }
 
   -- the other devices
-  pub others_one : (i : ℕ) (e : List ℕ) (v : State) → (same_number i j && same_path e p) ≡ false
+  others_one : (i : ℕ) (e : List ℕ) (v : State) → (same_number i j && same_path e p) ≡ false
       → state_at k i e ≡ Some v → state_at (ports_in a d k) i e ≡ Some
       (reset_if (attempt_resets (token_out a d) (payload_out a d) k i e) v)
   unfolding ports_in
@@ -162,7 +176,7 @@ module _ (a : Attempt) (k : Ports) (h : Holder a.addr k) (loud : h.own.spec.sile
   ways : AllWhole a None k (deep_at false p) s
   ways = undamaged a k (deep_at false p) s hears_it
 
-  pub setup_sound : (bytes : List ℕ) → IsSetup a bytes
+  setup_sound : (bytes : List ℕ) → IsSetup a bytes
       → ExchangedWithHolder a None k h (Some answer.Ack, accepted s (row_of below) (setup_of bytes))
   setup_sound bytes i =
       subst (ExchangedWithHolder a None k h)
@@ -181,7 +195,7 @@ pub made_is : (a : Attempt) (w : World) → IsMade a w
 unfolding after
 made_is a w m = rw (m.sound, unequal w.attempts w.limit m.within) refl
 
-pub after-limit_fault : (a : Attempt) (w : World) → w.fault ≡ None → w.attempts ≡ w.limit
+after-limit_fault : (a : Attempt) (w : World) → w.fault ≡ None → w.attempts ≡ w.limit
     → (after (attempt a) w).fault ≡ Some Limit
 unfolding after
 after-limit_fault a w s e = rw (s, same_equal w.attempts w.limit e) refl
@@ -223,7 +237,7 @@ module _ (a : Attempt) (w : World) (h : HolderIn a w) where
     found = h.found;
   }
 
-  pub exchanged_in : (r : Reply) → ExchangedWithHolder a (damage_in (at_attempt w))
+  exchanged_in : (r : Reply) → ExchangedWithHolder a (damage_in (at_attempt w))
       (at_attempt w).roots holder_in r → ExchangedIn a w h r
   unfolding outcome_in with_attempt
   exchanged_in r x = grind (arith, made_is)
@@ -278,3 +292,148 @@ module _ (a : Attempt) (w : World) (h : HolderIn a w) where
       Some answer.Ack,
       accepted s (row_of below) (setup_of bytes),
     ) (setup_sound a (at_attempt w).roots holder_in loud hears_it bytes i)
+
+-- Where no address is held twice, one device holds the address of an attempt or none does.
+
+-- one device holds the address of an attempt, or none does
+pub holder_or_nobody : (a : Attempt) (w : World) → IsMade a w → (after (attempt a) w).shared ≡ false
+    → HolderIn a w ⊎ NobodyHolds a.addr (at_attempt w).roots
+holder_or_nobody a w m u = grind (arith, who_holds)
+
+-- what is answered comes from one device, which is not silent
+pub one_answers : (a : Attempt) (w : World) → IsMade a w → (after (attempt a) w).shared ≡ false
+    → (outcome_in a w ≡ outcome.Nothing → ⊥) → AttemptAnswerer a w
+one_answers a w m u c = elim (holder_or_nobody a w m u) [
+  | inl h ↦ elim (decided h.own.spec.silent) [
+    | inl y ↦ elim (c (silent_in a w h y).outcome) [ ]
+    | inr y ↦ record { holder = h; loud = y }
+  ]
+  | inr n ↦ elim (c (nobody_in a w m n).0) [ ]
+]
+
+-- Where no address is held twice, at most one device answers an attempt.
+
+alone : (o : Option Answer) → heard_all (listed o []) ≡ Collision → ⊥
+alone o h = grind arith
+
+few : (xs : List Answer) → (heard_all xs ≡ Collision → ⊥) → length xs ≤ 1
+few xs f = grind arith
+
+module _ (a : Attempt) (d : Option Damage) (k : Ports) (is : IsAttempt a) where
+  of_holder : Holder a.addr k → heard_in a d k ≡ Collision → ⊥
+  of_holder h = split a.kind refl a.payload refl is.payload_sent
+    where
+      split : (t : TokenKind) → a.kind ≡ t → (o : Option (Toggle × ArrayVec ℕ)) → a.payload ≡ o
+          → is_some o ≡ sends_data t → heard_in a d k ≡ Collision → ⊥
+      split SetupTok kind (Some x) load sent c =
+          alone _ (sym
+          (sent_heard a d k h _ (packet.Payload x.0 x.1)
+          (token_of-fields a SetupTok a.addr a.ep kind refl refl) (data_is a x.0 x.1 load)
+          (setup_quiet h.own (row_of h.below) a.addr a.ep))
+          ∙ c)
+      split OutTok kind (Some x) load sent c =
+          alone _ (sym
+          (sent_heard a d k h _ (packet.Payload x.0 x.1)
+          (token_of-fields a OutTok a.addr a.ep kind refl refl) (data_is a x.0 x.1 load)
+          (out_quiet h.own (row_of h.below) a.addr a.ep))
+          ∙ c)
+      split InTok kind None load sent c =
+          alone _ (sym (asked_heard a d k h _
+          (token_of-fields a InTok a.addr a.ep kind refl refl) (none_is a load)) ∙ c)
+      split InTok kind (Some x) load sent c = false_true (sym sent)
+      split t kind o load sent c = false_true sent
+
+  of_nobody : IsSettled k → NobodyHolds a.addr k → heard_in a d k ≡ Collision → ⊥
+  of_nobody settled n c =
+      let w : _ = nobody_answers a.addr (token_out a d) (payload_out a d) (reply_out a d k)
+      (goes a d k) k settled n in
+      alone None (sym (ap₂ (λ x y. heard_all (x ++ y)) w.1 w.2) ∙ c)
+
+  pub no_collision : IsSettled k → repeats (held_addresses k) ≡ false → heard_in a d k ≡ Collision
+      → ⊥
+  no_collision settled single = grind (arith, of_holder, of_nobody, who_holds)
+
+  pub few_answers : IsSettled k → repeats (held_addresses k) ≡ false
+      → length (answers_to (token_out a d) k ++ answers_to (payload_out a d)
+      (after_sent (token_out a d) k)) ≤ 1
+  few_answers settled single = grind (arith, few, no_collision)
+
+pub no_collision_in : (a : Attempt) (w : World) → IsAttempt a → IsMade a w
+    → (after (attempt a) w).shared ≡ false → (made_in a (at_attempt w)).answer ≡ Collision → ⊥
+unfolding with_attempt exchange_in
+no_collision_in a w is m u = grind (arith, made_is, no_collision, ready_settled)
+
+-- An attempt at an address that nobody holds.
+
+-- ---- an index with nobody at an address
+
+holder_among-nobody : (ws : List (Option (ArrayVec ℕ))) → holder_among ws ≡ Nobody → ws ≡ []
+holder_among-nobody ws e = grind arith
+
+none_occurs : (n : ℕ) (xs : List (ℕ × Option (ArrayVec ℕ))) → paths_at n xs ≡ []
+    → occurs n (way_addresses xs) ≡ 0
+unfolding occurs
+none_occurs n [] e = refl
+none_occurs n (x ∷ xs) e = grind (arith, none_occurs n xs, occurs, one_if, swapped, way_addresses)
+
+pub nobody_there : (n : ℕ) (k : Ports) → holder_of n k ≡ Nobody → NobodyHolds n k
+nobody_there n k h i e t at on = elim (decided (n == address_of t)) [
+  | inl is ↦ absurd (omega (
+    arith,
+    none,
+    occurs-reached k i e n on (ap (option_map address_of) at
+        ∙ ap (λ x. Some x) (sym (equal_same n (address_of t) is))),
+  ))
+  | inr is ↦ is
+]
+  where
+    none : occurs n (held_addresses k) ≡ 0
+    none = ap (occurs n) (sym (held-reached _ 1 k))
+        ∙ none_occurs n (all_reached k) (holder_among-nobody _ h)
+
+-- ---- the attempt
+
+marked_some-nothing : (d : Option Damage) (n : ℕ) (pre : Bool) (m : Mark) (max : ℕ)
+    → marked_some d n pre (reply_of Nothing m max) ≡ None
+unfolding marked_some reply_of
+marked_some-nothing d n pre m max = refl
+
+module _ (a : Attempt) (d : Option Damage) (k : Ports) (settled : IsSettled k)
+    (nobody : NobodyHolds a.addr k) where
+  abbrev pub t : Option Sent
+  t = token_out a d
+
+  abbrev q : Option Sent
+  q = payload_out a d
+
+  token_unheard : after_sent t k ≡ k
+  token_unheard = (sent_to_nobody t k settled (λ x o s w. token_calls a.addr x.content s
+      (subst (IfOut (IsTokenFor a.addr)) o (goes a d k).token) (nobody w.0 w.1 s w.2 w.3))).0
+
+  unheard : (ports_in a d k ≡ k) × (answers_to t k ≡ []) × (answers_to q (after_sent t k) ≡ [])
+  unfolding ports_in
+  unheard = nobody_answers a.addr t q (reply_out a d k) (goes a d k) k settled nobody
+
+  heard_nothing : heard_in a d k ≡ Nothing
+  heard_nothing = ap₂ (λ x y. heard_all (x ++ y)) unheard.1 unheard.2
+
+  mark_whole : mark_in a d k ≡ Whole
+  unfolding answer_mark
+  mark_whole = grind (arith, heard_nothing)
+
+  replied_none : reply_in a d k ≡ None
+  replied_none = grind (arith, heard_nothing, marked_some-nothing)
+
+  lost_none : lost_in a d k ≡ false
+  unfolding lost_in
+  lost_none = grind (arith, replied_none)
+
+  cleared_none : cleared_in a d k ≡ false
+  cleared_none = grind (arith, rest_clears, settled_memory, token_unheard)
+
+  exchange_is : exchange_in a d k ≡ silent_exchange a d
+  unfolding exchange_in
+  exchange_is = grind (arith, cleared_none, heard_nothing, lost_none, mark_whole, replied_none)
+
+  pub silence_made : (x : Exchange) → x ≡ silent_exchange a d → Exchanged a d k k x
+  silence_made x e = record { made = e ∙ sym exchange_is; ports = sym unheard.0 }

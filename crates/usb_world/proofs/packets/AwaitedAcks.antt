@@ -11,8 +11,8 @@ use Rattle.usb_device.specs.{awaits_control, ends_with_address, awaits_address, 
 use Rattle.usb_device.specs.{vacant, taken, all_off, acted, called, changed_at, row_of, hears}
 use Rattle.usb_device.specs.{reply_to, answer_of, after_packet, has_loss}
 use Rattle.usb_tree.specs.{after_sent, IfOut, IsDataOut, IsAckOut}
-use Rattle.usb_world.proofs.courses.StepInvariants.{Rests}
-use Rattle.usb_world.proofs.packets.AttemptPackets.{token_out as token_rests}
+use Rattle.usb_world.proofs.courses.Courses.{Rests}
+use Rattle.usb_world.proofs.packets.Packets.{calm_token as token_rests}
 use Rattle.usb_device.proofs.Interface.{answer-spec}
 use Rattle.usb_device.specs.declared.transfer.RememberedPacket.TheVariants.{Nothing}
 
@@ -44,7 +44,7 @@ module _ (d : State) (row : List PortState) (h : AwaitsNone d) where
   memory_in e = grind arith
 
   -- the host's ACK ends what was awaited
-  pub memory_ack : (m : RememberedPacket) → AwaitsNone (after_memory d m)
+  memory_ack : (m : RememberedPacket) → AwaitsNone (after_memory d m)
   memory_ack m = grind arith
 
   memory_answered : (p : Packet) → IsNoControlIn p → (m : RememberedPacket)
@@ -52,7 +52,7 @@ module _ (d : State) (row : List PortState) (h : AwaitsNone d) where
   memory_answered p c m = grind (arith, memory_ack, memory_if, memory_in, memory_payload)
 
 -- and so it awaits no ACK at which it would take an address
-pub none_awaited : (d : State) → AwaitsNone d → awaits_address d ≡ false
+none_awaited : (d : State) → AwaitsNone d → awaits_address d ≡ false
 unfolding awaits_address
 none_awaited d h = ap (λ x. x && ends_with_address d.stage) h
 

@@ -1,29 +1,27 @@
 -- What a request can ask of the ports of a device that hears it.
-use Rattle.std.proofs.Common.{◌≡◌, ℕ, suc, ◌==◌, ◌&&◌, not, nat_le, if◌then◌else◌, Bool, true}
-use Rattle.std.proofs.Common.{false, List, [], ◌∷◌, length, Option, None, Some, arith}
+use Rattle.std.proofs.Common.{◌≡◌, ℕ, suc, ◌==◌, not, if◌then◌else◌, Bool, true, false, List, []}
+use Rattle.std.proofs.Common.{length, Option, None, Some, arith, refl, nat_le, ◌&&◌}
 use Rattle.arrayvec.specs.ArrayVec.{ArrayVec}
 use Rattle.usb_packet.specs.{Payload, Toggle, Zero}
 use Rattle.usb_request.specs.{GET_STATUS, CLEAR_FEATURE, SET_FEATURE, SET_ADDRESS, GET_DESCRIPTOR}
 use Rattle.usb_request.specs.{GET_CONFIGURATION, SET_CONFIGURATION, GET_INTERFACE, SET_INTERFACE}
 use Rattle.usb_request.specs.{DEVICE_IN, DEVICE_OUT, INTERFACE_IN, INTERFACE_OUT, ENDPOINT_IN}
-use Rattle.usb_request.specs.{ENDPOINT_OUT, HUB_IN, PORT_IN, PORT_OUT, Setup, setup_of}
+use Rattle.usb_request.specs.{ENDPOINT_OUT, HUB_IN, PORT_IN, PORT_OUT, Setup, setup_of, PORT_RESET}
 use Rattle.usb_device.specs.{ServedEndpoint, Content, Whole, Broken, Sent, Effect, Leaves, Calls}
-use Rattle.usb_device.specs.{PortsOff, Registers, RememberedPacket, Spec, Hub, Outcome, stalled}
-use Rattle.usb_device.specs.{takes_address, takes_configuration, halts, unhalts, Is, unless}
-use Rattle.usb_device.specs.{asked_descriptor, asked_status, asked_address, asked_configuration}
-use Rattle.usb_device.specs.{asked_interface_status, asked_setting, asked_interface}
-use Rattle.usb_device.specs.{asked_endpoint_status, endpoint_of, on_endpoint, asked_hub_descriptor}
-use Rattle.usb_device.specs.{port_named, told_port, asked_port_status, port_feature, outcome}
-use Rattle.usb_device.specs.{is_value, State, asks, asked_by_data, asked_by_setup}
-use Rattle.usb_device.specs.{effect_of_request, asked_by, effect_of}
-use Rattle.usb_port.specs.{PortCall, set_call, clear_call}
+use Rattle.usb_device.specs.{PortsOff, Registers, RememberedPacket, Spec, Hub, Outcome, halts}
+use Rattle.usb_device.specs.{unhalts, Is, unless, asked_descriptor, asked_interface_status}
+use Rattle.usb_device.specs.{asked_setting, asked_interface, asked_endpoint_status, on_endpoint}
+use Rattle.usb_device.specs.{asked_hub_descriptor, told_port, port_feature, outcome, State, asks}
+use Rattle.usb_device.specs.{asked_by_data, asked_by_setup, effect_of_request, asked_by, effect_of}
+use Rattle.usb_device.specs.{Ports, is_value}
+use Rattle.usb_port.specs.{PortCall, set_call, clear_call, is_reset}
 use Rattle.usb_device.specs.declared.transfer.RememberedPacket.TheVariants.{SetupSeen}
-use Rattle.usb_device.specs.Request.{answers}
 use Rattle.usb_device.proofs.Interface.{asked_own-any}
 use Rattle.usb_world.specs.{Damage, Attempt, marked, marked_some, payload_of, payload_out}
-use Rattle.usb_world.specs.{asks_no_port}
-use Rattle.usb_tree.specs.{IfOut}
-use Rattle.usb_world.proofs.packets.PacketPlaces.{is_left}
+use Rattle.usb_world.specs.{asks_no_port, is_harmless}
+use Rattle.usb_tree.specs.{IfOut, effect_resets, resets_at}
+use Rattle.usb_world.proofs.packets.Packets.{is_left}
+use Rattle.usb_tree.proofs.Interface.{resets_if}
 
 abbrev pub payload_asks_no_port : Option (Toggle × ArrayVec ℕ) → Bool
 payload_asks_no_port None = true
@@ -82,42 +80,33 @@ module _ (T : Effect → Bool) (r : Setup) (h : Allows T r) where
   good_outcome : (s : Spec) (g : Registers) → Good (outcome s g r)
   unfolding outcome
   good_outcome s g =
-      both_ways (Is r DEVICE_IN GET_DESCRIPTOR) (asked_descriptor s r.value) _
-      (by_descriptor s r.value)
-      (both_ways (Is r DEVICE_IN GET_STATUS) (unless s.stalls.status (asked_status s r)) _
-      (both_ways s.stalls.status stalled (asked_status s r) h.rests
-      (both_ways (r.value == 0 && r.index == 0) _ stalled h.rests h.rests))
-      (both_ways (Is r DEVICE_IN GET_CONFIGURATION) (answers (g.configuration ∷ [])) _ h.rests
-      (both_ways (Is r DEVICE_OUT SET_ADDRESS) (unless s.stalls.address (asked_address r)) _
-      (both_ways s.stalls.address stalled (asked_address r) h.rests
-      (both_ways (nat_le r.value 127 && r.length == 0) (takes_address r.value) stalled
-      h.rests h.rests))
-      (branch (Is r DEVICE_OUT SET_CONFIGURATION)
-      (unless s.stalls.set_config (asked_configuration s g r)) _
-      (λ e. both_ways s.stalls.set_config stalled (asked_configuration s g r) h.rests
-      (both_ways (not (g.address == 0) && is_value s.configs r.value && r.length == 0)
-      (takes_configuration r.value) stalled (h.off e) h.rests))
-      (both_ways (Is r INTERFACE_IN GET_STATUS) (asked_interface_status s g r) _ (by_interface s g)
-      (both_ways (Is r INTERFACE_IN GET_INTERFACE) (asked_setting s g r) _ (by_setting s g)
-      (both_ways (Is r INTERFACE_OUT SET_INTERFACE)
-      (unless s.stalls.interface (asked_interface s g r)) _ (by_new_setting s g)
-      (both_ways (Is r ENDPOINT_IN GET_STATUS) (asked_endpoint_status s g r) _ (by_halt s g)
-      (both_ways (Is r ENDPOINT_OUT CLEAR_FEATURE) (on_endpoint unhalts (endpoint_of s g r)) _
-      (by_endpoint unhalts (λ w. h.rests) (endpoint_of s g r))
-      (both_ways (Is r ENDPOINT_OUT SET_FEATURE) (on_endpoint halts (endpoint_of s g r)) _
-      (by_endpoint halts (λ w. h.rests) (endpoint_of s g r))
-      (both_ways (Is r HUB_IN GET_DESCRIPTOR) (unless s.stalls.hub (asked_hub_descriptor s.hub r)) _
-      (both_ways s.stalls.hub stalled (asked_hub_descriptor s.hub r) h.rests (by_hub s.hub))
-      (both_ways (Is r PORT_IN GET_STATUS) (asked_port_status s g r) _
-      (by_status (port_named s.hub g r.index))
-      (branch (Is r PORT_OUT SET_FEATURE) (port_feature (set_call r.value) s g r) _
-      (λ e. by_feature (set_call r.value) s g (h.set e))
-      (branch (Is r PORT_OUT CLEAR_FEATURE) (port_feature (clear_call r.value) s g r) _
-      (λ e. by_feature (clear_call r.value) s g (h.clear e))
+      both_ways (Is r DEVICE_IN GET_DESCRIPTOR) _ _ (by_descriptor s r.value)
+      (both_ways (Is r DEVICE_IN GET_STATUS) _ _
+      (both_ways s.stalls.status _ _ h.rests
+      (both_ways (r.value == 0 && r.index == 0) _ _ h.rests h.rests))
+      (both_ways (Is r DEVICE_IN GET_CONFIGURATION) _ _ h.rests
+      (both_ways (Is r DEVICE_OUT SET_ADDRESS) _ _
+      (both_ways s.stalls.address _ _ h.rests
+      (both_ways (nat_le r.value 127 && r.length == 0) _ _ h.rests h.rests))
+      (branch (Is r DEVICE_OUT SET_CONFIGURATION) _ _
+      (λ e. both_ways s.stalls.set_config _ _ h.rests
+      (both_ways (not (g.address == 0) && is_value s.configs r.value && r.length == 0) _ _ (h.off e)
+      h.rests))
+      (both_ways (Is r INTERFACE_IN GET_STATUS) _ _ (by_interface s g)
+      (both_ways (Is r INTERFACE_IN GET_INTERFACE) _ _ (by_setting s g)
+      (both_ways (Is r INTERFACE_OUT SET_INTERFACE) _ _ (by_new_setting s g)
+      (both_ways (Is r ENDPOINT_IN GET_STATUS) _ _ (by_halt s g)
+      (both_ways (Is r ENDPOINT_OUT CLEAR_FEATURE) _ _ (by_endpoint unhalts (λ w. h.rests) _)
+      (both_ways (Is r ENDPOINT_OUT SET_FEATURE) _ _ (by_endpoint halts (λ w. h.rests) _)
+      (both_ways (Is r HUB_IN GET_DESCRIPTOR) _ _
+      (both_ways s.stalls.hub _ _ h.rests (by_hub s.hub))
+      (both_ways (Is r PORT_IN GET_STATUS) _ _ (by_status _)
+      (branch (Is r PORT_OUT SET_FEATURE) _ _ (λ e. by_feature _ s g (h.set e))
+      (branch (Is r PORT_OUT CLEAR_FEATURE) _ _ (λ e. by_feature _ s g (h.clear e))
       (asked_own-any Good h.rests s.requests g r (λ bytes. h.rests) h.rests
       (λ kept. h.rests))))))))))))))))
 
-  pub setup_allowed : (s : State) → T (asked_by_setup s r) ≡ true
+  setup_allowed : (s : State) → T (asked_by_setup s r) ≡ true
   setup_allowed s = good_outcome s.spec s.registers
 
 -- the same of a packet with such a request, or one that is broken
@@ -167,3 +156,39 @@ payload_allowed T e a d h = grind arith
 pub payload_no_port_allows : (o : Option (Toggle × ArrayVec ℕ)) → payload_asks_no_port o ≡ true
     → PayloadAllows is_left o
 payload_no_port_allows o h = grind arith
+
+-- Setup data whose request is not PORT_RESET reset no device, whoever hears them.
+
+-- data that are no such request
+abbrev pub IsHarmlessOut : Content → Type 0
+IsHarmlessOut (Whole (Payload t bytes)) = is_harmless (setup_of bytes.items) ≡ true
+IsHarmlessOut Broken = Unit {0}
+IsHarmlessOut (Whole p) = ⊥
+
+-- no call of a reset
+abbrev no_reset : Effect → Bool
+no_reset (Calls c i) = not (is_reset c)
+no_reset e = true
+
+set_resets : (v : ℕ) (c : PortCall) → set_call v ≡ Some c → (v == PORT_RESET) ≡ false
+    → not (is_reset c) ≡ true
+set_resets v c e h = grind arith
+
+clear_resets : (v : ℕ) (c : PortCall) → clear_call v ≡ Some c → not (is_reset c) ≡ true
+clear_resets v c e = grind arith
+
+harmless_allows : (r : Setup) → is_harmless r ≡ true → Allows no_reset r
+harmless_allows r h = grind (arith, clear_resets, set_resets)
+
+harmless_out : (c : Content) → IsHarmlessOut c → AllowsOut no_reset c
+harmless_out c h = grind (arith, harmless_allows)
+
+effect_resets-none : (e : Effect) (a : Ports) (j : ℕ) (p : List ℕ) → no_reset e ≡ true
+    → effect_resets e a j p ≡ false
+effect_resets-none e a j p h = grind arith
+
+pub harmless_resets : (q : Sent) → IsHarmlessOut q.content
+    → (deep : Bool) (k : Ports) (j : ℕ) (p : List ℕ) → resets_at q deep k j p ≡ false
+harmless_resets q c deep k j p =
+    resets_if q deep k j p (λ e m r t z at dp a. effect_resets-none (effect_of q dp t) a m r
+    (sent_allowed no_reset refl q (harmless_out q.content c) dp t))

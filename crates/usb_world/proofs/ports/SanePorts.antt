@@ -19,7 +19,7 @@ use Rattle.usb_world.proofs.courses.Counts.{acted_long, first_long, off_long, ro
 -- Ports
 
 sane_off : (b : PortState) → IsSanePort (powered_off b)
-sane_off b = record { enabled = λ h. false_true h; changed = λ h. false_true h; steady = refl }
+sane_off b = grind (arith, false_true)
 
 sane_row : (c : PortCall) (b : PortState) → IsSanePort b → IsSanePort (called_port c b)
 sane_row c b h = grind arith
@@ -37,7 +37,7 @@ sane_plugged low b h = grind arith
 
 -- Trees
 
-pub sane_all_off : (k : Ports) → Consistent k → Consistent (all_off k)
+sane_all_off : (k : Ports) → Consistent k → Consistent (all_off k)
 unfolding Consistent all_off
 sane_all_off ended h = h
 sane_all_off (vacant b k) h = (sane_off b, h.1, sane_all_off k h.2)
@@ -46,11 +46,7 @@ sane_all_off (taken b s a k) h = (sane_off b, h.1, h.2, sane_all_off k h.3, h.4,
 pub sane_new_ports : (n : ℕ) → Consistent (new_ports n)
 unfolding Consistent new_ports
 sane_new_ports zero = tt
-sane_new_ports (suc n) = (
-  record { enabled = λ h. false_true h; changed = λ h. false_true h; steady = refl },
-  refl,
-  sane_new_ports n,
-)
+sane_new_ports (suc n) = grind (arith, sane_new_ports n, false_true)
 
 sane_first : (o : Option Hub) → Consistent (first_ports o)
 unfolding Consistent
@@ -70,13 +66,12 @@ unfolding ConsistentPlace Consistent
 sane_before q k h g = grind arith
 
 -- what keeps a port sane keeps the tree so
-pub sane_changed : (f : Place → Place) → ((q : Place) → ConsistentPlace q → ConsistentPlace (f q))
+sane_changed : (f : Place → Place) → ((q : Place) → ConsistentPlace q → ConsistentPlace (f q))
     → (k : Ports) (i : ℕ) (p : List ℕ) → Consistent k → Consistent (changed_at f k i p)
 unfolding Consistent ConsistentPlace changed_at
 sane_changed f c (vacant b k) zero [] h = sane_before (f (empty b)) k (c (empty b) (h.0, h.1)) h.2
 sane_changed f c (vacant b k) (suc i) p h = (h.0, h.1, sane_changed f c k i p h.2)
-sane_changed f c (taken b s a k) zero [] h =
-    sane_before (f (full b s a)) k (c (full b s a) (h.0, h.1, h.2, h.4, h.5)) h.3
+sane_changed f c (taken b s a k) zero [] h = grind (arith, sane_before)
 sane_changed f c (taken b s a k) zero (suc j ∷ p) h =
     grind (arith, sane_changed f c a j p h.2, row_long_at f a j p)
 sane_changed f c (taken b s a k) (suc i) p h = (h.0, h.1, h.2, sane_changed f c k i p h.3, h.4, h.5)
@@ -157,7 +152,7 @@ ports_counted (taken b s a k) (suc i) p c z m h e = ports_counted k i p c z m h.
 ports_counted k i p c z m h e = cc
 
 -- a row has a port of each number below its length
-row_stands : (k : Ports) (m : ℕ) → m < length (row_of k) → is_some (port_at k m []) ≡ true
+pub row_stands : (k : Ports) (m : ℕ) → m < length (row_of k) → is_some (port_at k m []) ≡ true
 unfolding row_of port_at
 row_stands ended m l = absurd (omega (arith, l))
 row_stands (vacant b k) (suc m) l = row_stands k m (omega (arith, l))

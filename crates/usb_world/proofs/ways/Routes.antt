@@ -19,20 +19,16 @@ use Rattle.usb_device.proofs.Interface.{one_is_held}
 use Rattle.usb_tree.specs.{after_sent, answers_to, deep_at, IsSettled, OthersForgot, Alone, AloneAt}
 use Rattle.usb_tree.specs.{IsWayTo, is_whole_tree, is_deep}
 use Rattle.usb_tree.proofs.Interface.{false_true, or_nothing}
-use Rattle.usb_world.proofs.packets.PacketEffects.{true_deep}
-use Rattle.usb_world.proofs.packets.AttemptPackets.{rested_answer}
-use Rattle.usb_world.proofs.packets.PacketWays.{clears_if}
+use Rattle.usb_world.proofs.packets.Packets.{true_deep, rested_answer, clears_if}
 use Rattle.usb_world.proofs.packets.AwaitedAcks.{rests_loss, rest_awaits}
-use Rattle.usb_world.proofs.courses.StepInvariants.{each_rests}
-use Rattle.usb_world.proofs.ways.LoneWalks.{Each, Others, along_way}
-use Rattle.usb_world.proofs.holders.OneDevice.{Resting, rest_all, rested_effect, others_rest}
-use Rattle.usb_world.proofs.holders.OneDevice.{others_forget, sent_to_one, alone_holder, alone_sent}
-use Rattle.usb_world.proofs.holders.OneDevice.{answer_at}
-use Rattle.usb_world.proofs.courses.Courses.{goes}
+use Rattle.usb_world.proofs.courses.Courses.{each_rests, goes}
+use Rattle.usb_world.proofs.holders.OneDevice.{Each, Others, along_way, Resting, rest_all}
+use Rattle.usb_world.proofs.holders.OneDevice.{rested_effect, others_rest, others_forget}
+use Rattle.usb_world.proofs.holders.OneDevice.{sent_to_one, alone_holder, alone_sent, answer_at}
 
 -- ---- the tree after the packet
 
-pub others_packet : (q : Sent) (k : Ports) (j : ℕ) (p : List ℕ)
+others_packet : (q : Sent) (k : Ports) (j : ℕ) (p : List ℕ)
     → Alone (Some q) k (record { row = j; rest = p })
     → after_packet q false k ≡ changed_at (sent_in q (deep_at false p)) k j p
 others_packet q k j p h = (sent_to_one (Some q) k _ h).ports
@@ -202,12 +198,8 @@ module _ (o : Option Sent) (q : Sent) (deep : Bool) (k m : Ports) (p : List ℕ)
         alone = subst (λ y. AloneAt None y p) (sym went) (alone_sent o k p alone);
         stopped = tt;
       }
-  sent_along (Err x) g h heard e same refused = record {
-    plugged = subst (StaysPlugged k) (sym same) (stays_plugged_refl k);
-    steps = tt;
-    alone = subst (λ y. AloneAt None y p) (sym same) (alone_less o k p alone);
-    stopped = grind (arith, stopped_of);
-  }
+  sent_along (Err x) g h heard e same refused =
+      grind (arith, alone_less, stays_plugged_refl, stopped_of)
 
 pub route_clears : (q : Sent) (k : Ports) (p : List ℕ) → is_whole_tree p ≡ false
     → AloneAt (Some q) k p → asks_clearing (effect_by q (is_deep p) (device_there k p))
@@ -235,7 +227,7 @@ alone_token a d k (suc j ∷ p) s o =
 
 -- ---- who holds the address
 
-pub one_at : (n : ℕ) (k : Ports) (p : List ℕ) → repeats (held_addresses k) ≡ false
+one_at : (n : ℕ) (k : Ports) (p : List ℕ) → repeats (held_addresses k) ≡ false
     → is_held_at n k p ≡ true → IsWayTo n k p
 one_at n k p s h = grind arith
 

@@ -1,7 +1,7 @@
 -- Which paths lead to which, and what is so on the way to a path.
-use Rattle.std.proofs.Common.{◌||◌, ◌≡◌, ◌∙◌, refl, sym, ap, ap₂, subst, arith, append-nil}
-use Rattle.std.proofs.Common.{append_assoc, length-append, ℕ, zero, suc, ◌+◌, ◌<◌, inl, inr, Bool}
-use Rattle.std.proofs.Common.{true, false, ◌&&◌, List, [], ◌∷◌, ◌++◌, length, Some, nat_eq}
+use Rattle.std.proofs.Common.{◌||◌, ◌≡◌, ◌∙◌, refl, sym, ap, ap₂, arith, append-nil, append_assoc}
+use Rattle.std.proofs.Common.{length-append, ℕ, zero, suc, ◌+◌, ◌<◌, inl, inr, Bool, true, false}
+use Rattle.std.proofs.Common.{◌&&◌, List, [], ◌∷◌, ◌++◌, length, Some, nat_eq}
 use Rattle.std.specs.Cmp.Lexicographic.{pointwise, same_text, bytes_decides}
 use Rattle.std.specs.List.{starts_with}
 use Rattle.std.proofs.lemmas.Bool.{eqb-true, eq-eqb}
@@ -9,10 +9,21 @@ use Rattle.usb_port.specs.{is_below as is_port_below, parent_of}
 use Rattle.usb_port.proofs.Interface.{is_below-extension, rejoined}
 use Rattle.usb_device.specs.{Spec, Ports, vacant, taken, reach, reach_at}
 use Rattle.usb_world.specs.{Action, Event, NoneNames, Undisturbed, names_path, way_of, World}
-use Rattle.usb_tree.specs.{is_way, same_number}
-use Rattle.usb_world.proofs.ports.RootResets.{same_number-is}
+use Rattle.usb_tree.specs.{is_way, same_number, same_path}
 use Rattle.usb_tree.proofs.Interface.{false_true, both, or_left, or_right, either_of, same_bools}
 use Rattle.usb_tree.proofs.Interface.{and_kept, self_number}
+
+-- Paths that are the same
+
+pub same_number-is : (i j : ℕ) → same_number i j ≡ true → j ≡ i
+same_number-is zero zero h = refl
+same_number-is (suc i) (suc j) h = ap suc (same_number-is i j h)
+same_number-is n x h = false_true h
+
+pub same_is : (p q : List ℕ) → same_path p q ≡ true → q ≡ p
+same_is [] [] h = refl
+same_is (m ∷ p) (n ∷ q) h = grind (arith, same_is p q, both, same_number-is)
+same_is p x h = false_true h
 
 -- a way goes on to the path
 pub way_rest : (p x : List ℕ) → is_way p x ≡ true → (rest : List ℕ) × (x ≡ p ++ rest)
@@ -29,18 +40,14 @@ unfolding is_way
 way_on [] rest = refl
 way_on (m ∷ p) rest = rw (self_number m, way_on p rest) refl
 
-pub way_of_rest : (p x rest : List ℕ) → x ≡ p ++ rest → is_way p x ≡ true
-way_of_rest p x rest e = subst (λ (l : List ℕ). is_way p l ≡ true) (sym e) (way_on p rest)
+way_of_rest : (p x rest : List ℕ) → x ≡ p ++ rest → is_way p x ≡ true
+way_of_rest p x rest e = grind (arith, way_on)
 
 pub way_itself : (p : List ℕ) → is_way p p ≡ true
 way_itself p = way_of_rest p p [] (sym (append-nil p))
 
 pub way_trans : (p q x : List ℕ) → is_way p q ≡ true → is_way q x ≡ true → is_way p x ≡ true
-way_trans p q x pq qx =
-    let first = way_rest p q pq in
-    let second = way_rest q x qx in
-    way_of_rest p x _ (second.1 ∙ ap (λ (l : List ℕ). l ++ second.0) first.1
-    ∙ append_assoc p first.0 second.0)
+way_trans p q x pq qx = grind (arith, append_assoc, way_of_rest, way_rest)
 
 -- Other words for it
 
@@ -56,8 +63,7 @@ way_starts p x = refl
 rest_below : (x p rest : List ℕ) → x ≡ p ++ rest → (pointwise nat_eq x p || is_port_below x p)
     ≡ true
 rest_below x p [] e = or_left (pointwise nat_eq x p) _ ((bytes_decides x p).1 (e ∙ append-nil p))
-rest_below x p (n ∷ rest) e = or_right (pointwise nat_eq x p) _
-    ((is_below-extension x p).1 (n ∷ rest, e, omega arith))
+rest_below x p (n ∷ rest) e = grind (arith, is_below-extension, or_right)
 
 below_rest : (x p : List ℕ) → (pointwise nat_eq x p || is_port_below x p) ≡ true → is_way p x ≡ true
 below_rest x p h = elim (either_of (pointwise nat_eq x p) (is_port_below x p) h) [
@@ -71,12 +77,8 @@ at_or_below_way x p = grind (arith, below_rest, rest_below, same_bools, way_rest
 
 -- Above
 
-pub shorter_by : (p x : List ℕ) → length x < length p → (b : Bool) → is_way p x ≡ b → b ≡ false
-shorter_by p x shorter true h =
-    let rest = way_rest p x h in
-    let long : length x ≡ length p + length rest.0 = ap length rest.1 ∙ length-append p rest.0 in
-    absurd (omega (arith, long, shorter))
-shorter_by p x shorter false h = refl
+shorter_by : (p x : List ℕ) → length x < length p → (b : Bool) → is_way p x ≡ b → b ≡ false
+shorter_by p x shorter b h = grind (arith, length-append, way_rest)
 
 -- a path does not lead to a shorter one
 pub way_shorter : (p x : List ℕ) → length x < length p → is_way p x ≡ false

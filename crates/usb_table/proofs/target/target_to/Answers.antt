@@ -1,4 +1,4 @@
-use Rattle.usb_table.proofs.levels.Targets.{sound_target_wide}
+use Rattle.usb_table.proofs.levels.NewPipes.{sound_target_wide}
 use Rattle.usb_table.proofs.target.target_to.Goals as goal
 
 pub returns-clause-wide : goal.returns-clause-wide

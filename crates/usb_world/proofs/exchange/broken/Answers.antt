@@ -1,7 +1,7 @@
 use Rattle.std.proofs.Common.{ℕ, List, subst, sym, ◌∙◌}
 use Rattle.usb_packet.specs.{Spells}
 use Rattle.usb_world.specs.{has_its_bit}
-use Rattle.usb_world.proofs.attempts.DamageEffects.{bit_within}
+use Rattle.usb_world.proofs.addresses.AddressLosses.{bit_within}
 use Rattle.usb_world.proofs.exchange.broken.Goals as goal
 
 pub flipped-requires : goal.flipped-requires

@@ -3,7 +3,7 @@ use Rattle.usb_world.proofs.attempts.Refusals.{over_cut}
 use Rattle.usb_world.proofs.attempts.Exchanges.{over_settled, over_plugged, over_made}
 use Rattle.std.specs.Option.{option_eq}
 use Rattle.usb_world.specs.{Destination}
-use Rattle.usb_world.proofs.ways.RoutesKept.{kept_at}
+use Rattle.usb_world.proofs.ways.RoutedAttempts.{kept_at}
 use Rattle.usb_world.proofs.exchange.exchange_by_packets.Goals as goal
 
 pub returns-in_err-made : goal.returns-in_err-made

@@ -2,8 +2,9 @@ use Rattle.std.proofs.Common.{refl, sym, ◌∙◌, rules}
 use Rattle.usb_device.proofs.Interface.{stopped_on_err}
 use Rattle.usb_world.specs.{Exchange, Whole, attempt_data, heard_above}
 use Rattle.usb_world.proofs.attempts.Exchanges.{over_settled}
-use Rattle.usb_world.proofs.ways.OneWalk.{CutShort, Walked, walk_over, walk_cut, walked_made}
-use Rattle.usb_world.proofs.ways.OneWalk.{walked_kept, made_plugged, made_settled, cut_plugged}
+use Rattle.usb_world.proofs.ways.RoutedAttempts.{CutShort, Walked, walk_over, walk_cut, walked_made}
+use Rattle.usb_world.proofs.ways.RoutedAttempts.{walked_kept, made_plugged, made_settled}
+use Rattle.usb_world.proofs.ways.RoutedAttempts.{cut_plugged}
 use Rattle.usb_world.proofs.exchange.exchange_whole.Goals as goal
 
 cut_short : (c : goal.After-from_residual)

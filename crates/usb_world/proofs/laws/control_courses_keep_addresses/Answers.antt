@@ -1,4 +1,4 @@
-use Rattle.usb_world.proofs.addresses.AddressesInTransfers.{course_keeps}
+use Rattle.usb_world.proofs.addresses.AddressesKept.{course_keeps}
 use Rattle.usb_world.proofs.laws.control_courses_keep_addresses.Goals as goal
 
 pub returns : goal.returns

@@ -1,5 +1,5 @@
 use Rattle.usb_world.proofs.ports.SanePorts.{ports_counted, ports_stand}
-use Rattle.usb_world.proofs.courses.StepInvariants.{between_course, between_opening}
+use Rattle.usb_world.proofs.courses.Courses.{between_course, between_opening}
 use Rattle.usb_world.proofs.laws.devices_have_their_ports.Goals as goal
 
 pub returns : goal.returns

@@ -1,4 +1,4 @@
-use Rattle.usb_world.proofs.holders.OneAnswer.{few_answers, no_collision, no_collision_in}
+use Rattle.usb_world.proofs.holders.OneHolderAttempts.{few_answers, no_collision, no_collision_in}
 use Rattle.usb_world.proofs.laws.one_device_at_most_answers.Goals as goal
 
 pub returns : goal.returns

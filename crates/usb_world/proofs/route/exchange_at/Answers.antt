@@ -1,6 +1,6 @@
 use Rattle.std.proofs.Common.{refl}
 use Rattle.usb_world.proofs.ways.Routes.{alone_token}
-use Rattle.usb_world.proofs.ways.RoutesKept.{index_beside}
+use Rattle.usb_world.proofs.ways.RoutedAttempts.{index_beside}
 use Rattle.usb_world.proofs.route.exchange_at.Goals as goal
 
 pub exchange_along-requires-clause-alone : goal.exchange_along-requires-clause-alone

@@ -4,8 +4,8 @@ use Rattle.usb_device.specs.{holder_in, IsIndexOf}
 use Rattle.usb_tree.specs.{KeptAt}
 use Rattle.usb_world.specs.{Destination, attempt_data}
 use Rattle.usb_world.proofs.ways.Routes.{alone_token, way_by_index}
-use Rattle.usb_world.proofs.ways.RoutesKept.{index_kept}
-use Rattle.usb_world.proofs.attempts.Silence.{nobody_there, silence_made}
+use Rattle.usb_world.proofs.ways.RoutedAttempts.{index_kept}
+use Rattle.usb_world.proofs.holders.OneHolderAttempts.{nobody_there, silence_made}
 use Rattle.usb_world.proofs.route.make_exchange_by.Goals as goal
 
 pub returns-in-Nobody-clause-made : goal.returns-in-Nobody-clause-made

@@ -1,4 +1,4 @@
-use Rattle.usb_world.proofs.attempts.DamageEffects.{damage_here, damage_later, damage_none}
+use Rattle.usb_world.proofs.addresses.AddressLosses.{damage_here, damage_later, damage_none}
 use Rattle.usb_world.proofs.wire.damage_of.Goals as goal
 
 pub returns-then-damage-attempt : goal.returns-then-damage-attempt

@@ -1,6 +1,6 @@
 use Rattle.std.proofs.Common.{◌∙◌, sym}
 use Rattle.usb_table.specs.{ClearedOfThrough, pipe_to, clears_miss}
-use Rattle.usb_table.proofs.FunctionCalls.{PutBack, call_made, call_through}
+use Rattle.usb_table.proofs.TransferLeaves.{PutBack, call_made, call_through}
 use Rattle.usb_table.proofs.levels.StandingPipes.{to_picks}
 use Rattle.usb_table.proofs.function_pipes.FunctionPipes.clear.Goals as goal
 

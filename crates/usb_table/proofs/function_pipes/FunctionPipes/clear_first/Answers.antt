@@ -1,7 +1,6 @@
 use Rattle.std.proofs.Common.{◌∙◌, sym}
-use Rattle.usb_table.specs.{first_pipe}
-use Rattle.usb_table.proofs.IdleCalls.{idle_steps}
-use Rattle.usb_table.proofs.FunctionCalls.{call_first, call_made}
+use Rattle.usb_table.proofs.levels.PathCalls.{idle_steps}
+use Rattle.usb_table.proofs.TransferLeaves.{call_first, call_made}
 use Rattle.usb_table.proofs.levels.StandingPipes.{first_picks}
 use Rattle.usb_table.proofs.function_pipes.FunctionPipes.clear_first.Goals as goal
 

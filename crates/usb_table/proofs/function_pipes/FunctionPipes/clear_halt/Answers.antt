@@ -1,10 +1,10 @@
 use Rattle.std.proofs.Common.{◌≡◌, ◌∙◌, sym, refl, arith, Err, None, Ok, true}
 use Rattle.usb_bus.proofs.Interface.{went_then, went_wider}
 use Rattle.usb_table.specs.{first_unclear}
-use Rattle.usb_table.proofs.IdleCalls.{idle_steps}
-use Rattle.usb_table.proofs.FunctionCalls.{both_cleared, first_failed, second_missed}
+use Rattle.usb_table.proofs.levels.PathCalls.{idle_steps}
+use Rattle.usb_table.proofs.TransferLeaves.{both_cleared, first_failed, second_missed}
 use Rattle.usb_table.proofs.levels.StandingPipes.{placed_made}
-use Rattle.usb_table.proofs.transfers.ControlReads.{told_error}
+use Rattle.usb_table.proofs.transfers.PlainRequests.{told_error}
 use Rattle.usb_table.proofs.function_pipes.FunctionPipes.clear_halt.Goals as goal
 
 pub clear_first-requires-2 : goal.clear_first-requires-2

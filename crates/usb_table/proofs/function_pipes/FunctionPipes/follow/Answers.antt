@@ -1,5 +1,5 @@
 use Rattle.std.proofs.Common.{arith}
-use Rattle.usb_table.proofs.levels.SetPipes.{loss_fits, set_fits}
+use Rattle.usb_table.proofs.levels.SetLevels.{loss_fits, set_fits}
 use Rattle.usb_table.proofs.function_pipes.FunctionPipes.follow.Goals as goal
 
 pub returns-in-Ok-clause-fits : goal.returns-in-Ok-clause-fits

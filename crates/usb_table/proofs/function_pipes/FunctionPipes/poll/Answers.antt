@@ -1,6 +1,7 @@
 use Rattle.std.proofs.Common.{◌∙◌, sym}
 use Rattle.usb_table.specs.{ReportedThrough, polls_through, polls_miss}
-use Rattle.usb_table.proofs.FunctionCalls.{PutBack, call_made, call_refused, call_through, told_bus}
+use Rattle.usb_table.proofs.TransferLeaves.{PutBack, call_made, call_refused, call_through}
+use Rattle.usb_table.proofs.TransferLeaves.{told_bus}
 use Rattle.usb_table.proofs.levels.StandingPipes.{polls_picks}
 use Rattle.usb_table.proofs.function_pipes.FunctionPipes.poll.Goals as goal
 

@@ -1,6 +1,7 @@
 use Rattle.std.proofs.Common.{◌∙◌, sym, arith}
 use Rattle.usb_table.specs.{SentThrough, sends_through, sends_miss}
-use Rattle.usb_table.proofs.FunctionCalls.{PutBack, call_made, call_refused, call_through, told_bus}
+use Rattle.usb_table.proofs.TransferLeaves.{PutBack, call_made, call_refused, call_through}
+use Rattle.usb_table.proofs.TransferLeaves.{told_bus}
 use Rattle.usb_table.proofs.levels.StandingPipes.{sends_picks, sends_way}
 use Rattle.usb_table.proofs.function_pipes.FunctionPipes.send.Goals as goal
 

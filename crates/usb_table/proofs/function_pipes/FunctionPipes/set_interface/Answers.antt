@@ -1,4 +1,4 @@
-use Rattle.usb_table.proofs.IdleCalls.{idle_steps}
+use Rattle.usb_table.proofs.levels.PathCalls.{idle_steps}
 use Rattle.usb_table.proofs.function_pipes.FunctionPipes.set_interface.Goals as goal
 
 pub returns-then-not-is_settable-clause-steps : goal.returns-then-not-is_settable-clause-steps

@@ -2,7 +2,7 @@ use Rattle.std.proofs.Common.{◌≡◌, ◌∙◌, ap, refl, true, false, List,
 use Rattle.usb_descriptor.specs.{default_settings, with_setting}
 use Rattle.usb_enum.specs.{configuration_of}
 use Rattle.usb_table.specs.{cleared_row}
-use Rattle.usb_table.proofs.levels.SetPipes.{row_is}
+use Rattle.usb_table.proofs.levels.SetLevels.{row_is}
 use Rattle.usb_table.proofs.function_pipes.FunctionPipes.take_setting.Goals as goal
 
 pub returns-clause-value : goal.returns-clause-value

@@ -1,4 +1,4 @@
-use Rattle.usb_table.proofs.IdleCalls.{idle_steps}
+use Rattle.usb_table.proofs.levels.PathCalls.{idle_steps}
 use Rattle.usb_table.proofs.pipes.Pipes.poll.Goals as goal
 
 pub returns-in-Function-clause-steps : goal.returns-in-Function-clause-steps

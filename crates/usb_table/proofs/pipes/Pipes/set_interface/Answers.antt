@@ -1,4 +1,4 @@
-use Rattle.usb_table.proofs.IdleCalls.{idle_steps}
+use Rattle.usb_table.proofs.levels.PathCalls.{idle_steps}
 use Rattle.usb_table.proofs.pipes.Pipes.set_interface.Goals as goal
 
 pub returns-in-Hub-clause-steps : goal.returns-in-Hub-clause-steps

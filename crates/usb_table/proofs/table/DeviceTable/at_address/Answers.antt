@@ -1,8 +1,7 @@
 -- The slab has what the address's key names.
 use Rattle.std.proofs.Common.{◌∙◌, sym, ap, Some}
 use Rattle.slab.specs.Slab.{get}
-use Rattle.usb_table.proofs.entries.Addresses.{addressed_stands, has_device}
-use Rattle.usb_table.proofs.entries.Addresses.{key_of_address-no_device}
+use Rattle.usb_table.proofs.entries.Keys.{addressed_stands, has_device, key_of_address-no_device}
 use Rattle.usb_table.proofs.entries.Keys.{findings-standing, some_standing}
 use Rattle.usb_table.proofs.table.DeviceTable.at_address.Goals as goal
 
@@ -17,7 +16,8 @@ returns-in-Some-clause-some c =
     let is = rw c.number.ensures.value at (sym c.in-Some.ensures.value) in
     rw (← c.self.view_is)
     (has_device _ _ _ c.args.address c.in-Some.key.now c.finding.result.now c.self.invariant.0 is
-    (findings-standing (get c.self.inside.entries) c.in-Some.key.now c.index.result.now c.index.ensures
+    (findings-standing (get c.self.inside.entries) c.in-Some.key.now c.index.result.now
+    c.index.ensures
     ∙ ap Some (sym c.finding.ensures)))
 
 pub returns-in-None-clause-none : goal.returns-in-None-clause-none

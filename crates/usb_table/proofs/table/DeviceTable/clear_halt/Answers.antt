@@ -3,7 +3,7 @@ use Rattle.slab.specs.Slab.{get}
 use Rattle.usb_bus.specs.{still}
 use Rattle.usb_world.proofs.Interface.{spends_none, spends_wider}
 use Rattle.usb_table.specs.{Transfer, NoDevice}
-use Rattle.usb_table.proofs.levels.PipeCalls.{SlotCall, placed_at, through_none, through_slot}
+use Rattle.usb_table.proofs.levels.PathCalls.{SlotCall, placed_at, through_none, through_slot}
 use Rattle.usb_table.proofs.TransferLeaves.{table_clears}
 use Rattle.usb_table.proofs.table.DeviceTable.clear_halt.Goals as goal
 

@@ -1,7 +1,6 @@
 use Rattle.std.proofs.Common.{sym, refl, Err, Ok}
 use Rattle.usb_bus.proofs.Interface.{went_none}
-use Rattle.usb_table.proofs.transfers.ControlReads.{table_reads, told_error}
-use Rattle.usb_table.proofs.transfers.PlainTransfers.{refused_controls}
+use Rattle.usb_table.proofs.transfers.PlainRequests.{table_reads, told_error, refused_controls}
 use Rattle.usb_table.proofs.table.DeviceTable.control_in.Goals as goal
 
 pub returns-in_err-read_from-in-Ok-clause-reads : goal.returns-in_err-read_from-in-Ok-clause-reads

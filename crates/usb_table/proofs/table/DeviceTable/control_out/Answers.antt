@@ -1,8 +1,6 @@
 use Rattle.std.proofs.Common.{sym, refl, Err, Ok}
 use Rattle.usb_bus.proofs.Interface.{went_none}
-use Rattle.usb_table.proofs.transfers.ControlReads.{told_error}
-use Rattle.usb_table.proofs.transfers.ControlWrites.{table_writes}
-use Rattle.usb_table.proofs.transfers.PlainTransfers.{refused_controls}
+use Rattle.usb_table.proofs.transfers.PlainRequests.{told_error, table_writes, refused_controls}
 use Rattle.usb_table.proofs.table.DeviceTable.control_out.Goals as goal
 
 pub returns-in_err-write_to-in-Ok-clause-writes : goal.returns-in_err-write_to-in-Ok-clause-writes

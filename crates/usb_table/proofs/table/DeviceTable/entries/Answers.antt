@@ -7,7 +7,7 @@ use Rattle.slab.specs.Slab.{get}
 use Rattle.usb_port.specs.{path_cmp}
 use Rattle.usb_table.specs.{findings}
 use Rattle.usb_table.proofs.entries.Keys.{entries_rise, some_standing}
-use Rattle.usb_table.proofs.levels.PipeCalls.{are_pipes_at}
+use Rattle.usb_table.proofs.levels.PathCalls.{are_pipes_at}
 use Rattle.usb_table.proofs.table.DeviceTable.entries.Goals as goal
 
 pub index-requires : goal.index-requires

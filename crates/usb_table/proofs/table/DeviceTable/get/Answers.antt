@@ -3,7 +3,7 @@ use Rattle.std.proofs.Common.{◌∙◌, sym, ap, Some}
 use Rattle.slab.specs.Slab.{get}
 use Rattle.usb_table.specs.{findings}
 use Rattle.usb_table.proofs.entries.Keys.{entries_of-key, entries_of-no_key, findings-standing}
-use Rattle.usb_table.proofs.levels.PipeCalls.{are_pipes_at}
+use Rattle.usb_table.proofs.levels.PathCalls.{are_pipes_at}
 use Rattle.usb_table.proofs.table.DeviceTable.get.Goals as goal
 
 pub returns-in-Some-clause-value : goal.returns-in-Some-clause-value

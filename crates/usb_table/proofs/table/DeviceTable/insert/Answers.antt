@@ -1,5 +1,5 @@
 -- What is entered is a new entry, at a path that has none.
-use Rattle.usb_table.proofs.entries.NewEntries.{none_at}
+use Rattle.usb_table.proofs.entries.Keys.{none_at}
 use Rattle.usb_table.proofs.table.DeviceTable.insert.Goals as goal
 
 pub put-requires-clause-away : goal.put-requires-clause-away

@@ -11,7 +11,7 @@ use Rattle.usb_port.specs.{path_cmp}
 use Rattle.usb_table.specs.{PathKeys, findings, finding_under, entries_of, Table, fits}
 use Rattle.usb_table.proofs.entries.Keys.{entries_rise, finding_stands, findings-standing}
 use Rattle.usb_table.proofs.entries.Keys.{some_standing}
-use Rattle.usb_table.proofs.entries.NextEntries.{first_from, first_behind, next_is, last_is}
+use Rattle.usb_table.proofs.entries.Ranges.{first_from, first_behind, next_is, last_is}
 use Rattle.usb_table.proofs.table.DeviceTable.next_of.Goals as goal
 
 pub entries-init : goal.entries-init

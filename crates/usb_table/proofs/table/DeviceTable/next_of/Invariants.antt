@@ -1,7 +1,7 @@
 use Rattle.std.proofs.Common.{◌≡◌, None, option_copied}
 use Rattle.slab.specs.Slab.{get}
 use Rattle.usb_table.specs.{entries_of, findings, fits}
-use Rattle.usb_table.proofs.entries.NextEntries.{first_from}
+use Rattle.usb_table.proofs.entries.Ranges.{first_from}
 use Rattle.usb_table.proofs.table.DeviceTable.next_of.Given as goal
 
 abbrev pub invariant-entries : goal.invariant-entries

@@ -1,7 +1,6 @@
 use Rattle.std.proofs.Common.{sym, refl, arith, Ok, None}
 use Rattle.slab.specs.Slab.{get}
-use Rattle.usb_table.proofs.IdleCalls.{idle_steps}
-use Rattle.usb_table.proofs.levels.PipeCalls.{SlotCall, through_none, through_slot}
+use Rattle.usb_table.proofs.levels.PathCalls.{idle_steps, SlotCall, through_none, through_slot}
 use Rattle.usb_table.proofs.transfers.HubPolls.{table_polls}
 use Rattle.usb_table.proofs.table.DeviceTable.poll.Goals as goal
 

@@ -2,8 +2,9 @@
 use Rattle.std.proofs.Common.{◌≡◌, ◌∙◌, sym, ap, Result, Ok, Err, OnErr}
 use Rattle.slab.specs.Slab.{Slab, get}
 use Rattle.usb_table.specs.{Entry, findings, address_found, with_entry}
-use Rattle.usb_table.proofs.entries.NewEntries.{away_key, free_key}
-use Rattle.usb_table.proofs.entries.OneMore.{OneMore, come, come_piped, come_table, entered_one}
+use Rattle.usb_table.proofs.entries.Keys.{away_key, free_key}
+use Rattle.usb_table.proofs.entries.EnteredFindings.{OneMore, come, come_piped, come_table}
+use Rattle.usb_table.proofs.entries.EnteredFindings.{entered_one}
 use Rattle.usb_table.proofs.table.DeviceTable.put.Goals as goal
 
 on_err : {A E : Type 0} (r : Result A E) (P : Type 0) → P → OnErr r P

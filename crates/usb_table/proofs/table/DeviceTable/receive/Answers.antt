@@ -2,7 +2,7 @@ use Rattle.std.proofs.Common.{sym, refl, arith, Err}
 use Rattle.slab.specs.Slab.{get}
 use Rattle.usb_bus.specs.{still}
 use Rattle.usb_table.specs.{Transfer, NoDevice}
-use Rattle.usb_table.proofs.levels.PipeCalls.{SlotCall, placed_at, through_none, through_slot}
+use Rattle.usb_table.proofs.levels.PathCalls.{SlotCall, placed_at, through_none, through_slot}
 use Rattle.usb_table.proofs.TransferLeaves.{table_receives}
 use Rattle.usb_table.proofs.table.DeviceTable.receive.Goals as goal
 

@@ -1,7 +1,7 @@
 -- The slab has what the path's key names.
 use Rattle.std.proofs.Common.{◌∙◌, sym}
 use Rattle.slab.specs.Slab.{get}
-use Rattle.usb_table.proofs.levels.PipeCalls.{said_found, said_none}
+use Rattle.usb_table.proofs.levels.PathCalls.{said_found, said_none}
 use Rattle.usb_table.proofs.table.DeviceTable.said.Goals as goal
 
 pub returns-in-Some : goal.returns-in-Some

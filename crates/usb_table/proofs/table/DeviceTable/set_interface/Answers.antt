@@ -1,9 +1,8 @@
 use Rattle.std.proofs.Common.{sym, refl, arith, Err}
 use Rattle.slab.specs.Slab.{get, with_value}
-use Rattle.usb_table.proofs.IdleCalls.{idle_steps}
+use Rattle.usb_table.proofs.levels.PathCalls.{idle_steps, CallThrough, device_found, device_none}
+use Rattle.usb_table.proofs.levels.PathCalls.{set_slot, set_said, through_none}
 use Rattle.usb_table.specs.{NoDevice, Transfer}
-use Rattle.usb_table.proofs.levels.PipeCalls.{CallThrough, device_found, device_none, set_slot}
-use Rattle.usb_table.proofs.levels.PipeCalls.{set_said, through_none}
 use Rattle.usb_table.proofs.transfers.InterfaceSets.{table_sets}
 use Rattle.usb_table.proofs.table.DeviceTable.set_interface.Goals as goal
 

@@ -4,7 +4,7 @@ use Rattle.std.specs.BTreeMap.{BTreeMap}
 use Rattle.slab.specs.Slab.{get}
 use Rattle.usb_table.specs.{findings, key_of_path, removed}
 use Rattle.usb_table.proofs.entries.Keys.{entries_of-key, findings-standing, entries-has_at}
-use Rattle.usb_table.proofs.entries.OneMore.{OneMore, go, go_piped, go_table, left_one}
+use Rattle.usb_table.proofs.entries.EnteredFindings.{OneMore, go, go_piped, go_table, left_one}
 use Rattle.usb_table.proofs.table.DeviceTable.take_at.Goals as goal
 
 on_none : {A : Type 0} (r : Option A) (P : Type 0) → P → IfNone r P

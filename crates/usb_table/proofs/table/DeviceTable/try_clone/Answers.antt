@@ -1,9 +1,8 @@
 -- Each entry goes behind those that were copied.
 use Rattle.std.proofs.Common.{◌∙◌}
 use Rattle.slab.specs.Slab.{get}
-use Rattle.usb_table.proofs.entries.Copies.{copied_all, copied_more, copied_none, next_address}
-use Rattle.usb_table.proofs.entries.Copies.{next_at, next_away}
-use Rattle.usb_table.proofs.entries.Keys.{some_standing}
+use Rattle.usb_table.proofs.entries.Keys.{copied_all, copied_more, copied_none, next_address}
+use Rattle.usb_table.proofs.entries.Keys.{next_at, next_away, some_standing}
 use Rattle.usb_table.proofs.table.DeviceTable.try_clone.Goals as goal
 
 pub index-requires : goal.index-requires

@@ -1,5 +1,5 @@
 use Rattle.slab.specs.Slab.{get}
-use Rattle.usb_table.proofs.entries.Copies.{Copied}
+use Rattle.usb_table.proofs.entries.Keys.{Copied}
 use Rattle.usb_table.proofs.table.DeviceTable.try_clone.Given as goal
 
 abbrev pub invariant-entries : goal.invariant-entries

@@ -1,43 +1,233 @@
--- An attempt of which nothing is damaged, at the one device that it is for and on one way down the
--- tree, is the attempt in the whole tree.
+-- An attempt that goes straight to the one device that it is for.
+use Rattle.usb_world.proofs.holders.OneDevice.{IsFull, reach-full, full_state, step_in, sent_to_one}
+use Rattle.usb_world.proofs.holders.OneDevice.{sent_place, end_is, all_is, others_rest}
+use Rattle.usb_world.proofs.holders.OneDevice.{others_forget, alone_sent, second_alone, third_alone}
+use Rattle.usb_world.proofs.holders.OneDevice.{last_alone}
+use Rattle.std.proofs.Common.{arith, ◌≡◌, ℕ, zero, suc, Bool, true, false, List, [], ◌∷◌, ◌++◌}
+use Rattle.std.proofs.Common.{Option, None, Some, is_some, option_map, IsSome, nat_eq, refl, ap}
+use Rattle.std.proofs.Common.{sym, subst, ◌∙◌, ◌+◌, ◌&&◌, if◌then◌else◌, ap₂}
+use Rattle.std.proofs.lemmas.Option.{same_Some}
+use Rattle.std.specs.Option.{option_eq}
+use Rattle.arrayvec.specs.ArrayVec.{ArrayVec}
+use Rattle.usb_port.specs.{PortState}
+use Rattle.usb_device.specs.{Sent, Leaves, State, Ports, full, acted, put, changed, changed_at}
+use Rattle.usb_device.specs.{changed_in, device_there, plugged_at, place_at, Location, state_at}
+use Rattle.usb_device.specs.{answer_of, all_forgotten, reached, all_reached, ReachedSame}
+use Rattle.usb_device.specs.{keeps_others, IsIndexOf, IsIndexWithout, forgotten_in, address_by}
+use Rattle.usb_device.specs.{Place, HostSide, DeviceSide, Heard, Plugged, taken_sent, heard_of}
+use Rattle.usb_device.specs.{heard_from, both, has_loss, asks_clearing, RefusedBy, token_sent}
+use Rattle.usb_device.specs.{ack_sent, after_packet_at, answer_from, asked_from, RefusedFrom}
+use Rattle.usb_device.specs.{takes_data, after_token, after_data, heard_of_both, acknowledges}
+use Rattle.usb_device.specs.{after_reply, side_of, heard_at, side_at, RefusedAt, left_in, cut_in}
+use Rattle.usb_device.specs.declared.holders.Holders.{Holders}
+use Rattle.usb_device.proofs.Interface.{changed_at-port, changed_at-twice, changed_at-zero}
+use Rattle.usb_device.proofs.Interface.{index_around, reached-acted, reached-both, same_index}
+use Rattle.usb_device.proofs.Interface.{heard_of-append}
+use Rattle.usb_world.specs.{Attempt, Damage, token_out, payload_out, reply_out, ended_in, ports_in}
+use Rattle.usb_world.specs.{Exchange, Whole, Outgoing, harm_to, mark_of, is_read, marked}
+use Rattle.usb_world.specs.{marked_some, ack_if, token_of, payload_of, answer_place, reply_of}
+use Rattle.usb_world.specs.{goes_out, heard_in, place_of_answer, mark_in, reply_in, answered_in}
+use Rattle.usb_world.specs.{is_lost, lost_in, clears_at, cleared_in, exchange_in, StaysPlugged}
+use Rattle.usb_world.specs.{Exchanged, IsStopped, heard_above, host_side, keeps_address, IsCut}
+use Rattle.usb_tree.specs.{address_of, after_sent, deep_at, IsSettled, Alone, is_whole_tree}
+use Rattle.usb_tree.specs.{IsWayTo, without_port, IsQuiet, KeptAt, answers_to, AloneAt, is_deep}
+use Rattle.usb_tree.proofs.Interface.{false_true, equal_same, both as both_true}
+use Rattle.usb_world.proofs.packets.Packets.{calm_token as token_calm, calm_ack as ack_calm}
+use Rattle.usb_world.proofs.holders.HolderPorts.{calm_asked}
+use Rattle.usb_world.proofs.holders.OneHolder.{asked_of}
+use Rattle.usb_world.proofs.ports.PortCalls.{place_at-changed, changed_at-there}
+use Rattle.usb_world.proofs.ways.Routes.{plugged_on, plugged_place, alone_token, heard_place_by}
+use Rattle.usb_world.proofs.ways.Routes.{others_clear, others_loss, others_stop, loss_by}
+use Rattle.usb_world.proofs.courses.Courses.{goes}
 use Rattle.usb_world.proofs.attempts.Exchanges.{after_sent-plugged, heard_all_of, plugged_further}
 use Rattle.usb_world.proofs.attempts.Exchanges.{over_plugged, over_settled}
 use Rattle.usb_world.proofs.holders.OneHolderAttempts.{sound_answer}
-use Rattle.usb_world.proofs.ways.WayChanges.{changed_at-there}
-use Rattle.std.proofs.Common.{arith, ◌≡◌, ℕ, zero, suc, ◌+◌, ◌&&◌, if◌then◌else◌, Bool, true, false}
-use Rattle.std.proofs.Common.{List, [], ◌∷◌, ◌++◌, Option, None, Some, option_map, nat_eq, refl, ap}
-use Rattle.std.proofs.Common.{ap₂, sym, subst, ◌∙◌}
-use Rattle.std.specs.Option.{option_eq}
-use Rattle.usb_port.specs.{PortState}
-use Rattle.usb_device.specs.{HostSide, DeviceSide, Heard, Sent, Ports, Plugged, full, changed_at}
-use Rattle.usb_device.specs.{changed, plugged_at, device_there, place_at, taken_sent, all_forgotten}
-use Rattle.usb_device.specs.{heard_of, heard_from, both, has_loss, asks_clearing, keeps_others}
-use Rattle.usb_device.specs.{RefusedBy, forgotten_in, address_by, token_sent, ack_sent}
-use Rattle.usb_device.specs.{after_packet_at, answer_from, asked_from, RefusedFrom, takes_data}
-use Rattle.usb_device.specs.{after_token, after_data, heard_of_both, acknowledges, after_reply}
-use Rattle.usb_device.specs.{side_of, heard_at, side_at, RefusedAt, left_in, cut_in, Place}
-use Rattle.usb_device.specs.{Location}
-use Rattle.usb_device.proofs.Interface.{changed_at-twice, heard_of-append}
-use Rattle.usb_world.specs.{Attempt, Exchange, Whole, Outgoing, harm_to, mark_of, is_read, marked}
-use Rattle.usb_world.specs.{marked_some, ack_if, token_of, payload_of, answer_place, reply_of}
-use Rattle.usb_world.specs.{goes_out, token_out, payload_out, heard_in, place_of_answer, mark_in}
-use Rattle.usb_world.specs.{reply_in, reply_out, answered_in, is_lost, lost_in, clears_at}
-use Rattle.usb_world.specs.{cleared_in, exchange_in, ended_in, ports_in, StaysPlugged, Exchanged}
-use Rattle.usb_world.specs.{IsStopped, heard_above, host_side, keeps_address, IsCut}
-use Rattle.usb_tree.specs.{IsSettled, after_sent, answers_to, deep_at, Alone, AloneAt, IsQuiet}
-use Rattle.usb_tree.specs.{KeptAt, is_whole_tree, is_deep}
-use Rattle.usb_tree.proofs.Interface.{false_true, both as both_true}
-use Rattle.usb_world.proofs.courses.Courses.{goes}
-use Rattle.usb_world.proofs.holders.OneDevice.{step_in, sent_to_one, sent_place, others_rest}
-use Rattle.usb_world.proofs.holders.OneDevice.{others_forget, alone_sent, second_alone, third_alone}
-use Rattle.usb_world.proofs.holders.OneDevice.{last_alone}
-use Rattle.usb_world.proofs.ways.Routes.{plugged_on, plugged_place, heard_place_by, others_clear}
-use Rattle.usb_world.proofs.ways.Routes.{others_loss, others_stop, loss_by}
-use Rattle.usb_world.proofs.ways.RoutesKept.{till_end, left_is, here, kept_at}
+
+-- An attempt that goes straight to one device: whose addresses stay.
+
+-- a device with another state of the same address, and ports below which the same devices are
+-- reached, without what is on one of them
+same_there : (port : ℕ) (b : PortState) (s sent_token : State) (a c : Ports)
+    → sent_token.registers.address ≡ s.registers.address
+    → ((w : Option (ArrayVec ℕ)) (n : ℕ) → reached w n (changed (put None) c (port ∷ []))
+    ≡ reached w n (changed (put None) a (port ∷ [])))
+    → ReachedSame (changed_in (put None) (full b sent_token c) (port ∷ []))
+    (changed_in (put None) (full b s a) (port ∷ []))
+unfolding reached
+same_there port b s sent_token a c e h = grind arith
+
+-- ---- one packet
+
+abbrev own_after : Option Sent → Bool → State → Ports → State
+own_after None deep_here s a = s
+own_after (Some sent_data) deep_here s a = (answer_of sent_data deep_here s a).1
+
+step_calm : (o : Option Sent) (deep_here : Bool) (b : PortState) (s : State) (a : Ports)
+    → asked_of o deep_here s ≡ Leaves → step_in o deep_here (full b s a)
+    ≡ full b (own_after o deep_here s a) a
+step_calm o deep_here b s a h = grind arith
+
+step_in-full : (o : Option Sent) (deep_here : Bool) (b : PortState) (s : State) (a : Ports)
+    → step_in o deep_here (full b s a)
+    ≡ full b (own_after o deep_here s a) (acted (asked_of o deep_here s) a)
+step_in-full o deep_here b s a = grind arith
+
+quiet_keeps_others : (port : ℕ) (o : Option Sent) (k : Ports) (j : ℕ) (p : List ℕ) (b : PortState)
+    (s : State) (a : Ports) → IsQuiet port o k (suc j ∷ p) → place_at k j p ≡ Some (full b s a)
+    → keeps_others port (asked_of o (deep_at false p) s) ≡ true
+quiet_keeps_others port None k j p b s a h e = refl
+quiet_keeps_others port (Some sent_data) k j p b s a h e =
+    grind (arith, plugged_place k j p)
+
+-- ---- an attempt
+
+module _ (a : Attempt) (d : Option Damage) (k : Ports) (j : ℕ) (p : List ℕ)
+    (one : Alone (token_out a d) k (record { row = j; rest = p })) where
+  abbrev deep_here : Bool
+  deep_here = deep_at false p
+
+  abbrev pub sent_token : Option Sent
+  sent_token = token_out a d
+
+  abbrev pub sent_data : Option Sent
+  sent_data = payload_out a d
+
+  abbrev sent_reply : Option Sent
+  sent_reply = reply_out a d k
+
+  abbrev pub x : Location
+  x = record { row = j; rest = p }
+
+  abbrev till_end : Place → Place
+  till_end x = step_in sent_reply deep_here
+      (step_in sent_data deep_here (step_in sent_token deep_here x))
+
+  pub here : IsFull (place_at k j p)
+  here = reach-full k j p one.on
+
+  left_is : ports_in a d k ≡ changed_at (λ y. forgotten_in (till_end y)) k j p
+  unfolding ports_in
+  left_is = all_is a.addr sent_token sent_data sent_reply (goes a d k) k x one
+
+  abbrev first : State
+  first = own_after sent_token deep_here here.own here.below
+
+  abbrev second : State
+  second = own_after sent_data deep_here first here.below
+
+  abbrev below_then : Ports
+  below_then = acted (asked_of sent_data deep_here first) here.below
+
+  abbrev third : State
+  third = own_after sent_reply deep_here second below_then
+
+  first_place : step_in sent_token deep_here (full here.port here.own here.below)
+      ≡ full here.port first here.below
+  first_place = step_calm sent_token deep_here here.port here.own here.below
+      (calm_asked sent_token (token_calm a.addr sent_token (goes a d k).token) deep_here here.own)
+
+  first_stands : place_at (after_sent sent_token k) j p ≡ Some (full here.port first here.below)
+  first_stands = sent_place (sent_to_one sent_token k x one)
+      ∙ ap (option_map (step_in sent_token deep_here)) here.at
+      ∙ ap (λ x. Some x) first_place
+
+  end_place : till_end (full here.port here.own here.below) ≡ full here.port third below_then
+  end_place = grind (arith, ack_calm, calm_asked, first_place, goes, step_calm, step_in-full)
+
+  end_stands : place_at (ended_in a d k) j p ≡ Some (full here.port third below_then)
+  end_stands = ap (λ y. place_at y j p)
+      (end_is a.addr sent_token sent_data sent_reply (goes a d k) k x one)
+      ∙ place_at-changed till_end k j p ∙ ap (option_map till_end) here.at
+      ∙ ap (λ x. Some x) end_place
+
+  module _ (at : option_map address_of (state_at k j p) ≡ Some a.addr) where
+    here_address : here.own.registers.address ≡ a.addr
+    here_address = same_Some _ a.addr
+        (sym (ap (option_map address_of) (full_state k j p here)) ∙ at)
+
+    module _ (port : ℕ) (quiet : IsQuiet port sent_data (after_sent sent_token k) (suc j ∷ p)) where
+      abbrev without : Place → Place
+      without x = changed_in (put None) x (port ∷ [])
+
+      below_same : (w : Option (ArrayVec ℕ)) (n : ℕ)
+          → reached w n (changed (put None) below_then (port ∷ []))
+          ≡ reached w n (changed (put None) here.below (port ∷ []))
+      below_same = grind (arith, asked_of, first_stands, quiet_keeps_others, reached-acted)
+
+      left_same : (x : Place) → x ≡ full here.port here.own here.below
+          → third.registers.address ≡ here.own.registers.address
+          → ReachedSame (without (forgotten_in (till_end x))) (without x)
+      left_same x is e = grind (arith, below_same, end_place, same_there)
+
+      addresses_stay : address_by (plugged_at (ended_in a d k) j p) ≡ Some a.addr
+          → all_reached (without_port port (ports_in a d k) (suc j ∷ p))
+          ≡ all_reached (without_port port k (suc j ∷ p))
+      addresses_stay e =
+          let address : third.registers.address ≡ a.addr =
+          same_Some _ a.addr (sym (ap (λ x. address_by (plugged_on x)) end_stands)
+          ∙ ap address_by (plugged_place (ended_in a d k) j p) ∙ e) in
+          ap all_reached
+          (changed_at-port (put None) (ports_in a d k) j p port
+          ∙ ap (λ y. changed_at without y j p) left_is
+          ∙ changed_at-twice without (λ x. forgotten_in (till_end x)) k j p)
+          ∙ reached-both (λ x. without (forgotten_in (till_end x))) without _ 1 k j p
+          (λ x at. left_same x (same_Some x _ (sym at ∙ here.at))
+          (address ∙ sym here_address))
+          ∙ sym (ap all_reached (changed_at-port (put None) k j p port))
+
+-- where what was asked of ports keeps who is reached, and the device has the address still
+held_still : (port : ℕ) (a : Attempt) (d : Option Damage) (k : Ports) (p : List ℕ)
+    → IsQuiet port (payload_out a d) (after_sent (token_out a d) k) p
+    → address_by (device_there (ended_in a d k) p) ≡ Some a.addr
+    → KeptAt a.addr port k (ports_in a d k) p
+held_still port a d k (suc j ∷ p) sent_data e =
+    λ settled o. addresses_stay a d k j p (alone_token a d k (suc j ∷ p) settled o) o.at port
+    sent_data e
+held_still port a d k p sent_data e = false_true (ap is_some e)
+
+-- the same, of what the code tells: the address that is left there is the attempt's
+pub kept_at : (port : ℕ) (a : Attempt) (d : Option Damage) (k m n : Ports) (p : List ℕ)
+    (left : Option ℕ) → option_eq nat_eq left (Some a.addr) ≡ true
+    → IsQuiet port (payload_out a d) (after_sent (token_out a d) k) p → m ≡ ended_in a d k
+    → n ≡ all_forgotten m → (IsSome left → left ≡ address_by (device_there m p))
+    → KeptAt a.addr port k n p
+unfolding ports_in
+kept_at port a d k m n p left same asks e over at = grind (arith, equal_same, held_still)
+
+-- the index of the tree then
+pub index_kept : (n : ℕ) (h : Holders) (k m : Ports) (p : List ℕ) → IsSettled k → IsWayTo n k p
+    → KeptAt n 0 k m p → IsIndexOf h k → IsIndexOf h m
+index_kept n h k m (suc j ∷ p) s w kept is =
+    same_index h k m
+    (ap all_reached (sym (changed_at-zero (put None) m j p)) ∙ kept s w
+    ∙ ap all_reached (changed_at-zero (put None) k j p)) is
+index_kept n h k m p s w kept is = absurd kept
+
+-- the index without what is on a port of the device
+pub index_port : (n port : ℕ) (h : Holders) (k m : Ports) (p l : List ℕ) → l ≡ p ++ port ∷ []
+    → IsSettled k → IsWayTo n k p → KeptAt n port k m p → IsIndexWithout h k l
+    → IsIndexWithout h m l
+index_port n port h k m (suc j ∷ p) l e s w kept is =
+    subst (λ x. IsIndexWithout h m x) (sym e)
+    (same_index h _ _ (kept s w)
+    (subst (λ x. IsIndexWithout h k x) e is))
+index_port n port h k m p l e s w kept is = absurd kept
+
+-- an attempt changes nothing but the device at its way, with what is below
+pub index_beside : (a : Attempt) (d : Option Damage) (h : Holders) (k m : Ports) (p : List ℕ)
+    → is_whole_tree p ≡ false → IsSettled k → IsWayTo a.addr k p → m ≡ ports_in a d k
+    → IsIndexWithout h k p → IsIndexWithout h m p
+index_beside a d h k m [] f s w e is = false_true (sym f)
+index_beside a d h k m (zero ∷ p) f s w e is = absurd w
+index_beside a d h k m (suc j ∷ p) f s w e is =
+    index_around h _ k m (suc j ∷ p) (e ∙ left_is a d k j p (alone_token a d k (suc j ∷ p) s w)) is
+
+-- An attempt of which nothing is damaged, at the one device that it is for and on one way down the
+-- tree, is the attempt in the whole tree.
 
 -- ---- one packet at the device
 
-abbrev place_plugged : PortState → Plugged → Place
+abbrev pub place_plugged : PortState → Plugged → Place
 place_plugged b t = full b t.own t.ports
 
 step_in-plugged : (o : Option Sent) (deep : Bool) (b : PortState) (t : Plugged)
@@ -138,7 +328,7 @@ module _ (a : Attempt) (k : Ports) (j : ℕ) (p : List ℕ)
   abbrev deep_there : Bool
   deep_there = deep_at false p
 
-  abbrev t : Option Sent
+  abbrev pub t : Option Sent
   t = token_out a None
 
   abbrev q : Option Sent
@@ -153,22 +343,22 @@ module _ (a : Attempt) (k : Ports) (j : ℕ) (p : List ℕ)
   abbrev spot : Location
   spot = record { row = j; rest = p }
 
-  pub two : Alone q (after_sent t k) spot
+  two : Alone q (after_sent t k) spot
   two = second_alone a.addr t q r (goes a None k) k spot one
 
-  pub three : Alone r (answered_in a None k) spot
+  three : Alone r (answered_in a None k) spot
   three = third_alone a.addr t q r (goes a None k) k spot one
 
-  pub four : Alone None (ended_in a None k) spot
+  four : Alone None (ended_in a None k) spot
   four = last_alone a.addr t q r (goes a None k) k spot one
 
-  abbrev b : PortState
+  abbrev pub b : PortState
   b = (here a None k j p one).port
 
   abbrev device : Plugged
   device = record { own = (here a None k j p one).own; ports = (here a None k j p one).below }
 
-  abbrev n : ℕ
+  abbrev pub n : ℕ
   n = place_of_answer a None + 1
 
   abbrev w : Bool
@@ -177,7 +367,7 @@ module _ (a : Attempt) (k : Ports) (j : ℕ) (p : List ℕ)
   stands : place_at k j p ≡ Some (place_plugged b device)
   stands = (here a None k j p one).at
 
-  pub there : plugged_at k j p ≡ Some device
+  there : plugged_at k j p ≡ Some device
   there = plugged_there t k j p b device one stands
 
   first_at : place_at (after_sent t k) j p
@@ -194,7 +384,7 @@ module _ (a : Attempt) (k : Ports) (j : ℕ) (p : List ℕ)
       there_then q (after_sent t k) j p b _ two
       first_at
 
-  pub heard_is : heard_in a None k ≡ heard_above (heard_of_both y q deep_there device)
+  heard_is : heard_in a None k ≡ heard_above (heard_of_both y q deep_there device)
   unfolding heard_of_both
   heard_is =
       sym (heard_all_of (answers_to t k ++ answers_to q (after_sent t k)))
@@ -206,10 +396,10 @@ module _ (a : Attempt) (k : Ports) (j : ℕ) (p : List ℕ)
       (heard_of-alone q (after_sent t k) j p b (after_token y deep_there device)
       two first_at))
 
-  pub mark_is : mark_in a None k ≡ Whole
+  mark_is : mark_in a None k ≡ Whole
   mark_is = sound_answer _ _
 
-  pub reply_is : reply_in a None k ≡ marked_some None n a.pre (ack_if w)
+  reply_is : reply_in a None k ≡ marked_some None n a.pre (ack_if w)
   reply_is = grind (arith, heard_is, mark_is, reply_taken)
 
   reply_out_is : r ≡ walk_ack y w
@@ -219,27 +409,23 @@ module _ (a : Attempt) (k : Ports) (j : ℕ) (p : List ℕ)
       after_packet_at r deep_there (after_data y q deep_there device) ≡ after_reply y q deep_there
       device
   unfolding after_reply
-  replied =
-      ap (λ o. after_packet_at o deep_there (after_data y q deep_there device)) reply_out_is
-      ∙ sent_to-ack y deep_there _ w
+  replied = grind (arith, reply_out_is, sent_to-ack)
 
   end_at : place_at (ended_in a None k) j p
       ≡ Some (place_plugged b (after_reply y q deep_there device))
-  end_at =
-      there_then r (answered_in a None k) j p b _ three second_at
-      ∙ ap (λ x. Some (place_plugged b x)) replied
+  end_at = grind (arith, replied, second_at, there_then, three)
 
-  pub end_there : plugged_at (ended_in a None k) j p ≡ Some (after_reply y q deep_there device)
+  end_there : plugged_at (ended_in a None k) j p ≡ Some (after_reply y q deep_there device)
   end_there =
       plugged_there None (ended_in a None k) j p b _ four end_at
 
-  pub cleared_is : cleared_in a None k ≡ asks_clearing (side_of y q deep_there device).effect
+  cleared_is : cleared_in a None k ≡ asks_clearing (side_of y q deep_there device).effect
   unfolding side_of
   cleared_is =
       clears_one q (after_sent t k) j p b _ two
       first_at
 
-  pub lost_is : lost_in a None k ≡ (side_of y q deep_there device).address_lost
+  lost_is : lost_in a None k ≡ (side_of y q deep_there device).address_lost
   unfolding lost_in side_of
   lost_is =
       ap (λ o. is_lost o (goes_out a o) (answered_in a None k)) reply_is
@@ -249,7 +435,7 @@ module _ (a : Attempt) (k : Ports) (j : ℕ) (p : List ℕ)
       (others_loss (ended_in a None k) j p four.on four.forgot
       ∙ ap loss_by end_there)
 
-  pub quiet_is : (port : ℕ) → keeps_others port (side_of y q deep_there device).effect ≡ true
+  quiet_is : (port : ℕ) → keeps_others port (side_of y q deep_there device).effect ≡ true
       → IsQuiet port q (after_sent t k) (suc j ∷ p)
   unfolding side_of
   quiet_is port h =
@@ -258,21 +444,15 @@ module _ (a : Attempt) (k : Ports) (j : ℕ) (p : List ℕ)
   till_end_is :
       till_end a None k j p one (place_plugged b device)
       ≡ place_plugged b (after_reply y q deep_there device)
-  till_end_is =
-      ap (λ x. step_in r deep_there (step_in q deep_there x))
-      (step_in-plugged t deep_there b device
-      ∙ ap (λ o. place_plugged b (after_packet_at o deep_there device)) (token_out-undamaged a))
-      ∙ ap (step_in r deep_there) (step_in-plugged q deep_there b _)
-      ∙ step_in-plugged r deep_there b _
-      ∙ ap (place_plugged b) replied
+  till_end_is = grind (arith, replied, step_in, step_in-plugged, token_out-undamaged)
 
-  pub walk_is : changed_at (left_in y q deep_there) k j p ≡ ports_in a None k
+  walk_is : changed_at (left_in y q deep_there) k j p ≡ ports_in a None k
   walk_is =
       changed_at-there (left_in y q deep_there) (λ x. forgotten_in (till_end a None k j p one x)) k
       j p _ stands (ap forgotten_in (sym till_end_is))
       ∙ sym (left_is a None k j p one)
 
-  pub cut_is : changed_at (cut_in y deep_there) k j p ≡ all_forgotten (after_sent t k)
+  cut_is : changed_at (cut_in y deep_there) k j p ≡ all_forgotten (after_sent t k)
   cut_is =
       let after : _ = alone_sent t k (suc j ∷ p) one in
       changed_at-there (cut_in y deep_there) (λ x. forgotten_in (step_in t deep_there x)) k j p
@@ -284,7 +464,7 @@ module _ (a : Attempt) (k : Ports) (j : ℕ) (p : List ℕ)
       ∙ ap (λ x. changed_at forgotten_in x j p) (sent_to_one t k spot one).ports
       ∙ changed_at-twice forgotten_in (step_in t deep_there) k j p)
 
-  pub stopped_is : RefusedFrom q deep_there (after_token y deep_there device)
+  stopped_is : RefusedFrom q deep_there (after_token y deep_there device)
       → IsStopped q (after_sent t k) (after_sent t k)
   stopped_is h =
       stopped_one q (after_sent t k) j p b _ two
@@ -324,14 +504,14 @@ module _ (a : Attempt) (k m : Ports) (j : ℕ) (p : List ℕ) (x : Exchange) (g 
   abbrev device_then : Plugged
   device_then = record { own = (here a None k j p one).own; ports = (here a None k j p one).below }
 
-  abbrev host : HostSide
+  abbrev pub host : HostSide
   host = host_side a
 
   abbrev data_sent : Option Sent
   data_sent = payload_out a None
 
   data_then : walked.data_out ≡ data_sent
-  data_then = walked.data_is ∙ ap (goes_out a) walked.payload
+  data_then = grind arith
 
   side_is : side ≡ side_of host data_sent (deep_at false p) device_then
   side_is = grind (arith, data_then, there)
@@ -347,7 +527,7 @@ module _ (a : Attempt) (k m : Ports) (j : ℕ) (p : List ℕ) (x : Exchange) (g 
   unfolding side_of
   address_is = ap (λ s. s.address) side_is ∙ ap address_by (sym (end_there a k j p one))
 
-  pub ports_there : m ≡ ports_in a None k
+  ports_there : m ≡ ports_in a None k
   ports_there = grind (arith, data_then, walk_is)
 
   answer_is : x.answer ≡ heard_in a None k
@@ -356,11 +536,11 @@ module _ (a : Attempt) (k m : Ports) (j : ℕ) (p : List ℕ) (x : Exchange) (g 
   reply_then : x.reply ≡ reply_in a None k
   reply_then = grind (arith, acknowledged_is, reply_is)
 
-  pub exchange_there : x ≡ exchange_in a None k
+  exchange_there : x ≡ exchange_in a None k
   unfolding exchange_in
   exchange_there = grind (arith, answer_is, cleared_is, lost_is, mark_is, reply_then, side_is)
 
-  pub kept_there : (port : ℕ) → keeps_others port side.effect ≡ true
+  kept_there : (port : ℕ) → keeps_others port side.effect ≡ true
       → option_eq nat_eq side.address (Some a.addr) ≡ true → KeptAt a.addr port k m (suc j ∷ p)
   kept_there port quiet same =
       kept_at port a None k (ended_in a None k) m (suc j ∷ p) side.address same
@@ -403,10 +583,10 @@ pub record CutShort (a : Attempt) (k m : Ports) (p : List ℕ) (o : Option Outgo
 module _ (a : Attempt) (k m : Ports) (j : ℕ) (p : List ℕ) (o : Option Outgoing)
     (one : Alone (token_out a None) k (record { row = j; rest = p }))
     (walked : CutShort a k m (suc j ∷ p) o) where
-  pub cut_there : m ≡ all_forgotten (after_sent (token_out a None) k)
+  cut_there : m ≡ all_forgotten (after_sent (token_out a None) k)
   cut_there = grind (arith, cut_is)
 
-  pub stopped_there :
+  stopped_there :
       IsStopped (payload_out a None) (after_sent (token_out a None) k)
       (after_sent (token_out a None) k)
   stopped_there =
