@@ -1,32 +1,24 @@
 -- Eight bits go into the register at once, by a table.
-use Rattle.std.proofs.Common.{◌≡◌, ℕ, zero, suc, ◌+◌, ◌/◌, ◌%◌, ◌^◌, ◌<◌, List, [], ◌∷◌, ◌++◌}
-use Rattle.std.proofs.Common.{length, map, get_or, Bool, true, false, bit_xor, bit_and, refl, sym}
+use Rattle.std.proofs.Common.{rules, ◌≡◌, ℕ, zero, suc, ◌+◌, ◌/◌, ◌%◌, ◌^◌, ◌<◌, List, [], ◌∷◌}
+use Rattle.std.proofs.Common.{◌++◌, length, map, get_or, Bool, false, bit_xor, bit_and, refl, sym}
 use Rattle.std.proofs.Common.{◌∙◌, ap, ap₂, arith, append_assoc, append-nil, length-append}
 use Rattle.std.proofs.lemmas.Nat.{and_mask, xor_lt}
 use Rattle.usb_check.specs.{low_bits, plus, sum_of, zeros_along, times, generator16, step, run}
 use Rattle.usb_check.specs.{TABLE}
 use Rattle.usb_check.proofs.BitLemmas.{low_bits-xor, low_bits-add, low_bits-mod}
-use Rattle.usb_check.proofs.SumLemmas.{plus_comm, plus_assoc, plus_same, sum_of_comm, sum_of_assoc}
-use Rattle.usb_check.proofs.SumLemmas.{sum_of_twice, sum_of-append, sum_of-zeros, zeros-sum}
-use Rattle.usb_check.proofs.SumLemmas.{zeros_twice, length-zeros, length-sum_of}
+use Rattle.usb_check.proofs.SumLemmas.{plus_same, sum_of_comm, sum_of_assoc, sum_of_twice}
+use Rattle.usb_check.proofs.SumLemmas.{sum_of-append, sum_of-zeros, zeros-sum, zeros_twice}
+use Rattle.usb_check.proofs.SumLemmas.{length-zeros, length-sum_of}
 use Rattle.usb_check.proofs.Division.{length-step}
 
 -- ---- the register is linear
 
 exchange_plus : (x y a b : Bool) → plus (plus x y) (plus a b) ≡ plus (plus x a) (plus y b)
-exchange_plus x y a b =
-    plus_assoc x y (plus a b)
-    ∙ ap (plus x) (sym (plus_assoc y a b) ∙ ap (λ (z : Bool). plus z b) (plus_comm y a)
-    ∙ plus_assoc a y b)
-    ∙ sym (plus_assoc x a (plus y b))
+exchange_plus x y a b = grind arith
 
 exchange_sums : (x y a b : List Bool) → sum_of (sum_of x y) (sum_of a b)
     ≡ sum_of (sum_of x a) (sum_of y b)
-exchange_sums x y a b =
-    sum_of_assoc x y (sum_of a b)
-    ∙ ap (sum_of x) (sym (sum_of_assoc y a b) ∙ ap (λ (z : List Bool). sum_of z b) (sum_of_comm y a)
-    ∙ sum_of_assoc a y b)
-    ∙ sym (sum_of_assoc x a (sum_of y b))
+exchange_sums x y a b = grind (arith, sum_of_assoc, sum_of_comm)
 
 sum_of_same : (xs : List Bool) → sum_of xs xs ≡ zeros_along xs
 sum_of_same [] = refl
@@ -34,22 +26,12 @@ sum_of_same (x ∷ xs) = ap₂ (λ (b : Bool) (l : List Bool). b ∷ l) (plus_sa
 
 times-plus : (c d : Bool) (low : List Bool)
     → times (plus c d) low ≡ sum_of (times c low) (times d low)
-times-plus false false low = sym (zeros_twice low)
-times-plus false true low = sym (zeros-sum low low refl)
-times-plus true false low = sym (sum_of-zeros low low refl)
-times-plus true true low = sym (sum_of_same low)
+times-plus c d low = grind (arith, sum_of-zeros, sum_of_same, zeros-sum, zeros_twice)
 
 step-sum : (low u v : List Bool) (a b : Bool) → length u ≡ length v
     → step low (sum_of u v) (plus a b) ≡ sum_of (step low u a) (step low v b)
 unfolding step
-step-sum low [] v a b e = refl
-step-sum low (x ∷ xs) [] a b e = cc
-step-sum low (x ∷ xs) (y ∷ ys) a b e =
-    ap₂ sum_of
-    (sym (sum_of-append xs (false ∷ []) ys (false ∷ []) (omega (arith, e))))
-    (ap (λ (c : Bool). times c low) (exchange_plus x y a b) ∙ times-plus (plus x a) (plus y b) low)
-    ∙ exchange_sums (xs ++ false ∷ []) (ys ++ false ∷ []) (times (plus x a) low)
-    (times (plus y b) low)
+step-sum low u v a b e = grind (arith, exchange_sums, sum_of-append, times-plus)
 
 run-sum : (low u v bits others : List Bool) → length u ≡ length low → length v ≡ length low
     → length bits ≡ length others
@@ -70,14 +52,11 @@ run_own low [] rest e = sym (append-nil rest)
 run_own low (b ∷ bits) rest e =
     let moved : List Bool = rest ++ false ∷ [] in
     let size : length ((bits ++ rest) ++ false ∷ []) ≡ length low =
-    length-append (bits ++ rest) (false ∷ [])
-    ∙ (let s : length (bits ++ rest) + 1 ≡ suc (length (bits ++ rest)) = omega arith in s)
-    ∙ e in
+    grind (arith, length-append) in
     let one : step low (b ∷ (bits ++ rest)) b ≡ bits ++ moved =
-    ap (λ (c : Bool). sum_of ((bits ++ rest) ++ false ∷ []) (times c low)) (plus_same b)
-    ∙ sum_of-zeros ((bits ++ rest) ++ false ∷ []) low size ∙ append_assoc bits rest (false ∷ []) in
+    grind (arith, append_assoc, sum_of-zeros) in
     ap (λ (l : List Bool). run low l bits) one
-    ∙ run_own low bits moved (ap length (sym (append_assoc bits rest (false ∷ []))) ∙ size)
+    ∙ run_own low bits moved (grind (arith, append_assoc))
     ∙ append_assoc rest (false ∷ []) (zeros_along bits)
 
 -- the rest of the register moves up, and what its first part and the bits make of a register is
@@ -90,16 +69,11 @@ run_parts low first rest bits same size =
     let mixed : List Bool = sum_of first bits in
     let mixed_size : length bits ≡ length mixed = sym (length-sum_of first bits same) in
     let front : first ++ rest ≡ sum_of (bits ++ rest) (mixed ++ zeros_along rest) =
-    sym (sum_of-append bits rest mixed (zeros_along rest) mixed_size
-    ∙ ap₂ (λ (a b : List Bool). a ++ b) (sum_of_twice bits first (sym same))
-    (sum_of-zeros rest rest refl)) in
+    grind (arith, sum_of-append, sum_of-zeros, sum_of_twice) in
     let size_own : length (bits ++ rest) ≡ length low =
-    length-append bits rest ∙ ap (λ (m : ℕ). m + length rest) (sym same)
-    ∙ sym (length-append first rest) ∙ size in
+    grind (arith, length-append) in
     let size_mixed : length (mixed ++ zeros_along rest) ≡ length low =
-    length-append mixed (zeros_along rest)
-    ∙ ap₂ (λ (m n : ℕ). m + n) (sym mixed_size) (length-zeros rest)
-    ∙ sym (length-append bits rest) ∙ size_own in
+    grind (arith, length-append, length-zeros) in
     ap₂ (run low) front (sym (sum_of-zeros bits bits refl))
     ∙ run-sum low (bits ++ rest) (mixed ++ zeros_along rest) bits (zeros_along bits) size_own
     size_mixed (sym (length-zeros bits))
@@ -126,8 +100,7 @@ unfolding table_entries
 table_entry words zero n i e h = absurd (omega (arith, h))
 table_entry [] (suc count) n i e h = cc
 table_entry (w ∷ words) (suc count) n zero e h =
-    let head : low_bits 16 w ≡ entry n = cc in
-    head ∙ ap entry (let s : n ≡ n + 0 = omega arith in s)
+    grind arith
 table_entry (w ∷ words) (suc count) n (suc i) e h =
     let tail : map (low_bits 16) words ≡ table_entries count (suc n) = cc in
     table_entry words count (suc n) i tail (omega (arith, h))
@@ -147,7 +120,7 @@ table_byte r b hr hb =
     low_bits-xor 8 (bit_and r 255) b ∙ ap (λ (l : List Bool). sum_of l (low_bits 8 b))
     (ap (low_bits 8) masked ∙ low_bits-mod 8 0 r) in
     let high : low_bits 16 (r / 256) ≡ low_bits 8 (r / 256) ++ zeros_along (low_bits 8 0) =
-    low_bits-add 8 8 (r / 256) ∙ ap (λ (m : ℕ). low_bits 8 (r / 256) ++ low_bits 8 m) above in
+    search rules in
     let zeros : List Bool = zeros_along (low_bits 8 0) in
     let looked : low_bits 16 (get_or TABLE index 0)
     ≡ run generator16 (sum_of (low_bits 8 r) (low_bits 8 b) ++ zeros) zeros =
