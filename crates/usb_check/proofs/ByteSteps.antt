@@ -115,7 +115,6 @@ table_byte r b hr hb =
     let index : ℕ = bit_xor (bit_and r 255) b in
     let masked : bit_and r 255 ≡ r % 256 = and_mask r 8 in
     let below : index < 256 = xor_lt 8 (bit_and r 255) b (omega (arith, masked)) hb in
-    let above : r / 256 / 256 ≡ 0 = omega (arith, hr) in
     let mixed : low_bits 8 index ≡ sum_of (low_bits 8 r) (low_bits 8 b) =
     low_bits-xor 8 (bit_and r 255) b ∙ ap (λ (l : List Bool). sum_of l (low_bits 8 b))
     (ap (low_bits 8) masked ∙ low_bits-mod 8 0 r) in
