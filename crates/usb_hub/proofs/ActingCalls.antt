@@ -1,7 +1,7 @@
 -- What the calls at a port ask of ports, and that they act there.
-use Rattle.std.proofs.Common.{◌≡◌, ℕ, zero, suc, ◌&&◌, ◌⊎◌, inl, inr, not, Bool, true, false, List}
-use Rattle.std.proofs.Common.{[], ◌∷◌, ◌++◌, Option, None, Some, option_map, if◌then◌else◌, refl}
-use Rattle.std.proofs.Common.{ap, sym, subst, ◌∙◌}
+use Rattle.std.proofs.Common.{if◌then◌else◌, arith, ◌≡◌, ℕ, zero, suc, ◌&&◌, ◌⊎◌, inl, inr, Bool}
+use Rattle.std.proofs.Common.{true, false, List, [], ◌∷◌, ◌++◌, Option, None, Some, option_map}
+use Rattle.std.proofs.Common.{refl, ap, sym, subst, ◌∙◌}
 use Rattle.std.proofs.lemmas.Option.{same_Some}
 use Rattle.usb_port.specs.{is_attached, PortCall, is_reset, called_port, set_call}
 use Rattle.usb_request.specs.{SET_ADDRESS, SET_FEATURE, DEVICE_OUT, PORT_OUT, setup_of, bytes_of}
@@ -14,13 +14,13 @@ use Rattle.usb_world.specs.{Attempt, is_harmless, resets, step_keeps_pending, Is
 use Rattle.usb_world.specs.{HolderIn, setup_asked, token_way, payload_way, AsksNothing}
 use Rattle.usb_world.specs.{is_port_request, is_sparing, leaves_step, attempt, root_call, after}
 use Rattle.usb_world.specs.{at_attempt, damage_in, World}
-use Rattle.usb_tree.specs.{is_way, same_number, NobodyHolds, deep_at, keeps_pending}
+use Rattle.usb_tree.specs.{is_way, NobodyHolds, deep_at, keeps_pending}
 use Rattle.usb_world.proofs.Interface.{holder_or_nobody, nobody_in, others_asked_nothing}
 use Rattle.usb_world.proofs.Interface.{self_asked, setup_place_in, silent_place_in}
-use Rattle.usb_tree.proofs.Interface.{and_false, decided, false_true, or_right}
+use Rattle.usb_tree.proofs.Interface.{decided}
 use Rattle.usb_transaction.specs.{Target, setup_attempt}
-use Rattle.usb_address.proofs.Interface.{ClaimedAt, place_ports, claimed_holder, less_one}
-use Rattle.usb_address.proofs.Interface.{port_named-cases, nobody_asks_nothing, unshared_after}
+use Rattle.usb_address.proofs.Interface.{ClaimedAt, place_ports, claimed_holder}
+use Rattle.usb_address.proofs.Interface.{nobody_asks_nothing, unshared_after}
 use Rattle.usb_hub.specs.{ActsAt}
 
 -- Trees
@@ -56,29 +56,12 @@ place_called c _ _ = refl
 root_others : (c : PortCall) (n : ℕ) (w : World) (x : List ℕ) → is_way (n ∷ []) x ≡ false
     → AsksNothing (root_call c n) w x
 unfolding is_way step_keeps_pending resets leaves_step
-root_others c (suc i) w (suc m ∷ []) d = split (same_number i m) refl d
-  where
-    split : (b : Bool) → same_number i m ≡ b → (b && true) ≡ false
-        → AsksNothing (root_call c (suc i)) w (suc m ∷ [])
-    split true e d = false_true (sym d)
-    split false e d = record {
-      spares = rw e refl;
-      rests = rw e (and_false (is_reset c));
-      leaves = rw e refl;
-    }
-root_others c (suc i) w (suc m ∷ n ∷ x) d = split (same_number i m) refl d
-  where
-    split : (b : Bool) → same_number i m ≡ b → (b && true) ≡ false
-        → AsksNothing (root_call c (suc i)) w (suc m ∷ n ∷ x)
-    split true e d = false_true (sym d)
-    split false e d = record { spares = rw e refl; rests = refl; leaves = rw e refl }
-root_others c _ w _ d = record { spares = refl; rests = refl; leaves = refl }
+root_others c n w x d = grind arith
 
 root_spared : (c : PortCall) (n : ℕ) (w : World) → keeps_pending c [] ≡ true
     → step_keeps_pending (root_call c n) w (n ∷ []) ≡ true
 unfolding step_keeps_pending
-root_spared c zero w h = refl
-root_spared c (suc i) w h = or_right (not (same_number i i)) (keeps_pending c []) h
+root_spared c n w h = grind arith
 
 pub root_acted : (c : PortCall) (n : ℕ) (w : World) → place (after (root_call c n) w).roots (n ∷ [])
     ≡ option_map (called c) (place w.roots (n ∷ []))
@@ -89,7 +72,7 @@ root_acted c (suc i) w = place_called c w.roots i
 pub root_acts : (c : PortCall) (n : ℕ) (w : World) → ActsAt (n ∷ []) c (root_call c n) w
 root_acts c n w = record {
   port = inr (root_acted c n w);
-  about = record { others = root_others c n w; spares = root_spared c n w };
+  about = search (root_others, root_spared);
 }
 
 -- A request for a call at the port of a number
@@ -129,10 +112,10 @@ module _ (t : Target) (j : Location) (i : ℕ) (request : Setup) (c : PortCall)
 
   is : IsSetup a (bytes_of request)
   unfolding bytes_of
-  is = record { kind = refl; ep = refl; payload = refl; whole = refl }
+  is = grind arith
 
   index : (setup_of (bytes_of request)).index ≡ suc i
-  index = ap (λ r. r.index) asked.same ∙ asked.names
+  index = grind arith
 
   module _ (w : World) (made : IsMade a w) where
     -- nobody heard it
@@ -140,8 +123,8 @@ module _ (t : Target) (j : Location) (i : ℕ) (request : Setup) (c : PortCall)
     nobody_acts x = record {
       port = inl (ap (λ k. place k p) (nobody_in a w made x).1);
       about = record {
-        others = λ y d. nobody_asks_nothing a w y x made.settled;
-        spares = λ s. (nobody_asks_nothing a w p x made.settled).spares;
+        others = search nobody_asks_nothing;
+        spares = grind (arith, nobody_asks_nothing);
       };
     }
 
@@ -154,26 +137,18 @@ module _ (t : Target) (j : Location) (i : ℕ) (request : Setup) (c : PortCall)
       port = path_to holder.spot ++ (suc i ∷ [])
 
       stood : place (at_attempt w).roots port ≡ place_at below i []
-      stood = place_below (at_attempt w).roots holder.spot.row holder.spot.rest i []
-          ∙ ap (λ o. place_at (place_ports o) i []) holder.stands
+      stood = grind (arith, place_below)
 
       silent_port : s.spec.silent ≡ true → place (after (attempt a) w).roots port
           ≡ place (at_attempt w).roots port
-      silent_port h = place_below (after (attempt a) w).roots holder.spot.row holder.spot.rest i []
-          ∙ ap (λ o. place_at (place_ports o) i []) (silent_place_in a w holder h) ∙ sym stood
+      silent_port h = grind (arith, place_below, silent_place_in)
 
       abbrev Called : Ports → Type 0
       Called left = (place_at left i [] ≡ place_at below i [])
           ⊎ (place_at left i [] ≡ option_map (called c) (place_at below i []))
 
       request_there : Called (acted (asked_by_setup s (setup_of (bytes_of request))) below)
-      request_there =
-          subst (λ o. Called (acted (effect_of_request o) below))
-          (sym (ap (outcome s.spec s.registers) asked.same ∙ asked.calls s.spec s.registers))
-          (effect_there c i below (port_named s.spec.hub s.registers (suc i))
-          (subst (λ m. (port_named s.spec.hub s.registers (suc i) ≡ None)
-          ⊎ (port_named s.spec.hub s.registers (suc i) ≡ Some m)) (less_one i)
-          (port_named-cases s.spec.hub s.registers (suc i))))
+      request_there = grind (arith, effect_there)
 
       asked_there : Called (acted (setup_asked a (damage_in (at_attempt w))
           (deep_at false holder.spot.rest) s (bytes_of request)) below)
@@ -213,9 +188,8 @@ module _ (t : Target) (j : Location) (i : ℕ) (request : Setup) (c : PortCall)
         port = port_acted;
         about = record {
           others = λ x d. others_asked_nothing a w holder (bytes_of request) is (suc i) index
-              (ap is_port_request asked.same ∙ asked.asks) x d;
-          spares = λ h. self_asked a w holder (bytes_of request) is (suc i) index
-              (ap is_sparing asked.same ∙ asked.sparing h);
+              (grind arith) x d;
+          spares = grind (arith, is, self_asked);
         };
       }
 

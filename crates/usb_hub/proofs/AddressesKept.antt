@@ -1,40 +1,34 @@
 -- What the calls on devices and ports do to the addresses that devices hold.
-use Rattle.std.proofs.Common.{◌≡◌, ◌≢◌, ◌⊎◌, inl, inr, ◌∙◌, refl, sym, ap, subst, Bool, true, false}
-use Rattle.std.proofs.Common.{if◌then◌else◌, ℕ, List, None, Some, option_map, Result, Ok, Err, OnOk}
+use Rattle.std.proofs.Common.{arith, ◌≡◌, ◌≢◌, ◌⊎◌, refl, sym, subst, true, false, ℕ, List, None}
+use Rattle.std.proofs.Common.{Some, Result, Ok, Err, OnOk}
 use Rattle.std.specs.Global.{Vec}
 use Rattle.usb_request.specs.{PORT_ENABLE, PORT_RESET, PORT_POWER, SET_ADDRESS, DEVICE_OUT}
 use Rattle.usb_request.specs.{IsToHost, clear_hub_feature, Setup, get_port_status, set_port_feature}
 use Rattle.usb_request.specs.{clear_port_feature, set_address, set_configuration, set_interface}
-use Rattle.usb_port.specs.{seen, status_in, PortStatus, PortCall, SetPower, SetReset, clear_call}
-use Rattle.usb_port.specs.{is_reset, IsClearFeature}
-use Rattle.usb_port.proofs.Interface.{call_is, clear_no-reset}
+use Rattle.usb_port.specs.{status_in, PortStatus, PortCall, SetPower, SetReset, is_reset}
+use Rattle.usb_port.specs.{IsClearFeature}
+use Rattle.usb_port.proofs.Interface.{call_is}
 use Rattle.usb_device.specs.{Is, State, Location, path_to, reach_on, state_on}
-use Rattle.usb_world.specs.{World, root_port_at, SetsRoot, ClearsRoot, root_call, after}
-use Rattle.usb_world.specs.{after_reset, after_taking, is_harmless}
-use Rattle.usb_tree.specs.{address_of, is_way, same_path}
-use Rattle.usb_tree.proofs.Interface.{false_true}
+use Rattle.usb_world.specs.{World, SetsRoot, ClearsRoot, root_call, after, after_reset}
+use Rattle.usb_world.specs.{after_taking, is_harmless}
+use Rattle.usb_tree.specs.{address_of, is_way}
 use Rattle.usb_transaction.specs.{Target, Answerer}
 use Rattle.usb_pipe.specs.{PipeFault, Reads}
 use Rattle.usb_pipe.proofs.Interface.{host_harmless}
 use Rattle.usb_address.specs.{AddressMap, map_without, MapHolds, WhileBusWorks, KeepsAddresses}
-use Rattle.usb_address.proofs.Interface.{answerer_claims, either_alone, gives_address, keeps_none}
-use Rattle.usb_address.proofs.Interface.{not_way, read_keeps, reads_other, reset_till, root_keeps}
+use Rattle.usb_address.proofs.Interface.{answerer_claims, either_alone, gives_address, not_way}
+use Rattle.usb_address.proofs.Interface.{read_keeps, reads_other, reset_till, root_keeps}
 use Rattle.usb_address.proofs.Interface.{root_resets, root_shut, same_setup, is_way-same_path}
 use Rattle.usb_address.proofs.Interface.{write_keeps, write_till}
 use Rattle.usb_hub.specs.{HubPort, Root, External, StaysAs, EachElsewhere, KeepsDevices, IsBelow}
-use Rattle.usb_hub.specs.{EachNamedElsewhere}
-use Rattle.usb_hub.specs.{IsClaimed, Resets, GivesAddress, KeepsAnswered, KeepsAsked, KeepsSet}
-use Rattle.usb_hub.specs.{KeepsCleared, PortRead, EndsAfter, ReadAs, Commanded}
-use Rattle.usb_hub.proofs.Devices.{not_reset, keeps_devices_none, port_status_keeps}
-use Rattle.usb_hub.proofs.Devices.{clear_feature_keeps, set_stays, reset_stays, root_stays}
-use Rattle.usb_hub.proofs.Devices.{root_elsewhere}
+use Rattle.usb_hub.specs.{EachNamedElsewhere, IsClaimed, Resets, GivesAddress, KeepsAnswered}
+use Rattle.usb_hub.specs.{KeepsAsked, KeepsSet, KeepsCleared, PortRead, EndsAfter, ReadAs}
+use Rattle.usb_hub.specs.{Commanded}
+use Rattle.usb_hub.proofs.Devices.{keeps_devices_none, port_status_keeps, clear_feature_keeps}
+use Rattle.usb_hub.proofs.Devices.{set_stays, reset_stays, root_stays, root_elsewhere}
 use Rattle.usb_hub.proofs.BaredPorts.{port_told_bares, done_bares}
 use Rattle.usb_hub.proofs.Calls.{hub_clears, root_clears}
 use Rattle.usb_hub.proofs.Moments.{hub_tells}
-
-told_same : (seen status : PortStatus) (result : Result PortStatus PipeFault) → result ≡ Ok seen
-    → result ≡ Ok status → seen ≡ status
-told_same seen status result a b = cc (a, b)
 
 -- Requests to a device
 
@@ -69,15 +63,13 @@ pub configured : (target : Target) (value : ℕ) (old : World) (result : Result 
     (new : World) → Commanded target (set_configuration value) old result new
     → KeepsAddresses old new
 unfolding set_configuration
-configured target value old result new = ordered_keeps target (set_configuration value) old result
-    new refl refl
+configured target value old result new h = grind (arith, ordered_keeps)
 
 pub interface_set : (target : Target) (interface setting : ℕ) (old : World)
     (result : Result (Unit {0}) PipeFault) (new : World)
     → Commanded target (set_interface interface setting) old result new → KeepsAddresses old new
 unfolding set_interface
-interface_set target interface setting old result new =
-    ordered_keeps target (set_interface interface setting) old result new refl refl
+interface_set target interface setting old result new h = grind (arith, ordered_keeps)
 
 pub address_given : (target : Target) (address : ℕ) (old : World)
     (result : Result (Unit {0}) PipeFault) (new : World)
@@ -87,9 +79,9 @@ unfolding set_address
 address_given target address old result new ordered = record {
   gives = λ f p at spare differ o.
       write_till (λ w. MapHolds f w ⊎ MapHolds (after_taking f p address) w)
-      (either_alone f (after_taking f p address)) old new 2 1 target (set_address address)
+      (search either_alone) old new 2 1 target (set_address address)
       o.single result ordered.ends ordered.stages
-      (λ sound. gives_address f target (set_address address) (same_setup (set_address address)) refl
+      (λ sound. gives_address f target (set_address address) (search same_setup) refl
       p at spare differ old result new ordered.stages (o.so sound));
 }
 
@@ -99,8 +91,7 @@ pub hub_feature_keeps : (hub : Target) (feature : ℕ) (old : World)
     (result : Result (Unit {0}) PipeFault) (new : World)
     → Commanded hub (clear_hub_feature feature) old result new → KeepsAddresses old new
 unfolding clear_hub_feature
-hub_feature_keeps hub feature old result new =
-    ordered_keeps hub (clear_hub_feature feature) old result new refl refl
+hub_feature_keeps hub feature old result new h = grind (arith, ordered_keeps)
 
 -- Requests to a port of a hub
 
@@ -108,16 +99,13 @@ pub cleared_keeps : (hub : Target) (feature port : ℕ) (old : World)
     (result : Result (Unit {0}) PipeFault) (new : World)
     → Commanded hub (clear_port_feature feature port) old result new → KeepsAddresses old new
 unfolding clear_port_feature
-cleared_keeps hub feature port old result new = ordered_keeps hub (clear_port_feature feature port)
-    old result new refl refl
+cleared_keeps hub feature port old result new h = grind (arith, ordered_keeps)
 
 pub set_keeps : (hub : Target) (feature port : ℕ) (old : World)
     (result : Result (Unit {0}) PipeFault) (new : World) → feature ≢ PORT_RESET
     → Commanded hub (set_port_feature feature port) old result new → KeepsAddresses old new
 unfolding set_port_feature
-set_keeps hub feature port old result new other =
-    ordered_keeps hub (set_port_feature feature port) old result new
-    (rw (not_reset feature other) refl) refl
+set_keeps hub feature port old result new other h = grind (arith, ordered_keeps)
 
 -- what is not at a path nor below it is not claimed at 0, where 0 is claimed there alone
 reset_elsewhere : (f : AddressMap) (p : List ℕ) (w : World)
@@ -125,18 +113,7 @@ reset_elsewhere : (f : AddressMap) (p : List ℕ) (w : World)
     ⊎ MapHolds (after_reset f p) w
     → (j : Location) (s : State) → is_way p (path_to j) ≡ false → reach_on w.roots j ≡ true
     → state_on w.roots j ≡ Some s → address_of s ≢ 0
-reset_elsewhere f p w only (inl o) j s apart on there zero_is =
-    false_true (sym apart ∙ only (path_to j) (sym (o.own (path_to j) on)
-    ∙ ap (option_map address_of) there ∙ ap Some zero_is))
-reset_elsewhere f p w only (inr o) j s apart on there zero_is =
-    false_true (sym apart ∙ only (path_to j) (sym (claim (same_path p (path_to j)) refl)
-    ∙ sym (o.own (path_to j) on) ∙ ap (option_map address_of) there ∙ ap Some zero_is))
-  where
-    claim : (b : Bool) → same_path p (path_to j) ≡ b
-        → (if b then Some 0 else if is_way p (path_to j) then None else f (path_to j))
-        ≡ f (path_to j)
-    claim true e = false_true (sym apart ∙ is_way-same_path p (path_to j) e)
-    claim false e = ap (λ b. if b then None else f (path_to j)) apart
+reset_elsewhere f p w only h j s apart on there = grind (arith, is_way-same_path)
 
 hub_resets : (hub : Target) (port : ℕ) (old : World) (result : Result (Unit {0}) PipeFault)
     (new : World) → Commanded hub (set_port_feature PORT_RESET port) old result new
@@ -151,13 +128,11 @@ hub_resets hub port old result new ordered =
         subst (λ p. WhileBusWorks (λ w. MapHolds f w ⊎ MapHolds (after_reset f p) w) new)
         (sym at.path)
         (reset_till hub 2 1 old new f at.hub port result at.held ordered.ends ordered.stages
-        (λ x e. subst (λ p. is_way p x ≡ true) at.path (only x e)) o)
+        (grind arith) o)
 
-    -- the hub is above its port
     named : (f : AddressMap) (p : List ℕ) → IsBelow f hub.addr port p
         → ((x : List ℕ) → f x ≡ Some 0 → is_way p x ≡ true) → hub.addr ≢ 0
-    named f p at only zero_is = false_true (sym (not_way at.hub port)
-        ∙ subst (λ y. is_way y at.hub ≡ true) at.path (only at.hub (at.held ∙ ap Some zero_is)))
+    named f p at only zero_is = grind (arith, not_way)
 
     kept : (f : AddressMap) (p : List ℕ) → IsBelow f hub.addr port p
         → ((x : List ℕ) → f x ≡ Some 0 → is_way p x ≡ true) → WhileBusWorks (MapHolds f) old
@@ -178,13 +153,11 @@ hub_resets hub port old result new ordered =
 -- each call that sets or clears is one of these
 root_set_is : (number feature : ℕ) (old new : World) → SetsRoot number feature old new
     → feature ≡ PORT_POWER → new ≡ after (root_call SetPower number) old
-root_set_is number feature old new sets e = (subst (λ n. SetsRoot number n old new) e sets).step
-    SetPower refl
+root_set_is number feature old new sets e = grind arith
 
 root_reset_is : (number feature : ℕ) (old new : World) → SetsRoot number feature old new
     → feature ≡ PORT_RESET → new ≡ after (root_call SetReset number) old
-root_reset_is number feature old new sets e = (subst (λ n. SetsRoot number n old new) e sets).step
-    SetReset refl
+root_reset_is number feature old new sets e = grind arith
 
 -- a call that resets none
 pub record CalledQuietly (number : ℕ) (old new : World) : Type 0 where
@@ -195,22 +168,18 @@ pub record CalledQuietly (number : ℕ) (old new : World) : Type 0 where
 power_is_quiet : (number feature : ℕ) (old new : World) → SetsRoot number feature old new
     → feature ≡ PORT_POWER → CalledQuietly number old new
 power_is_quiet number feature old new sets e =
-    record { call = SetPower; quiet = refl; is = root_set_is number feature old new sets e }
+    record { call = SetPower; quiet = refl; is = search root_set_is }
 
 clear_is_quiet : (number feature : ℕ) (old new : World) → IsClearFeature feature
     → ClearsRoot number feature old new → CalledQuietly number old new
-clear_is_quiet number feature old new named clears =
-    let (call, found) = call_is (clear_call feature) named in
-    record { call = call; quiet = clear_no-reset feature call found; is = clears.step call found }
+clear_is_quiet number feature old new named clears = grind (arith, call_is)
 
 keeps_quietly : (number : ℕ) (old new : World) → CalledQuietly number old new
     → KeepsAddresses old new
-keeps_quietly number old new x = subst (λ w. KeepsAddresses old w) (sym x.is)
-    (root_keeps x.call number old x.quiet)
+keeps_quietly number old new x = grind (arith, root_keeps)
 
 stays_quietly : (number : ℕ) (old new : World) → CalledQuietly number old new → KeepsDevices old new
-stays_quietly number old new x = subst (λ w. KeepsDevices old w) (sym x.is)
-    (root_stays x.call number old x.quiet)
+stays_quietly number old new x = grind (arith, root_stays)
 
 -- Any port
 
@@ -221,14 +190,12 @@ status_keeps port old result new number e read = rw e (root (rw e at read))
   where
     root : PortRead (Root number) old result new → KeepsAsked (Root number) old result new
     root r = record {
-      keeps = subst (λ w. KeepsAddresses old w) (sym r.same) (keeps_none old);
-      devices = subst (λ w. KeepsDevices old w) (sym r.same) (keeps_devices_none old);
+      keeps = grind arith;
+      devices = grind (arith, keeps_devices_none);
       bare = λ status told off. record {
         bares = λ f p at o. subst (λ w. WhileBusWorks (MapHolds (map_without f p)) w) (sym r.same)
             (subst (λ p. WhileBusWorks (MapHolds (map_without f p)) old) (sym at)
-            (root_shut f number old (ap (λ s. s.enabled)
-            (told_same (seen (root_port_at old number)) status result r.status told)
-            ∙ off) o));
+            (root_shut f number old (grind arith) o));
       };
     }
 
@@ -238,61 +205,48 @@ pub hub_status_keeps : (port : HubPort) (hub : Target) (number : ℕ) (old : Wor
     → KeepsAsked port old result new
 hub_status_keeps port hub number old result new e told keeps = rw e (record {
   keeps = keeps;
-  devices = port_status_keeps hub number old result new told;
+  devices = search port_status_keeps;
   bare = λ status is off.
       port_told_bares (External hub number) status old new keeps
-      (hub_tells (External hub number) hub number old (Ok status) new refl
-      (subst (λ r. ReadAs status_in hub (get_port_status number) old r new) is told)) off;
+      (hub_tells (External hub number) hub number old (Ok status) new refl (grind arith)) off;
 })
 
 pub root_set_keeps : (port : HubPort) (number feature : ℕ) (old new : World) → port ≡ Root number
     → SetsRoot number feature old new → KeepsSet port feature old new
 root_set_keeps port number feature old new e sets = rw e (record {
-  keeps = λ is. keeps_quietly number old new (power_is_quiet number feature old new sets is);
-  devices = λ is. stays_quietly number old new (power_is_quiet number feature old new sets is);
+  keeps = λ is. keeps_quietly number old new (grind (arith, power_is_quiet));
+  devices = λ is. stays_quietly number old new (grind (arith, power_is_quiet));
   resets = λ is. record {
     resets = λ f p at only o.
         subst (λ w. WhileBusWorks (λ w. MapHolds f w ⊎ MapHolds (after_reset f p) w) w)
-        (sym (root_reset_is number feature old new sets is))
+        (grind arith)
         (subst (λ p. WhileBusWorks (λ w. MapHolds f w ⊎ MapHolds (after_reset f p) w)
         (after (root_call SetReset number) old)) (sym at)
-        (root_resets number old f (λ x h. subst (λ p. is_way p x ≡ true) at (only x h)) o));
+        (root_resets number old f (grind arith) o));
     others = λ f p at only o none.
         subst (λ w. EachElsewhere p StaysAs old w)
-        (sym (root_reset_is number feature old new sets is))
-        (subst (λ p. EachElsewhere p StaysAs old (after (root_call SetReset number) old)) (sym at)
-        (root_elsewhere SetReset number old));
+        (sym (root_reset_is number feature old new sets is)) (grind (arith, root_elsewhere));
     named = λ f p at only o.
         subst (λ w. EachNamedElsewhere p StaysAs old w)
-        (sym (root_reset_is number feature old new sets is))
-        (subst (λ p. EachNamedElsewhere p StaysAs old (after (root_call SetReset number) old))
-        (sym at) (λ j s apart on there has. root_elsewhere SetReset number old j s apart on there));
+        (sym (root_reset_is number feature old new sets is)) (grind (arith, root_elsewhere));
   };
 })
 
 pub hub_set_keeps : (port : HubPort) (hub : Target) (number feature : ℕ) (old : World)
     (result : Result (Unit {0}) PipeFault) (new : World) → port ≡ External hub number
     → Commanded hub (set_port_feature feature number) old result new → KeepsSet port feature old new
-hub_set_keeps port hub number feature old result new e ordered = rw e (record {
-  keeps = λ is. set_keeps hub feature number old result new (λ four. absurd (cc (is, four)))
-      ordered;
-  devices = λ is. set_stays hub feature number old result new (λ four. absurd (cc (is, four)))
-      ordered;
-  resets = λ is. hub_resets hub number old result new
-      (subst (λ n. Commanded hub (set_port_feature n number) old result new) is ordered);
-})
+hub_set_keeps port hub number feature old result new e ordered =
+    grind (arith, hub_resets, set_keeps, set_stays)
 
 pub root_clear_keeps_port : (port : HubPort) (number feature : ℕ) (old new : World)
     → port ≡ Root number → IsClearFeature feature → ClearsRoot number feature old new
     → KeepsCleared port feature old (Ok tt) new
 root_clear_keeps_port port number feature old new e named clears = rw e (record {
-  keeps = keeps_quietly number old new (clear_is_quiet number feature old new named clears);
-  devices = stays_quietly number old new (clear_is_quiet number feature old new named clears);
+  keeps = keeps_quietly number old new (grind (arith, clear_is_quiet));
+  devices = stays_quietly number old new (grind (arith, clear_is_quiet));
   bare = λ is done.
       done_bares (Root number) old new (keeps_quietly number old new
-      (clear_is_quiet number feature old new named clears))
-      (root_clears (Root number) number PORT_ENABLE old new refl
-      (subst (λ n. ClearsRoot number n old new) is clears));
+      (grind (arith, clear_is_quiet))) (grind (arith, root_clears));
 })
 
 pub hub_clear_keeps : (port : HubPort) (hub : Target) (number feature : ℕ) (old : World)
@@ -300,12 +254,10 @@ pub hub_clear_keeps : (port : HubPort) (hub : Target) (number feature : ℕ) (ol
     → Commanded hub (clear_port_feature feature number) old result new
     → KeepsCleared port feature old result new
 hub_clear_keeps port hub number feature old result new e ordered = rw e (record {
-  keeps = cleared_keeps hub feature number old result new ordered;
-  devices = clear_feature_keeps hub feature number old result new ordered;
+  keeps = grind (arith, cleared_keeps);
+  devices = grind (arith, clear_feature_keeps);
   bare = λ is done.
-      done_bares (External hub number) old new
-      (cleared_keeps hub feature number old result new ordered)
+      done_bares (External hub number) old new (grind (arith, cleared_keeps))
       (hub_clears (External hub number) hub number PORT_ENABLE old (Ok tt) new refl refl
-      (subst (λ r. Commanded hub (clear_port_feature PORT_ENABLE number) old r new) done
-      (subst (λ n. Commanded hub (clear_port_feature n number) old result new) is ordered)));
+      (grind arith));
 })

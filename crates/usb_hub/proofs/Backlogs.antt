@@ -1,10 +1,9 @@
 -- What calls on devices and at ports add to what is left to do.
-use Rattle.std.proofs.Common.{◌≡◌, ℕ, suc, inl, inr, true, false, List, [], ◌∷◌, ◌++◌, Result, refl}
-use Rattle.std.proofs.Common.{ap, sym, subst, ◌∙◌, arith, ◌≤◌, ◌==◌}
-use Rattle.std.proofs.lemmas.Bool.Decides.{nat_tests}
+use Rattle.std.proofs.Common.{◌≡◌, ℕ, suc, inl, inr, false, List, [], ◌∷◌, ◌++◌, Result, sym, subst}
+use Rattle.std.proofs.Common.{arith}
 use Rattle.std.specs.Global.{Vec}
 use Rattle.usb_request.specs.{PORT_OUT, SET_FEATURE, bytes_of, IsToHost, Setup}
-use Rattle.usb_port.specs.{PortCall, set_call}
+use Rattle.usb_port.specs.{PortCall}
 use Rattle.usb_device.specs.{Is, Location, path_to, State}
 use Rattle.usb_world.specs.{Attempt, Outcome, HolderIn, IsMade, IsSetup, AtPorts, Course, Step}
 use Rattle.usb_world.specs.{after, attempt, World}
@@ -12,7 +11,7 @@ use Rattle.usb_tree.specs.{IsSettled}
 use Rattle.usb_world.proofs.Interface.{Allows, course_joined, course_then, holder_or_nobody}
 use Rattle.usb_world.proofs.Interface.{made_of, settled_wider}
 use Rattle.usb_tree.proofs.Interface.{decided}
-use Rattle.usb_backlog.specs.{CoversCall, Few, KeepsAll, KeepsBy, PortMark, is_marked}
+use Rattle.usb_backlog.specs.{CoversCall, Few, KeepsAll, KeepsBy, PortMark}
 use Rattle.usb_backlog.proofs.Interface.{Covers, KeepsStep, data_allows, holder_allows}
 use Rattle.usb_backlog.proofs.Interface.{keeps-attempt, keeps-chain, keeps-unheard}
 use Rattle.usb_backlog.proofs.Interface.{payload_sets_none, request_sets_none, sets_none}
@@ -29,14 +28,13 @@ use Rattle.usb_hub.proofs.RestingRequests.{behind_data_kind, no_set_up}
 is_set_up : (t : Target) (request : Setup)
     → IsSetup (setup_attempt t (bytes_of request)) (bytes_of request)
 unfolding bytes_of
-is_set_up t request = record { kind = refl; ep = refl; payload = refl; whole = refl }
+is_set_up t request = grind arith
 
 module _ (m v r : PortMark) (few : Few v r) where
   -- a step behind a SETUP
   pub behind_step : (t : Target) (s : Step) (w : World) → IsBehind t s w → IsSettled w.roots
       → KeepsStep m v r few s w
-  behind_step t (attempt a) w k h =
-      λ ports. keeps-attempt m v r few a w ports (data_allows m r a w (no_set_up k refl refl) h)
+  behind_step t (attempt a) w k h = search (data_allows, keeps-attempt, no_set_up)
   behind_step t _ w k h = elim k [ ]
 
   pub behind_keeps : (t : Target) {w x : World} → Course (IsBehind t) w x → IsSettled w.roots
@@ -49,9 +47,7 @@ module _ (m v r : PortMark) (few : Few v r) where
         → KeepsStep m v r few s w
     request_step s w (inl e) h =
         subst (λ s. KeepsStep m v r few s w) (sym e)
-        (λ ports. keeps-attempt m v r few (setup_attempt t (bytes_of request)) w ports
-        (payload_sets_none m r (setup_attempt t (bytes_of request)) w
-        (subst (Allows sets_none) (sym (same_setup request)) plain)))
+        (search (keeps-attempt, payload_sets_none, same_setup))
     request_step s w (inr k) h = behind_step t s w k h
 
     pub request_keeps : {w x : World} → Course (IsOfTransfer t request) w x → IsSettled w.roots
@@ -62,8 +58,7 @@ module _ (m v r : PortMark) (few : Few v r) where
   module _ (t : Target) (request : Setup) (plain : Allows sets_none request) where
     data_step : (s : Step) (w : World) → IsBehindData t s w → IsSettled w.roots
         → KeepsStep m v r few s w
-    data_step (attempt a) w k h = λ ports. keeps-attempt m v r few a w ports
-        (data_allows m r a w (behind_data_kind t a w k) h)
+    data_step (attempt a) w k h = search (behind_data_kind, data_allows, keeps-attempt)
     data_step _ w k h = elim k [ ]
 
     put_step : (s : Step) (w : World) → IsOfDataWrite t request s w → IsSettled w.roots
@@ -88,18 +83,17 @@ module _ (m v r : PortMark) (few : Few v r) where
         (elim (decided (Is request PORT_OUT SET_FEATURE)) [
           | inl h ↦
               holder_allows m r a w x (bytes_of request) (is_set_up t request)
-              (ap (λ q. Is q PORT_OUT SET_FEATURE) (same_setup request) ∙ h)
-              i (ap (λ q. q.index) (same_setup request) ∙ asked.names) c
-              (ap (λ q. set_call q.value) (same_setup request) ∙ asked.sets h)
+              (grind arith)
+              i (grind arith) c (grind arith)
               (covers x.spot same)
           | inr h ↦ payload_sets_none m r a w
-              (subst (Allows sets_none) (sym (same_setup request)) (request_sets_none request h))
+              (grind arith)
         ])
 
     call_step : (w : World) → IsMade a w → ClaimedAt q t.addr w → KeepsStep m v r few (attempt a) w
     call_step w made claimed =
         elim (holder_or_nobody a w made (unshared_after claimed.claims a w claimed.owned)) [
-          | inl x ↦ holder_keeps w x (claimed_holder q t.addr w claimed a refl x)
+          | inl x ↦ holder_keeps w x (search claimed_holder)
           | inr x ↦ λ ports. keeps-unheard m v r few a w ports made x
         ]
 
@@ -108,7 +102,7 @@ module _ (m v r : PortMark) (few : Few v r) where
           → P mid × Course (KeepsStep m v r few) old mid
       calls tr first = trail_with P follows.onward
           (λ w made x. let k : ClaimedAt q t.addr w = follows.claimed w x in
-          call_step w (made_of a w k.owned.settled made) k) tr first
+          call_step w (search made_of) k) tr first
 
       pub call_keeps : {old mid new : World} {outcomes : List Outcome}
           → AttemptLog a old outcomes mid → Course (IsBehind t) mid new → P old → AtPorts old.left
@@ -122,16 +116,13 @@ module _ (m v r : PortMark) (few : Few v r) where
           → IsMade a mid → P old → AtPorts old.left → KeepsBy m v r old (after (attempt a) mid)
       acted_keeps {old} {mid} tr there first ports =
           let x : P mid × Course (KeepsStep m v r few) old mid = calls tr first in
-          keeps-chain m v r few ports (course_then (attempt a) x.1
-          (call_step mid there (follows.claimed mid x.0)))
+          keeps-chain m v r few ports (grind (arith, call_step, course_then))
 
 -- A call that was done: up to the attempt that did it, and since
 
 pub rests_backlog : (t : Target) {w x : World} → Course (IsBehind t) w x → IsSettled w.roots
     → KeepsAll w x
-rests_backlog t c settled = record {
-  all = λ ports m v r few. keeps-chain m v r few ports (behind_keeps m v r few t c settled);
-}
+rests_backlog t c settled = search (behind_keeps, keeps-chain)
 
 -- up to the moment at which a request was accepted that sets no feature of a port
 pub asked_backlog : (t : Target) (request : Setup) → Is request PORT_OUT SET_FEATURE ≡ false
@@ -143,17 +134,13 @@ asked_backlog t request plain {old} {now} at settled =
       all = λ ports m v r few.
           keeps-chain m v r few ports
           (request_keeps m v r few t request (request_sets_none request plain)
-          (course_then {K = IsOfTransfer t request} (attempt (setup_attempt t (bytes_of request)))
-          (trail_course (λ w made. inl refl) at.trail) (inl refl)) settled);
+          (grind (arith, course_then, trail_course)) settled);
     })
 
 -- Whole transfers
 
 read_plain : (request : Setup) → IsToHost request → Is request PORT_OUT SET_FEATURE ≡ false
-read_plain request host = rw (other request.request_type PORT_OUT host (omega arith)) refl
-  where
-    other : (n m : ℕ) → 128 ≤ n → m ≤ 127 → (n == m) ≡ false
-    other n m far near = grind (arith, nat_tests, far, near)
+read_plain request host = grind arith
 
 pub reads_backlog : (t : Target) (request : Setup) (result : Result (Vec ℕ) PipeFault)
     (old new : World) → IsToHost request → IsSettled old.roots → Reads t request old result new
@@ -162,7 +149,7 @@ reads_backlog t request result old new host settled reads sound =
     record {
       all = λ ports m v r few. keeps-chain m v r few ports
           (request_keeps m v r few t request (request_sets_none request (read_plain request host))
-          ((read_attempts t request result old new reads).whole sound) settled);
+          (grind (arith, read_attempts)) settled);
     }
 
 pub write_backlog : (t : Target) (request : Setup) (result : Result (Unit {0}) PipeFault)
@@ -172,7 +159,7 @@ write_backlog t request result old new settled writes plain sound =
     record {
       all = λ ports m v r few. keeps-chain m v r few ports
           (request_keeps m v r few t request (request_sets_none request plain)
-          ((write_attempts t request result old new writes).whole sound) settled);
+          (grind (arith, write_attempts)) settled);
     }
 
 pub put_backlog : (t : Target) (request : Setup) (bytes : List ℕ)
@@ -183,14 +170,11 @@ put_backlog t request bytes result old new settled puts plain sound =
     record {
       all = λ ports m v r few. keeps-chain m v r few ports
           (put_course m v r few t request (request_sets_none request plain)
-          ((put_attempts t request bytes result old new puts).whole sound) settled);
+          (grind (arith, put_attempts)) settled);
     }
 
 -- the covers of a call at a port, for whoever stands there
 pub holder_covers : (m r : PortMark) (q : List ℕ) (i : ℕ) (c : PortCall)
     → CoversCall m r (q ++ (suc i ∷ [])) c → (x : Location) → path_to x ≡ q
     → Covers m r x.row x.rest i c
-holder_covers m r q i c covers x same = record {
-  power = λ g. subst (λ q. is_marked m (q ++ (suc i ∷ [])) ≡ true) (sym same) (covers.power g);
-  reset = λ g. subst (λ q. is_marked r (q ++ (suc i ∷ [])) ≡ true) (sym same) (covers.reset g);
-}
+holder_covers m r q i c covers x same = grind arith

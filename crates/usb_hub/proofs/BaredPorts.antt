@@ -1,19 +1,17 @@
 -- Nothing is reached at a port that is not enabled, nor below it.
-use Rattle.std.proofs.Common.{◌≡◌, ◌&&◌, ℕ, zero, suc, Bool, true, false, List, [], ◌∷◌, ◌++◌}
-use Rattle.std.proofs.Common.{Option, None, Some, option_map, Ok, refl, ap, sym, subst, ◌∙◌, IfSome}
+use Rattle.std.proofs.Common.{arith, ◌≡◌, ◌&&◌, ℕ, zero, suc, Bool, true, false, List, [], ◌∷◌}
+use Rattle.std.proofs.Common.{◌++◌, Option, option_map, Ok, refl, ap, sym, ◌∙◌, IfSome}
 use Rattle.usb_request.specs.{PORT_ENABLE}
 use Rattle.usb_port.specs.{PortState, PortStatus, ClearEnable, clear_call, called_port}
-use Rattle.usb_device.specs.{Ports, vacant, taken, port_of, place, port_at, reach, reach_at}
-use Rattle.usb_device.specs.{port_there}
+use Rattle.usb_device.specs.{Ports, vacant, taken, port_at, reach, reach_at, port_there}
 use Rattle.usb_tree.specs.{is_way}
 use Rattle.usb_world.specs.{after, World}
 use Rattle.usb_world.proofs.Interface.{course_wider, same_device, way_rest}
 use Rattle.usb_tree.proofs.Interface.{and_false, false_true}
 use Rattle.usb_address.specs.{AddressMap, map_without, MapHolds, WhileBusWorks, KeepsAddresses}
-use Rattle.usb_address.proofs.Interface.{bared}
-use Rattle.usb_hub.specs.{HubPort, Isolates, OnReachedRow, PortStatusAt, ReadsPort, ports_at_step}
-use Rattle.usb_hub.specs.{PortCallDone, CommandsPort, TouchesNoPort}
-use Rattle.usb_hub.proofs.CalledPorts.{port_of_place, port_of_called}
+use Rattle.usb_hub.specs.{HubPort, Isolates, OnReachedRow, PortStatusAt, ReadsPort, PortCallDone}
+use Rattle.usb_hub.specs.{CommandsPort, TouchesNoPort}
+use Rattle.usb_hub.proofs.CalledPorts.{port_of_place}
 
 -- the port at a path, if there is one, is not enabled
 abbrev pub Shut : Ports → List ℕ → Type 0
@@ -24,7 +22,7 @@ reach_at-disabled : (k : Ports) (i : ℕ) (e r : List ℕ)
 unfolding port_at reach_at
 reach_at-disabled (vacant b k) (suc i) e r off = reach_at-disabled k i e r off
 reach_at-disabled (taken b s a k) zero [] [] off = off
-reach_at-disabled (taken b s a k) zero [] (suc m ∷ r) off = ap (λ x. x && reach_at a m r) off
+reach_at-disabled (taken b s a k) zero [] (suc m ∷ r) off = grind arith
 reach_at-disabled (taken b s a k) zero (suc m ∷ e) r off =
     ap (λ x. b.enable && x) (reach_at-disabled a m e r off) ∙ and_false b.enable
 reach_at-disabled (taken b s a k) (suc i) e r off = reach_at-disabled k i e r off
@@ -39,8 +37,7 @@ shut_rest w _ _ r off = refl
 -- it passes nothing on
 pub shut_reach : (w : World) (q : List ℕ) (n : ℕ) → Shut w.roots (q ++ (n ∷ [])) → (x : List ℕ)
     → is_way (q ++ (n ∷ [])) x ≡ true → reach w.roots x ≡ false
-shut_reach w q n off x way = let rest = way_rest (q ++ (n ∷ [])) x way in ap (reach w.roots) rest.1
-    ∙ shut_rest w q n rest.0 off
+shut_reach w q n off x way = grind (arith, shut_rest, way_rest)
 
 -- nor does it where nothing was asked of any port since
 shut_since : (mid new : World) (p : List ℕ) → OnReachedRow new p → Shut mid.roots p
@@ -48,9 +45,7 @@ shut_since : (mid new : World) (p : List ℕ) → OnReachedRow new p → Shut mi
 shut_since mid new p row off since x way = pick (reach new.roots x) refl
   where
     before : reach mid.roots x ≡ false
-    before =
-        shut_reach mid row.parent row.number (subst (λ q. Shut mid.roots q) row.is off) x
-        (subst (λ q. is_way q x ≡ true) row.is way)
+    before = grind (arith, shut_reach)
 
     pick : (on : Bool) → reach new.roots x ≡ on → reach new.roots x ≡ false
     pick true e = false_true (sym before
@@ -60,10 +55,7 @@ shut_since mid new p row off since x way = pick (reach new.roots x) refl
 pub till_bared : (f : AddressMap) (p : List ℕ) (new : World) → WhileBusWorks (MapHolds f) new
     → ((x : List ℕ) → is_way p x ≡ true → reach new.roots x ≡ false)
     → WhileBusWorks (MapHolds (map_without f p)) new
-till_bared f p new kept bare = record {
-  so = λ none. bared f p new bare (kept.so none);
-  single = kept.single;
-}
+till_bared f p new kept bare = grind arith
 
 -- its status was told, and it is not enabled
 pub port_told_bares : (port : HubPort) (status : PortStatus) (old new : World)
@@ -71,37 +63,24 @@ pub port_told_bares : (port : HubPort) (status : PortStatus) (old new : World)
     → Isolates port old new
 port_told_bares port status old new keeps tells off = record {
   bares = λ f p at o.
-      let told : PortStatusAt p status old new = tells.tells f p at o status refl in
+      let told : PortStatusAt p status old new = grind arith in
       till_bared f p new (keeps.kept f o)
-      (shut_since told.now new p told.row (subst (λ x. IfSome x (λ b. b.enable ≡ false))
-      (sym told.stood) (sym (ap (λ s. s.enabled) told.is) ∙ off)) told.since);
+      (shut_since told.now new p told.row (grind arith) told.since);
 }
 
 -- PORT_ENABLE was cleared
 pub disabled_port : (o : Option PortState)
     → IfSome (option_map (called_port ClearEnable) o) (λ b. b.enable ≡ false)
-disabled_port None = tt
-disabled_port (Some b) = refl
+disabled_port o = grind arith
 
 done_shut : (p : List ℕ) (old new : World) (x : PortCallDone p ClearEnable old new)
     → Shut (after x.last x.before).roots p
-done_shut p old new x =
-    subst (λ o. IfSome o (λ b. b.enable ≡ false))
-    (sym (port_of_place (after x.last x.before).roots p ∙ ap (option_map port_of) x.done
-    ∙ port_of_called ClearEnable (place (ports_at_step x.last x.before) p)))
-    (disabled_port (option_map port_of (place (ports_at_step x.last x.before) p)))
+done_shut p old new x = grind (arith, port_of_place)
 
 pub done_bares : (port : HubPort) (old new : World) → KeepsAddresses old new
     → CommandsPort port (clear_call PORT_ENABLE) old (Ok tt) new → Isolates port old new
 done_bares port old new keeps calls = record {
   bares = λ f p at o.
-      let done : PortCallDone p ClearEnable old new =
-      calls.done f p ClearEnable (record {
-        at = at;
-        is = refl;
-        alone = λ resets. absurd (cc resets);
-        owned = o;
-      }) refl in
-      till_bared f p new (keeps.kept f o) (shut_since (after done.last done.before) new p done.row
-      (done_shut p old new done) done.since);
+      let done : PortCallDone p ClearEnable old new = grind arith in
+      till_bared f p new (keeps.kept f o) (search (done_shut, shut_since));
 }

@@ -1,20 +1,15 @@
 -- What a port is after a call that was done there: what the call makes of what it was, or what was
 -- told of it; or a change of connection is pending.
-use Rattle.std.proofs.Common.{◌≡◌, ℕ, zero, suc, ◌&&◌, ◌⊎◌, inl, inr, if◌then◌else◌, Bool, true}
-use Rattle.std.proofs.Common.{false, List, [], ◌∷◌, ◌++◌, Option, None, Some, option_map, refl, ap}
-use Rattle.std.proofs.Common.{sym, subst, ◌∙◌}
-use Rattle.std.proofs.lemmas.Option.{same_Some}
-use Rattle.usb_port.specs.{PortState, is_attached, powered_on, reset, PortStatus, PortCall}
-use Rattle.usb_port.specs.{SetPower, SetReset}
-use Rattle.usb_port.specs.{is_reset, called_port}
-use Rattle.usb_device.specs.{Ports, ended, vacant, taken, full, port_of, reset_where, called}
-use Rattle.usb_device.specs.{place, place_at, port_at, reach, reach_at, state_at, State, port_there}
-use Rattle.usb_device.specs.{state_there, Place}
+use Rattle.std.proofs.Common.{if◌then◌else◌, arith, ◌≡◌, ℕ, zero, suc, ◌⊎◌, inl, inr, true, false}
+use Rattle.std.proofs.Common.{List, [], ◌∷◌, ◌++◌, Option, None, Some, option_map, refl, ap, sym}
+use Rattle.std.proofs.Common.{subst, ◌∙◌}
+use Rattle.usb_port.specs.{PortState, PortStatus, PortCall, called_port}
+use Rattle.usb_device.specs.{Ports, ended, vacant, taken, port_of, called, place, place_at, port_at}
+use Rattle.usb_device.specs.{reach, reach_at, state_at, State, port_there, state_there, Place}
 use Rattle.usb_world.specs.{Event, Attempt, step_keeps_pending, resets, spec_of, AsksNothing}
-use Rattle.usb_world.specs.{leaves_step, row_reached, LeavesPortAlone, SameAt, UnchangedOrPending}
-use Rattle.usb_world.specs.{Step, attempt, event, after, with_attempt}
-use Rattle.usb_world.specs.{at_attempt, after_due_events, after_event, is_due, Course, here, step}
-use Rattle.usb_world.specs.{World}
+use Rattle.usb_world.specs.{leaves_step, LeavesPortAlone, SameAt, UnchangedOrPending, Step, attempt}
+use Rattle.usb_world.specs.{event, after, with_attempt, at_attempt, after_due_events, after_event}
+use Rattle.usb_world.specs.{is_due, Course, here, step, World}
 use Rattle.usb_tree.specs.{has_power, pending, keeps_pending}
 use Rattle.usb_world.proofs.Interface.{MadeOrNot, attempt_cases, course_wider, made_pend}
 use Rattle.usb_world.proofs.Interface.{made_sound, pending_persists, rests_or_pends}
@@ -37,44 +32,18 @@ port_at_place (taken b s a k) zero (suc i ∷ p) = port_at_place a i p
 port_at_place (taken b s a k) (suc j) p = port_at_place k j p
 
 pub port_of_place : (k : Ports) (p : List ℕ) → port_there k p ≡ option_map port_of (place k p)
-port_of_place k (suc j ∷ p) = port_at_place k j p
-port_of_place k _ = refl
+port_of_place k p = grind (arith, port_at_place)
 
 pub port_of_called : (c : PortCall) (o : Option Place)
     → option_map port_of (option_map (called c) o) ≡ option_map (called_port c)
     (option_map port_of o)
-port_of_called c (Some (full b s a)) = split (is_reset c && (b.power && is_attached b.attached))
-  where
-    split : (x : Bool) → Some (port_of (reset_where x (called_port c b) s a))
-        ≡ Some (called_port c b)
-    split true = refl
-    split false = refl
-port_of_called c _ = refl
-
--- a call again leaves what it left
-called_twice : (c : PortCall) (b : PortState) → called_port c (called_port c b) ≡ called_port c b
-called_twice SetPower b = split b.power refl
-  where
-    split : (x : Bool) → b.power ≡ x → powered_on (powered_on b) ≡ powered_on b
-    split true e = rw e refl
-    split false e = rw e refl
-called_twice SetReset b = split (b.power && is_attached b.attached) refl
-  where
-    split : (x : Bool) → (b.power && is_attached b.attached) ≡ x → reset (reset b) ≡ reset b
-    split true e = rw (e, e) refl
-    split false e = rw (e, e) refl
-called_twice _ b = refl
-
-some_twice : (c : PortCall) (o : Option PortState)
-    → option_map (called_port c) (option_map (called_port c) o) ≡ option_map (called_port c) o
-some_twice c None = refl
-some_twice c (Some b) = ap (λ x. Some x) (called_twice c b)
+port_of_called c o = grind arith
 
 -- The events that are due come as steps that ask nothing
 
 event_asks_nothing : (p : List ℕ) (w : World) → AsksNothing event w p
 unfolding step_keeps_pending resets leaves_step
-event_asks_nothing p w = record { spares = refl; rests = refl; leaves = refl }
+event_asks_nothing p w = grind arith
 
 pub due_course : (p : List ℕ) (es : List Event) (w : World) → w.left ≡ es → w.fault ≡ None
     → Course (LeavesPortAlone p) w (after_due_events es w)
@@ -110,24 +79,13 @@ module _ (p : List ℕ) (c : PortCall) where
   Called w v = port_there v.roots p ≡ option_map (called_port c) (port_there w.roots p)
 
   kept_then : (w m v : World) → KeptOrCalled w m → KeptOrCalled m v → KeptOrCalled w v
-  kept_then w m v (inl a) (inl b) = inl (b ∙ a)
-  kept_then w m v (inl a) (inr b) = inr (b ∙ ap (option_map (called_port c)) a)
-  kept_then w m v (inr a) (inl b) = inr (b ∙ a)
-  kept_then w m v (inr a) (inr b) = inr (b ∙ ap (option_map (called_port c)) a
-      ∙ some_twice c (port_there w.roots p))
-
-  called_then : (w m v : World) → KeptOrCalled w m → Called m v → Called w v
-  called_then w m v (inl a) b = b ∙ ap (option_map (called_port c)) a
-  called_then w m v (inr a) b = b ∙ ap (option_map (called_port c)) a
-      ∙ some_twice c (port_there w.roots p)
+  kept_then w m v h h1 = grind arith
 
   -- two worlds on
   then_so : (K L M : World → World → Type 0) (w m v : World) → (K w m → L m v → M w v)
       → StandsSo K w m → (has_power m.roots p ≡ true → StandsSo L m v)
       → (pending m.roots p ≡ true → pending v.roots p ≡ true) → StandsSo M w v
-  then_so K L M w m v joins (inl x) on pending =
-      elim (on x.0) [ inl y ↦ inl (y.0, joins x.1 y.1, y.2 ∙ x.2) | inr y ↦ inr y ]
-  then_so K L M w m v joins (inr x) on pending = inr (pending x)
+  then_so K L M w m v joins h on pending = grind arith
 
   -- the port that a step's own change comes to is as it was; or a change is pending after the step;
   -- or it came to nothing
@@ -145,30 +103,28 @@ module _ (p : List ℕ) (c : PortCall) where
           → Met (attempt a) w
       made sound is = elim (rests_or_pends p (due_course p w.left w refl sound) on) [
         | inl y ↦ same y.1.port
-        | inr y ↦ pends (subst (λ v. pending v.roots p ≡ true) (sym is)
-            (made_pend a (at_attempt w) p sp y))
+        | inr y ↦ pends (grind (arith, made_pend))
       ]
 
       cases : MadeOrNot a w (after (attempt a) w) → Met (attempt a) w
-      cases (inl e) = nothing (ap (λ v. v.roots) e)
+      cases (inl e) = grind arith
       cases (inr m) = made (made_sound w m.0) m.1
 
   step_met : (s : Step) (w : World) → step_keeps_pending s w p ≡ true → has_power w.roots p ≡ true
       → Met s w
-  step_met (attempt a) w sp on = attempt_met a w sp on
-  step_met _ w sp on = same refl
+  step_met s w sp on = grind (arith, attempt_met)
 
   -- the port after a step, by what stands there
   port_after : (s : Step) (w : World) (o : Option Place) → place (after s w).roots p ≡ o
       → port_there (after s w).roots p ≡ option_map port_of o
-  port_after s w o e = port_of_place (after s w).roots p ∙ ap (option_map port_of) e
+  port_after s w o e = grind (arith, port_of_place)
 
   port_kept : (s : Step) (w : World) → ActsAt p c s w → port_there (ports_at_step s w) p
       ≡ port_there w.roots p → KeptOrCalled w (after s w)
   port_kept s w k e = elim k.port [
-    | inl x ↦ inl (port_after s w _ x ∙ sym (port_of_place (ports_at_step s w) p) ∙ e)
+    | inl x ↦ inl (grind (arith, port_of_place))
     | inr x ↦ inr (port_after s w _ x ∙ port_of_called c (place (ports_at_step s w) p)
-        ∙ ap (option_map (called_port c)) (sym (port_of_place (ports_at_step s w) p) ∙ e))
+        ∙ ap (option_map (called_port c)) (grind (arith, port_of_place)))
   ]
 
   module _ (keeps : keeps_pending c [] ≡ true) where
@@ -179,7 +135,7 @@ module _ (p : List ℕ) (c : PortCall) where
         → has_power w.roots p ≡ true → StandsSo K w (after s w)
     step_so K s w k there idle on =
         elim (stands_or_pends p (step s (k.about.spares keeps) (here (after s w))) on) [
-          | inl x ↦ by_met x.0 x.1 (step_met s w (k.about.spares keeps) on)
+          | inl x ↦ by_met x.0 x.1 (grind (arith, step_met))
           | inr x ↦ inr x
         ]
       where
@@ -195,8 +151,8 @@ module _ (p : List ℕ) (c : PortCall) where
     steps_so (here w) on = inl (on, inl refl, refl)
     steps_so (step s {w} {v} k more) on =
         then_so KeptOrCalled KeptOrCalled KeptOrCalled w (after s w) v (kept_then w (after s w) v)
-        (step_so KeptOrCalled s w k (port_kept s w k) (λ e. inl (ap (λ t. port_there t p) e)) on)
-        (steps_so more) (pending_persists p (course_wider (λ s w x. x.about.spares keeps) more))
+        (step_so KeptOrCalled s w k (port_kept s w k) (grind arith) on)
+        (steps_so more) (pending_persists p (course_wider (grind arith) more))
 
     module _ (old new : World) (x : PortCallDone p c old new) where
       -- the step that called it
@@ -204,18 +160,15 @@ module _ (p : List ℕ) (c : PortCall) where
           (port_there (ports_at_step x.last x.before) p)
       last_called = port_after x.last x.before _ x.done
           ∙ port_of_called c (place (ports_at_step x.last x.before) p)
-          ∙ ap (option_map (called_port c)) (sym (port_of_place (ports_at_step x.last x.before) p))
+          ∙ ap (option_map (called_port c)) (grind (arith, port_of_place))
 
       -- where it came to nothing, it was called already
       idle_called : (after x.last x.before).roots ≡ x.before.roots
           → Called x.before (after x.last x.before)
-      idle_called e =
-          last_called ∙ sym (some_twice c (port_there (ports_at_step x.last x.before) p))
-          ∙ ap (option_map (called_port c)) (sym last_called ∙ ap (λ t. port_there t p) e)
+      idle_called e = grind (arith, last_called)
 
       last_so : has_power x.before.roots p ≡ true → StandsSo Called x.before (after x.last x.before)
-      last_so on = step_so Called x.last x.before x.acts (λ e. last_called
-          ∙ ap (option_map (called_port c)) e) idle_called on
+      last_so on = step_so Called x.last x.before x.acts (grind (arith, last_called)) idle_called on
 
       since_so : has_power (after x.last x.before).roots p ≡ true
           → StandsSo KeptOrCalled (after x.last x.before) new
@@ -225,9 +178,9 @@ module _ (p : List ℕ) (c : PortCall) where
       now_called : has_power old.roots p ≡ true → StandsSo Called old (after x.last x.before)
       now_called on =
           then_so KeptOrCalled Called Called old x.before (after x.last x.before)
-          (called_then old x.before (after x.last x.before))
+          (grind arith)
           (steps_so x.repeats on) last_so (pending_persists p
-          (step x.last (x.acts.about.spares keeps) (here (after x.last x.before))))
+          (step x.last (grind arith) (here (after x.last x.before))))
 
       -- a port that was powered on its whole way is so still, with the same device or none, and is
       -- what the call makes of it; or a change is pending
@@ -240,8 +193,7 @@ module _ (p : List ℕ) (c : PortCall) where
           called_on : Called old (after x.last x.before) → KeptOrCalled (after x.last x.before) new
               → Called old new
           called_on a (inl b) = b ∙ a
-          called_on a (inr b) = b ∙ ap (option_map (called_port c)) a
-              ∙ some_twice c (port_there old.roots p)
+          called_on a (inr b) = grind arith
 
 -- A port whose status was told: it is powered on its whole way, with the same device or none, and
 -- as it was told; or a change is pending
@@ -256,7 +208,7 @@ told_stands p status old new x on = first (rests_or_pends p (x.before p) on)
   where
     second : SameAt old.roots x.now.roots p → UnchangedOrPending x.now new p
         → StandsTold p x.port old new
-    second a (inl y) = inl (y.0, y.1.port ∙ x.stood, y.1.what ∙ a.what)
+    second a (inl y) = grind arith
     second a (inr y) = inr y
 
     first : UnchangedOrPending old x.now p → StandsTold p x.port old new
@@ -269,7 +221,7 @@ enabled_row : (k : Ports) (m : ℕ) (b : PortState) (s : State) → port_at k m 
     → b.enable ≡ true → state_at k m [] ≡ Some s → reach_at k m [] ≡ true
 unfolding port_at state_at reach_at
 enabled_row (vacant c k) (suc m) b s there e at = enabled_row k m b s there e at
-enabled_row (taken c t a k) zero b s there e at = ap (λ y. y.enable) (same_Some c b there) ∙ e
+enabled_row (taken c t a k) zero b s there e at = grind arith
 enabled_row (taken c t a k) (suc m) b s there e at = enabled_row k m b s there e at
 enabled_row _ _ b s there e at = absurd (cc at)
 
@@ -279,8 +231,7 @@ enabled_below : (k : Ports) (j : ℕ) (e : List ℕ) (n : ℕ) (b : PortState) (
 unfolding port_at state_at reach_at
 enabled_below (vacant c k) (suc j) e n b s on there h at = enabled_below k j e n b s on there h at
 enabled_below (taken c t a k) zero [] zero b s on there h at = absurd (cc at)
-enabled_below (taken c t a k) zero [] (suc m) b s on there h at =
-    and_of c.enable (reach_at a m []) on (enabled_row a m b s there h at)
+enabled_below (taken c t a k) zero [] (suc m) b s on there h at = grind (arith, enabled_row)
 enabled_below (taken c t a k) zero (suc i ∷ e) n b s on there h at =
     let x : _ = both c.enable (reach_at a i e) on in
     and_of c.enable (reach_at a i (e ++ (n ∷ []))) x.0
@@ -292,15 +243,4 @@ enabled_below _ _ _ n b s on there h at = false_true on
 pub enabled_reach : (w : World) (p : List ℕ) → OnReachedRow w p → (b : PortState)
     → port_there w.roots p ≡ Some b → b.enable ≡ true → (s : State) → state_there w.roots p ≡ Some s
     → reach w.roots p ≡ true
-enabled_reach w p row b there h s at =
-    subst (λ x. reach w.roots x ≡ true) (sym row.is)
-    (by_row row.parent row.number row.reached (subst (λ x. port_there w.roots x ≡ Some b) row.is
-    there) (subst (λ x. state_there w.roots x ≡ Some s) row.is at))
-  where
-    by_row : (q : List ℕ) (n : ℕ) → row_reached w.roots q ≡ true
-        → port_there w.roots (q ++ (n ∷ [])) ≡ Some b → state_there w.roots (q ++ (n ∷ [])) ≡ Some s
-        → reach w.roots (q ++ (n ∷ [])) ≡ true
-    by_row [] zero on there at = absurd (cc at)
-    by_row [] (suc i) on there at = enabled_row w.roots i b s there h at
-    by_row (zero ∷ e) n on there at = false_true on
-    by_row (suc j ∷ e) n on there at = enabled_below w.roots j e n b s on there h at
+enabled_reach w p row b there h s at = grind (arith, enabled_below, enabled_row)

@@ -1,52 +1,47 @@
 -- That a call at a port acts there where it is done, and what it asks of ports whatever its answer
 -- is.
-use Rattle.std.proofs.Common.{◌≡◌, ◌≢◌, ℕ, zero, suc, ◌⊎◌, ◌||◌, inl, inr, not, Bool, true, false}
-use Rattle.std.proofs.Common.{List, [], ◌∷◌, ◌++◌, Option, None, Some, option_map, Result, Ok, Err}
-use Rattle.std.proofs.Common.{refl, ap, sym, subst, ◌∙◌, arith, MatchResult}
-use Rattle.std.proofs.lemmas.Option.{same_Some}
-use Rattle.usb_port.specs.{IsPath, IsPortNumber, PortState, PortCall, set_call, clear_call}
-use Rattle.usb_port.specs.{is_reset, IsSetFeature, IsClearFeature, SetPower}
+use Rattle.std.proofs.Common.{◌≡◌, ◌≢◌, ℕ, zero, suc, ◌⊎◌, inl, inr, true, false, List, [], ◌∷◌}
+use Rattle.std.proofs.Common.{◌++◌, Option, None, Some, option_map, Result, Ok, Err, refl, ap, sym}
+use Rattle.std.proofs.Common.{subst, ◌∙◌, arith}
+use Rattle.usb_port.specs.{IsPath, IsPortNumber, PortCall, set_call, clear_call, is_reset}
+use Rattle.usb_port.specs.{IsSetFeature, IsClearFeature, SetPower}
 use Rattle.usb_request.specs.{setup_of, bytes_of, set_port_feature, clear_port_feature, Setup}
 use Rattle.usb_request.specs.{PORT_POWER}
-use Rattle.usb_device.specs.{Calls, effect_of_request, asked_by_setup, outcome, port_named}
-use Rattle.usb_device.specs.{called_at, State, first_stage, ending, called, acted, place, place_at}
-use Rattle.usb_device.specs.{reach, Location, path_to, reach_on, state_on, place_on, state_there}
+use Rattle.usb_device.specs.{Calls, asked_by_setup, outcome, port_named, State, called, acted}
+use Rattle.usb_device.specs.{place, place_at, Location, path_to, reach_on, state_on}
 use Rattle.usb_world.specs.{Attempt, BusFault, Outcome, KeepsPendingAt, is_harmless, Was}
-use Rattle.usb_world.specs.{is_sparing, LeavesPortAlone, Step, attempt, root_call, after}
-use Rattle.usb_world.specs.{at_attempt, Course, here, step as step_then, AttemptFails, SetsRoot}
-use Rattle.usb_world.specs.{ClearsRoot, World, Attempted}
+use Rattle.usb_world.specs.{LeavesPortAlone, Step, attempt, root_call, after, at_attempt, Course}
+use Rattle.usb_world.specs.{here, step as step_then, AttemptFails, SetsRoot, ClearsRoot, World}
+use Rattle.usb_world.specs.{Attempted}
 use Rattle.usb_tree.specs.{address_of, is_way, IsSettled, keeps_pending}
 use Rattle.usb_world.proofs.Interface.{course_joined, course_wider, made_of, same_is, settled_wider}
 use Rattle.usb_world.proofs.Interface.{Allows}
-use Rattle.usb_tree.proofs.Interface.{and_of, decided, equal_same, false_true, or_right}
+use Rattle.usb_tree.proofs.Interface.{decided, equal_same}
 use Rattle.usb_transaction.specs.{Target, TransFault, Answerer, is_at, AcceptedAt, AttemptLog}
 use Rattle.usb_transaction.specs.{BusFailed, start, Transacted, in_attempt, setup_attempt}
-use Rattle.usb_transaction.specs.{AttemptsMade}
 use Rattle.usb_transaction.specs.declared.fault.TransFault.TheVariants as trans
 use Rattle.usb_transaction.proofs.Interface.{trail_course}
-use Rattle.usb_pipe.specs.{PipeFault, as_pipe_fault, FaultAfter, Writes, IsBehind, IsNoBusFault}
-use Rattle.usb_pipe.specs.{EffectDone, WriteLeaves}
-use Rattle.usb_pipe.specs.declared.fault.PipeFault.TheVariants.{Broken, Bus}
+use Rattle.usb_pipe.specs.{PipeFault, as_pipe_fault, Writes, IsBehind, IsNoBusFault, EffectDone}
+use Rattle.usb_pipe.specs.{WriteLeaves}
+use Rattle.usb_pipe.specs.declared.fault.PipeFault.TheVariants.{Bus}
 use Rattle.usb_pipe.proofs.Interface.{transacted_ended, who_writes, write_attempts, write_leaves}
 use Rattle.usb_address.specs.{AddressMap, LeavesPipe, MapHolds, WhileBusWorks}
 use Rattle.usb_address.proofs.Interface.{ClaimedAt, Fits, KeepsClaim, Resets, settled_attempt}
-use Rattle.usb_address.proofs.Interface.{place_ports, claimed_path, held_of, less_one}
-use Rattle.usb_address.proofs.Interface.{port_named-cases, is_path-empty, no_root, quiet_follows}
-use Rattle.usb_address.proofs.Interface.{reset_follows, resets_leave, same_setup, some, trail_sound}
-use Rattle.usb_address.proofs.Interface.{trail_with, writes_leave}
+use Rattle.usb_address.proofs.Interface.{place_ports, claimed_path, is_path-empty, no_root}
+use Rattle.usb_address.proofs.Interface.{quiet_follows, reset_follows, resets_leave, same_setup}
+use Rattle.usb_address.proofs.Interface.{some, trail_sound, trail_with, writes_leave}
 use Rattle.usb_hub.specs.{IsBelow, IsAbout, UpToFault, ActsAt, PortCallDone, CommandsPort}
-use Rattle.usb_hub.specs.{TouchesNoPort, Commanded, HubServes, HubPort, Root, External}
-use Rattle.usb_hub.specs.{IsControlStep}
+use Rattle.usb_hub.specs.{TouchesNoPort, Commanded, HubPort, Root, External}
 use Rattle.usb_hub.proofs.ActingCalls.{place_below, place_called, AsksFor, attempt_acts, root_acts}
 use Rattle.usb_hub.proofs.ActingCalls.{root_acted}
 use Rattle.usb_hub.proofs.RestingRequests.{behind_rests, behind_asks_nothing}
 use Rattle.usb_hub.proofs.Backlogs.{acted_keeps, call_keeps, holder_covers, request_keeps}
 use Rattle.usb_hub.proofs.Backlogs.{rests_backlog}
 use Rattle.usb_backlog.specs.{CoversCall, KeepsAll, KeepsBy, KeepsCall, KeepsFound, PortMark, only}
-use Rattle.usb_backlog.specs.{ports_at, unmarked, gives_power}
-use Rattle.usb_backlog.proofs.Interface.{all_none, few-only, keeps-chain, keeps-root, ports_covered}
+use Rattle.usb_backlog.specs.{ports_at, unmarked}
+use Rattle.usb_backlog.proofs.Interface.{few-only, keeps-chain, keeps-root, ports_covered}
 use Rattle.usb_backlog.proofs.Interface.{root_allowed, sets_none}
-use Rattle.usb_hub.proofs.CallFailures.{same_port, call_served}
+use Rattle.usb_hub.proofs.CallFailures.{call_served}
 use Rattle.usb_hub.proofs.ControlCourses.{commanded_control}
 use Rattle.usb_port.proofs.Interface.{call_is}
 
@@ -67,7 +62,7 @@ writes_sent t request old (Ok u) new n x =
       mid = x.mid;
       outcomes = x.set_up.last ∷ x.set_up.outcomes;
       trail = x.set_up.trail;
-      behind = trail_course (λ w made. inl refl) x.status.trail;
+      behind = grind (arith, trail_course);
     }
 writes_sent t request old (Err why) new n (inl x) =
     let e = transacted_ended (Unit {0}) why x.fault x.told n x.set_up in
@@ -77,8 +72,7 @@ writes_sent t request old (Err why) new n (inr x) =
       mid = x.mid;
       outcomes = x.set_up.last ∷ x.set_up.outcomes;
       trail = x.set_up.trail;
-      behind = trail_course (λ w made. inl refl)
-          (transacted_ended (Unit {0}) why x.fault x.told n x.status).trail;
+      behind = grind (arith, trail_course);
     }
 
 -- where the bus gave up, up to the attempt that it refused
@@ -96,9 +90,7 @@ record SentUpTo (t : Target) (request : Setup) (old : World) (fault : BusFault) 
 bus_failed : {hear : _} {a : Attempt} {old new : World} (fault : BusFault) (f : TransFault)
     → Bus fault ≡ as_pipe_fault f → Transacted hear a old (Err f) new → BusFailed hear a old fault
     new
-bus_failed {hear} {a} {old} {new} fault (trans.Bus g) e x =
-    let same : g ≡ fault = cc e in subst (λ f. BusFailed hear a old f new) same x
-bus_failed fault f e x = absurd (cc e)
+bus_failed fault f e x = grind arith
 
 sent_up_to : (t : Target) (request : Setup) (old : World) (fault : BusFault) (new : World)
     → Writes t request old (Err (Bus fault)) new → SentUpTo t request old fault new
@@ -138,14 +130,6 @@ behind_about t p c course =
 
 -- A call at a hub's port
 
--- where something was done, a port was named
-port_is_named : (c : PortCall) (o : Option ℕ) (n : ℕ) (row : List PortState) (d : State)
-    (address : Option ℕ) → (o ≡ None) ⊎ (o ≡ Some n)
-    → first_stage row d 0 (called_at (Some c) o) ≡ ending address → o ≡ Some n
-port_is_named c None n row d address x h = absurd (cc h)
-port_is_named c (Some m) n row d address (inl x) h = absurd (cc x)
-port_is_named c (Some m) n row d address (inr x) h = x
-
 module _ (t : Target) (j : Location) (i : ℕ) (request : Setup) (c : PortCall)
     (asked : AsksFor request c (suc i)) (P : World → Type 0)
     (follows : KeepsClaim t request (path_to j) P) where
@@ -159,8 +143,7 @@ module _ (t : Target) (j : Location) (i : ℕ) (request : Setup) (c : PortCall)
       → P new × Course (ActsAt p c) old new
   acting tr first =
       trail_with P follows.onward (λ w made x. let k : ClaimedAt (path_to j) t.addr w =
-      follows.claimed w x in attempt_acts t j i request c asked w
-      (made_of a w k.owned.settled made) k) tr first
+      follows.claimed w x in attempt_acts t j i request c asked w (search made_of) k) tr first
 
   module _ (old : World) (result : Result (Unit {0}) PipeFault) (new : World)
       (n : IsNoBusFault result) (stages : Writes t request old result new) (first : P old) where
@@ -203,23 +186,21 @@ module _ (t : Target) (j : Location) (i : ℕ) (request : Setup) (c : PortCall)
 
     path : path_to who.spot ≡ path_to j
     path = claimed_path (path_to j) t.addr old before who.spot who.before who.was_on who.stood
-        (equal_same (address_of who.before) t.addr who.at)
+        (grind (arith, equal_same))
 
     on : reach_on new.roots j ≡ true
-    on = subst (λ x. reach new.roots x ≡ true) path who.on
+    on = grind (arith, path)
 
     there : (v : State) × (state_on new.roots j ≡ Some v) × (address_of v ≡ t.addr)
-    there = held_of (state_on new.roots j) t.addr (behind.owned.own (path_to j) on ∙ behind.held)
+    there = grind (arith, on)
 
     was : Was (WriteLeaves t request (Ok tt) old new) old j there.0
     was =
         write_leaves t request (Ok tt) old new asked.nothing asked.same ordered.settled
-        ordered.stages behind.owned.single j there.0 on there.1
-        (λ h. (addressed h, λ z. addressed h (sym there.2 ∙ z)))
+        ordered.stages behind.owned.single j there.0 on there.1 (grind arith)
 
     asked_it : is_at was.before t ≡ true
-    asked_it = ap (λ s. is_at s t) (same_Some was.before who.before (sym was.stands
-        ∙ subst (λ x. state_there old.roots x ≡ Some who.before) path who.stood)) ∙ who.at
+    asked_it = grind (arith, was)
 
     done : EffectDone t request old new j was.before there.0
     done = was.so.done asked_it tt refl
@@ -234,17 +215,7 @@ module _ (t : Target) (j : Location) (i : ℕ) (request : Setup) (c : PortCall)
     mid = accepted_there.mid
 
     is_named : port_named was.before.spec.hub was.before.registers (suc i) ≡ Some i
-    is_named =
-        port_is_named c (port_named was.before.spec.hub was.before.registers (suc i)) i done.row
-        was.before done.address
-        (subst (λ m. (port_named was.before.spec.hub was.before.registers (suc i) ≡ None)
-        ⊎ (port_named was.before.spec.hub was.before.registers (suc i) ≡ Some m))
-        (less_one i) (port_named-cases was.before.spec.hub was.before.registers (suc i)))
-        (subst (λ o. first_stage done.row was.before 0 o ≡ ending done.address)
-        (asked.calls was.before.spec was.before.registers)
-        (subst (λ n. first_stage done.row was.before n
-        (outcome was.before.spec was.before.registers request) ≡ ending done.address)
-        asked.nothing done.is))
+    is_named = grind arith
 
     -- the hub, which stood there, has the port
     pub hub_named : (s : State) × ((state_on old.roots j ≡ Some s)
@@ -252,13 +223,7 @@ module _ (t : Target) (j : Location) (i : ℕ) (request : Setup) (c : PortCall)
     hub_named = (was.before, (was.stands, is_named))
 
     effect : asked_by_setup was.before (setup_of (bytes_of request)) ≡ Calls c i
-    effect = ap effect_of_request outcome_is
-        ∙ ap (λ o. effect_of_request (called_at (Some c) o)) is_named
-      where
-        outcome_is : outcome was.before.spec was.before.registers (setup_of (bytes_of request))
-            ≡ called_at (Some c) (port_named was.before.spec.hub was.before.registers (suc i))
-        outcome_is = ap (outcome was.before.spec was.before.registers) asked.same
-            ∙ asked.calls was.before.spec was.before.registers
+    effect = grind arith
 
     repeated : P mid × Course (ActsAt p c) old mid
     repeated = acting accepted_there.trail first
@@ -271,10 +236,7 @@ module _ (t : Target) (j : Location) (i : ℕ) (request : Setup) (c : PortCall)
         ∙ ap (λ o. place_at (place_ports o) i []) accepted_there.left
         ∙ ap (λ x. place_at (acted x accepted_there.holder.below) i []) effect
         ∙ place_called c accepted_there.holder.below i
-        ∙ ap (option_map (called c)) (sym (place_below (at_attempt mid).roots j.row j.rest i []
-        ∙ ap (λ o. place_at (place_ports o) i [])
-        (ap (place_on (at_attempt mid).roots) (sym accepted_there.there)
-        ∙ accepted_there.holder.stands)))
+        ∙ ap (option_map (called c)) (grind (arith, accepted_there, place_below))
 
     pub hub_done : PortCallDone p c old new
     hub_done = record {
@@ -287,68 +249,30 @@ module _ (t : Target) (j : Location) (i : ℕ) (request : Setup) (c : PortCall)
       since = λ x.
           subst (λ w. Course (LeavesPortAlone x) w new) accepted_there.last
           (behind_asks_nothing t x done.moment.since
-          (subst (λ w. IsSettled w.roots) (sym accepted_there.last)
-          (settled_attempt a mid accepted_there.holder.made.settled)));
+          (grind (arith, settled_attempt)));
       row = record { parent = path_to j; number = suc i; is = refl; reached = on };
       acted = record {
         covered = λ ports m v r few covers. acted_keeps m v r few t (path_to j) i
-            request c asked (holder_covers m r (path_to j) i c covers) P follows
+            request c asked (search holder_covers) P follows
             accepted_there.trail accepted_there.holder.made first ports;
       };
       rested = subst (λ w. KeepsAll w new) accepted_there.last (rests_backlog t done.moment.since
-          (subst (λ w. IsSettled w.roots) (sym accepted_there.last)
-          (settled_attempt a mid accepted_there.holder.made.settled)));
-      control = commanded_control t request (Ok tt) old new ordered tt;
+          (grind (arith, settled_attempt)));
+      control = search commanded_control;
     }
 
 -- Which requests these are
 
 module _ (n : ℕ) (c : PortCall) where
-  set_sparing : (feature : ℕ) → IsSetFeature feature → is_sparing (set_port_feature feature n)
-      ≡ true
-  unfolding set_port_feature
-  set_sparing feature named = grind arith
-
-  -- PORT_RESET alone resets
-  set_harmless : (feature : ℕ) → IsSetFeature feature → set_call feature ≡ Some c
-      → is_reset c ≡ false → is_harmless (set_port_feature feature n) ≡ true
-  unfolding set_port_feature
-  set_harmless feature named is quiet = grind arith
-
   pub set_asks : (feature : ℕ) → IsSetFeature feature → set_call feature ≡ Some c
       → AsksFor (set_port_feature feature n) c n
   unfolding set_port_feature outcome
-  set_asks feature named is = record {
-    names = refl;
-    nothing = refl;
-    same = same_setup (set_port_feature feature n);
-    asks = refl;
-    sparing = λ h. set_sparing feature named;
-    calls = λ spec g. ap (λ o. called_at o (port_named spec.hub g n)) is;
-    other = refl;
-    harmless = set_harmless feature named is;
-    sets = λ h. is;
-  }
-
-  clear_sparing : (feature : ℕ) → IsClearFeature feature → clear_call feature ≡ Some c
-      → keeps_pending c [] ≡ true → is_sparing (clear_port_feature feature n) ≡ true
-  unfolding clear_port_feature
-  clear_sparing feature named is h = grind arith
+  set_asks feature named is = grind (arith, same_setup)
 
   pub clear_asks : (feature : ℕ) → IsClearFeature feature → clear_call feature ≡ Some c
       → AsksFor (clear_port_feature feature n) c n
   unfolding clear_port_feature outcome
-  clear_asks feature named is = record {
-    names = refl;
-    nothing = refl;
-    same = same_setup (clear_port_feature feature n);
-    asks = refl;
-    sparing = clear_sparing feature named is;
-    calls = λ spec g. ap (λ o. called_at o (port_named spec.hub g n)) is;
-    other = refl;
-    harmless = λ quiet. refl;
-    sets = λ h. absurd (cc h);
-  }
+  clear_asks feature named is = grind (arith, same_setup)
 
 -- Who has the hub's address meanwhile
 
@@ -369,37 +293,26 @@ route f t q n request c asked old held alone own = pick (decided (is_reset c))
     pick : (is_reset c ≡ true) ⊎ (is_reset c ≡ false) → Route t request q old
     pick (inr quiet) = record {
       P = MapHolds f;
-      follows = quiet_follows t request asked.same f q (asked.harmless quiet) held;
+      follows = grind (arith, quiet_follows);
       first = own;
-      leaves = λ result new writes. writes_leave f t request asked.same (asked.harmless quiet)
-          asked.other old result new writes own;
-      addressed = λ h. false_true (sym h ∙ asked.harmless quiet);
+      leaves = grind (arith, writes_leave);
+      addressed = grind arith;
     }
     pick (inl reset) =
         let distinct : (x : List ℕ) → f x ≡ Some t.addr → x ≡ q =
         λ x h. same_is q x (own.distinct q x t.addr held h) in
         let away : t.addr ≡ 0 → ⊥ = some t request asked.same f q n asked.names asked.other held
         distinct (alone reset) in
-        let fit : Fits q n t request asked.same asked.names away f =
-        record { at = distinct; only = alone reset } in
+        let fit : Fits q n t request asked.same asked.names away f = grind arith in
         record {
           P = Resets q n t request asked.same asked.names away f fit asked.other;
-          follows = reset_follows t request asked.same f q n asked.names asked.other held distinct
-              (alone reset);
+          follows = search reset_follows;
           first = inl own;
-          leaves = λ result new writes. resets_leave q n t request asked.same asked.names away f fit
-              asked.other old result new writes own;
+          leaves = grind (arith, resets_leave);
           addressed = λ h. away;
         }
 
 -- Any port of a hub
-
-sound_of : (k n : ℕ) (old new : World) (result : Result (Unit {0}) PipeFault) → IsNoBusFault result
-    → MatchResult result (λ done. AttemptsMade k old new) (λ fault. FaultAfter n old fault new)
-    → old.fault ≡ None
-sound_of k n old new (Err Broken) s x = absurd x
-sound_of k n old new (Err (Bus fault)) s x = absurd s
-sound_of k n old new _ s x = x.sound
 
 module _ (t : Target) (c : PortCall) (request : Setup) (f : AddressMap) (old : World)
     (result : Result (Unit {0}) PipeFault) (new : World)
@@ -414,14 +327,11 @@ module _ (t : Target) (c : PortCall) (request : Setup) (f : AddressMap) (old : W
     at_path (zero ∷ e) n asked is number held alone = absurd (no_root e is)
     at_path (suc j ∷ e) zero asked is number held alone = absurd (omega (arith, number.0))
     at_path (suc j ∷ e) (suc i) asked is number held alone =
-        there (record { row = j; rest = e }) i asked
-        (route f t (suc j ∷ e) (suc i) request c asked old held alone own)
+        there (record { row = j; rest = e }) i asked (search route)
 
     below : (n : ℕ) → AsksFor request c n → (p : List ℕ) → IsBelow f t.addr n p
         → (is_reset c ≡ true → (x : List ℕ) → f x ≡ Some 0 → is_way p x ≡ true) → Q p
-    below n asked p at alone = subst Q (sym at.path)
-        (at_path at.hub n asked at.is_path at.number at.held
-        (λ h x z. subst (λ y. is_way y x ≡ true) at.path (alone h x z)))
+    below n asked p at alone = grind (arith, at_path)
 
   module _ (n : ℕ) (asked : AsksFor request c n) (p : List ℕ) (at : IsBelow f t.addr n p)
       (alone : is_reset c ≡ true → (x : List ℕ) → f x ≡ Some 0 → is_way p x ≡ true) where
@@ -429,7 +339,7 @@ module _ (t : Target) (c : PortCall) (request : Setup) (f : AddressMap) (old : W
     done_below is =
         let so : Commanded t request old (Ok tt) new = rw is at ordered in
         below (λ p. PortCallDone p c old new) (λ j i asked r. hub_done t j i request c asked r.P
-        r.follows old new so r.first (r.leaves (Ok tt) new so.stages) r.addressed) n asked p at
+        r.follows old new so r.first (grind arith) r.addressed) n asked p at
         alone
 
     module _ (sound : IsNoBusFault result) where
@@ -442,12 +352,9 @@ module _ (t : Target) (c : PortCall) (request : Setup) (f : AddressMap) (old : W
       pub backlog_below : KeepsCall p c old new
       backlog_below =
           below (λ p. KeepsCall p c old new)
-          (λ j i asked r. let s : Sent t request old new =
-          writes_sent t request old result new sound ordered.stages in
+          (λ j i asked r. let s : Sent t request old new = grind (arith, writes_sent) in
           record {
-            covered = λ ports m v r0 few covers. call_keeps m v r0 few t (path_to j) i request c
-                asked (holder_covers m r0 (path_to j) i c covers) r.P r.follows s.trail s.behind
-                r.first ports;
+            covered = search (call_keeps, holder_covers);
           }) n asked p at alone
 
       pub spares_below : keeps_pending c [] ≡ true → Course (KeepsPendingAt p) old new
@@ -461,7 +368,7 @@ module _ (t : Target) (c : PortCall) (request : Setup) (f : AddressMap) (old : W
     (fault : BusFault) (new : World) (ordered : Commanded t request old (Err (Bus fault)) new)
     (till : WhileBusWorks (MapHolds f) old) where
   cut_there : SentUpTo t request old fault new
-  cut_there = sent_up_to t request old fault new ordered.stages
+  cut_there = search sent_up_to
 
   module _ (n : ℕ) (asked : AsksFor request c n) (p : List ℕ) (at : IsBelow f t.addr n p)
       (alone : is_reset c ≡ true → (x : List ℕ) → f x ≡ Some 0 → is_way p x ≡ true) where
@@ -471,19 +378,11 @@ module _ (t : Target) (c : PortCall) (request : Setup) (f : AddressMap) (old : W
     about_below [] w cut start behind = behind_about t p c behind ordered.settled
     about_below (o ∷ outcomes) w cut tr behind =
         below t c request f old (Err (Bus fault)) new ordered (till.so (trail_sound tr))
-        (λ p. Course (IsAbout p c) old cut)
-        (λ j i asked r. hub_about t j i request c asked r.P r.follows tr behind r.first) n asked p
+        (λ p. Course (IsAbout p c) old cut) (grind (arith, hub_about)) n asked p
         at alone
 
     pub cut_below : UpToFault (IsAbout p c) old fault new
-    cut_below = record {
-      mid = cut_there.cut;
-      course = about_below cut_there.outcomes cut_there.mid cut_there.cut cut_there.trail
-          cut_there.behind;
-      last = cut_there.last;
-      refused = cut_there.refused;
-      fails = cut_there.fails;
-    }
+    cut_below = grind (arith, about_below, cut_there)
 
 module _ (port : HubPort) (hub : Target) (number : ℕ) (call : Option PortCall) (request : Setup)
     (some_call : (c : PortCall) × (call ≡ Some c)) (asks : (c : PortCall) → call ≡ Some c
@@ -492,27 +391,24 @@ module _ (port : HubPort) (hub : Target) (number : ℕ) (call : Option PortCall)
     (e : port ≡ External hub number) (ordered : Commanded hub request old result new) where
   of_hub : CommandsPort (External hub number) call old result new
   of_hub = record {
-    done = λ f p c x is. done_below hub c request f old result new ordered
-        (x.owned.so (sound_of 2 1 old new result (subst IsNoBusFault (sym is) tt) ordered.ends))
+    done = λ f p c x is. done_below hub c request f old result new ordered (grind arith)
         number (asks c x.is) p x.at x.alone is;
     rests = λ f p c x sound. rests_below hub c request f old result new ordered
-        (x.owned.so (sound_of 2 1 old new result sound ordered.ends)) number (asks c x.is) p x.at
+        (grind arith) number (asks c x.is) p x.at
         x.alone sound;
     spares = λ f p c x sound. spares_below hub c request f old result new ordered
-        (x.owned.so (sound_of 2 1 old new result sound ordered.ends)) number (asks c x.is) p x.at
+        (grind arith) number (asks c x.is) p x.at
         x.alone sound;
     backlog = λ f p c x sound. backlog_below hub c request f old result new ordered
-        (x.owned.so (sound_of 2 1 old new result sound ordered.ends)) number (asks c x.is) p x.at
+        (grind arith) number (asks c x.is) p x.at
         x.alone sound;
     cut = λ f p c x fault is. cut_below hub c request f old fault new
-        (subst (λ r. Commanded hub request old r new) is ordered) x.owned number (asks c x.is) p
+        (grind arith) x.owned number (asks c x.is) p
         x.at x.alone;
     why = λ t n same three single serves.
-        let ends : _ = same_port hub t number n same in
         call_served hub number request some_call.0 (asks some_call.0 some_call.1) old new three
-        single (subst (λ m. HubServes hub m new) ends.1
-        (subst (λ t. HubServes t n new) ends.0 serves)) result ordered;
-    control = λ c is sound. commanded_control hub request result old new ordered sound;
+        single (grind arith) result ordered;
+    control = grind (arith, commanded_control);
   }
 
   hub_calls : CommandsPort port call old result new
@@ -522,31 +418,20 @@ pub hub_sets : (port : HubPort) (hub : Target) (number feature : ℕ) (old : Wor
     (result : Result (Unit {0}) PipeFault) (new : World) → port ≡ External hub number
     → IsSetFeature feature → Commanded hub (set_port_feature feature number) old result new
     → CommandsPort port (set_call feature) old result new
-hub_sets port hub number feature old result new e named =
-    hub_calls port hub number (set_call feature) (set_port_feature feature number)
-    (call_is (set_call feature) named) (λ c is. set_asks number c feature named is) old result new e
+hub_sets port hub number feature old result new e named h = search (call_is, hub_calls, set_asks)
 
 pub hub_clears : (port : HubPort) (hub : Target) (number feature : ℕ) (old : World)
     (result : Result (Unit {0}) PipeFault) (new : World) → port ≡ External hub number
     → IsClearFeature feature → Commanded hub (clear_port_feature feature number) old result new
     → CommandsPort port (clear_call feature) old result new
-hub_clears port hub number feature old result new e named =
-    hub_calls port hub number (clear_call feature) (clear_port_feature feature number)
-    (call_is (clear_call feature) named) (λ c is. clear_asks number c feature named is) old result
-    new e
+hub_clears port hub number feature old result new e named h =
+    search (call_is, clear_asks, hub_calls)
 
 -- A root port
 
 root_covers : (m r : PortMark) (c : PortCall) (n : ℕ) → CoversCall m r (n ∷ []) c
     → root_allowed m r c n ≡ true
-root_covers m r c zero covers = refl
-root_covers m r c (suc i) covers =
-    and_of (m i [] || not (gives_power c)) (r i [] || not (is_reset c))
-    (pick (gives_power c) (m i []) covers.power) (pick (is_reset c) (r i []) covers.reset)
-  where
-    pick : (x y : Bool) → (x ≡ true → y ≡ true) → (y || not x) ≡ true
-    pick true y f = subst (λ u. (u || false) ≡ true) (sym (f refl)) refl
-    pick false y f = or_right y true refl
+root_covers m r c n covers = grind arith
 
 module _ (port : HubPort) (number : ℕ) (call : Option PortCall) (old new : World)
     (e : port ≡ Root number) (step : (c : PortCall) → call ≡ Some c
@@ -567,26 +452,22 @@ module _ (port : HubPort) (number : ℕ) (call : Option PortCall) (old new : Wor
       since = λ y. subst (λ w. Course (LeavesPortAlone y) (after (root_call c number) old) w)
           (sym (step c x.is)) (here (after (root_call c number) old));
       row = record { parent = []; number = number; is = refl; reached = refl };
-      acted = record {
-        covered = λ ports m v r few covers. keeps-root m v r few c number old ports
-            (root_covers m r c number covers);
-      };
-      rested = subst (KeepsAll (after (root_call c number) old)) (sym (step c x.is))
-          (all_none (after (root_call c number) old));
-      control = one_step IsControlStep c x.is tt;
+      acted = search (keeps-root, root_covers);
+      rested = grind arith;
+      control = search one_step;
     });
     rests = λ f p c x sound y d. one_step (LeavesPortAlone y) c x.is
-        ((root_acts c number old).about.others y (subst (λ p. is_way p y ≡ false) x.at d));
+        ((root_acts c number old).about.others y (grind arith));
     spares = λ f p c x sound h. subst (λ p. Course (KeepsPendingAt p) old new) (sym x.at)
         (one_step (KeepsPendingAt (number ∷ [])) c x.is ((root_acts c number old).about.spares h));
     backlog = λ f p c x sound. subst (λ p. KeepsCall p c old new) (sym x.at)
         (record {
           covered = λ ports m v r few covers. subst (KeepsBy m v r old) (sym (step c x.is))
-              (keeps-root m v r few c number old ports (root_covers m r c number covers));
+              (search (keeps-root, root_covers));
         });
-    cut = λ f p c x fault is. absurd (cc is);
+    cut = grind arith;
     why = λ t n same. absurd (cc same);
-    control = λ c is sound. one_step IsControlStep c is tt;
+    control = grind (arith, one_step);
   }
 
   root_calls : CommandsPort port call old (Ok tt) new
@@ -594,24 +475,17 @@ module _ (port : HubPort) (number : ℕ) (call : Option PortCall) (old new : Wor
 
 pub root_sets : (port : HubPort) (number feature : ℕ) (old new : World) → port ≡ Root number
     → SetsRoot number feature old new → CommandsPort port (set_call feature) old (Ok tt) new
-root_sets port number feature old new e sets = root_calls port number (set_call feature) old new e
-    sets.step
+root_sets port number feature old new e sets = search root_calls
 
 pub root_clears : (port : HubPort) (number feature : ℕ) (old new : World) → port ≡ Root number
     → ClearsRoot number feature old new → CommandsPort port (clear_call feature) old (Ok tt) new
-root_clears port number feature old new e clears =
-    root_calls port number (clear_call feature) old new e clears.step
+root_clears port number feature old new e clears = search root_calls
 
 -- PORT_POWER at a port of the device that a path claims the address for
 
 zero_power : Allows sets_none (set_port_feature PORT_POWER 0)
 unfolding set_port_feature
-zero_power = record {
-  rests = refl;
-  off = λ e. absurd (cc e);
-  set = λ e c i x y. absurd (cc y);
-  clear = λ e c i x y. absurd (cc e);
-}
+zero_power = grind arith
 
 module _ (t : Target) (f : AddressMap) (q : List ℕ) (old : World)
     (result : Result (Unit {0}) PipeFault) (new : World) (sound : IsNoBusFault result)
@@ -627,13 +501,12 @@ module _ (t : Target) (f : AddressMap) (q : List ℕ) (old : World)
   }
   power_backlog (suc i) ordered =
       let request : Setup = set_port_feature PORT_POWER (suc i) in
-      let asked : AsksFor request SetPower (suc i) =
-      set_asks (suc i) SetPower PORT_POWER refl refl in
-      let s : Sent t request old new = writes_sent t request old result new sound ordered.stages in
+      let asked : AsksFor request SetPower (suc i) = search set_asks in
+      let s : Sent t request old new = grind (arith, writes_sent) in
       record {
         found = λ ports.
             call_keeps (ports_at q) unmarked (only q) (few-only q) t q i request SetPower asked
-            (λ x same. record { power = λ g. ports_covered q x i same; reset = λ g. absurd (cc g) })
-            (MapHolds f) (quiet_follows t request asked.same f q (asked.harmless refl) held) s.trail
+            (grind (arith, ports_covered))
+            (MapHolds f) (grind (arith, quiet_follows)) s.trail
             s.behind own ports;
       }

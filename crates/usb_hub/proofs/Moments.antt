@@ -1,37 +1,32 @@
 -- What was so of a port at a moment of a call on it.
-use Rattle.std.proofs.Common.{◌≡◌, ℕ, zero, suc, ◌-◌, ◌≤◌, true, false, List, [], ◌∷◌, ◌++◌}
-use Rattle.std.proofs.Common.{slice_get, slice_index_or, Some, option_map, Result, Ok, refl, ap}
-use Rattle.std.proofs.Common.{sym, subst, ◌∙◌, arith}
-use Rattle.std.proofs.lemmas.Option.{same_Some, slice_get-get_or}
+use Rattle.std.proofs.Common.{◌≡◌, ℕ, zero, suc, ◌-◌, ◌≤◌, true, false, List, [], ◌∷◌, ◌++◌, Some}
+use Rattle.std.proofs.Common.{Result, Ok, refl, ap, sym, subst, ◌∙◌, arith}
+use Rattle.std.proofs.lemmas.Option.{slice_get-get_or}
 use Rattle.std.specs.Global.{Vec}
-use Rattle.usb_port.specs.{IsPath, IsPortNumber, PortState, off, status_in, seen, PortStatus}
+use Rattle.usb_port.specs.{IsPath, IsPortNumber, PortState, status_in, seen, PortStatus}
 use Rattle.usb_port.proofs.Interface.{status_seen}
 use Rattle.usb_request.specs.{setup_of, bytes_of, Setup, get_port_status, PORT_OUT, SET_FEATURE}
-use Rattle.usb_device.specs.{Leaves, effect_of_request, asked_by_setup, Is, outcome, State, acted}
-use Rattle.usb_device.specs.{port_at, reach, Location, path_to, reach_on, state_on, port_there}
-use Rattle.usb_device.specs.{state_there}
-use Rattle.usb_tree.specs.{address_of, IsSettled}
-use Rattle.usb_world.specs.{LeavesPortAlone, World, IsRootPort, root_row, root_port_at as root_port}
-use Rattle.usb_world.specs.{Course, here, Was}
+use Rattle.usb_device.specs.{Leaves, effect_of_request, asked_by_setup, Is, outcome, State, port_at}
+use Rattle.usb_device.specs.{reach, Location, path_to, reach_on, state_on, port_there, state_there}
+use Rattle.usb_world.specs.{LeavesPortAlone, World, IsRootPort, root_port_at as root_port, Course}
+use Rattle.usb_world.specs.{here, Was}
 use Rattle.usb_world.proofs.Interface.{same_is}
-use Rattle.usb_tree.proofs.Interface.{equal_same}
 use Rattle.usb_transaction.specs.{Target, Answerer, is_at, AcceptedAt, NoThreeDamaged}
 use Rattle.usb_pipe.specs.{PipeFault, AnswerRead, ReadLeaves}
 use Rattle.usb_pipe.proofs.Interface.{read_leaves, who_reads}
 use Rattle.usb_address.specs.{AddressMap, MapHolds, WhileBusWorks}
-use Rattle.usb_address.proofs.Interface.{settled_attempt, place_ports, less_one, is_path-empty}
-use Rattle.usb_address.proofs.Interface.{no_root, port_below_at, reads_leave, same_setup}
+use Rattle.usb_address.proofs.Interface.{settled_attempt, less_one, is_path-empty, no_root}
+use Rattle.usb_address.proofs.Interface.{port_below_at, reads_leave, same_setup}
 use Rattle.usb_hub.specs.{IsBelow, HubPort, Root, External, PortStatusAt, ReadsPort, IsPort}
 use Rattle.usb_hub.specs.{RootRead, PortRead, Queried, ReadAs, HubServes, NoHubFailed}
 use Rattle.usb_hub.specs.{ControlCourse}
 use Rattle.usb_hub.proofs.RestingRequests.{behind_asks_nothing, resting_course}
 use Rattle.usb_hub.proofs.Backlogs.{asked_backlog, rests_backlog}
-use Rattle.usb_backlog.specs.{KeepsAll}
 use Rattle.usb_backlog.proofs.Interface.{all_none}
 use Rattle.usb_hub.proofs.Statuses.{row_port, StatusOf, read_status, came_status, status_host}
 use Rattle.usb_hub.proofs.Statuses.{status_some, status_plain}
 use Rattle.usb_hub.proofs.ToldBytes.{IsReadFrom, said}
-use Rattle.usb_hub.proofs.CallFailures.{same_port, status_served}
+use Rattle.usb_hub.proofs.CallFailures.{status_served}
 use Rattle.usb_hub.proofs.ControlCourses.{queried_control}
 
 -- Who answered
@@ -58,8 +53,7 @@ answered_at f t old new j o held a = record {
 }
   where
     claims : f (path_to a.spot) ≡ Some t.addr
-    claims = sym (o.own (path_to a.spot) a.was_on) ∙ ap (option_map address_of) a.stood
-        ∙ ap (λ n. Some n) (equal_same (address_of a.before) t.addr a.at)
+    claims = grind arith
 
     same : (path_to a.spot) ≡ (path_to j)
     same = same_is (path_to j) (path_to a.spot) (o.distinct (path_to j) (path_to a.spot) t.addr held
@@ -78,12 +72,10 @@ module _ (t : Target) (j : Location) (i : ℕ) (old new : World) (bytes : Vec �
   sets_no_port = refl
 
   was : Was (ReadLeaves t request (Ok bytes) old new) old j a.now
-  was = read_leaves t request (Ok bytes) old new (status_host (suc i)) (status_some (suc i))
-      (same_setup request) told.settled told.stages single j a.now a.on a.stands
+  was = grind (arith, read_leaves, same_setup, status_host, status_some)
 
   asked_it : is_at was.before t ≡ true
-  asked_it = subst (λ s. is_at s t ≡ true) (same_Some a.before was.before (sym a.stood
-      ∙ was.stands)) a.at
+  asked_it = grind arith
 
   done : AnswerRead t request bytes.items old new j was.before a.now
   done = was.so.done asked_it bytes refl
@@ -99,18 +91,14 @@ module _ (t : Target) (j : Location) (i : ℕ) (old new : World) (bytes : Vec �
   status = read_status (suc i) done
 
   effect : asked_by_setup was.before (setup_of (bytes_of request)) ≡ Leaves
-  effect = ap (asked_by_setup was.before) (same_setup request) ∙ status.nothing
+  effect = grind (arith, same_setup, status)
 
   in_row : port_at accepted_there.holder.below i [] ≡ Some status.port
   unfolding accepted_there
-  in_row = row_port accepted_there.holder.below i
-      ∙ ap (λ x. slice_get x i) (sym done.moment.accepts.had)
-      ∙ ap (slice_get done.row) (sym (less_one i)) ∙ status.stands
+  in_row = grind (arith, done, less_one, row_port, status)
 
   stood : port_at now.roots j.row (j.rest ++ (suc i ∷ [])) ≡ Some status.port
-  stood = port_below_at now.roots j.row j.rest (suc i) []
-      ∙ ap (λ x. port_at (place_ports x) i []) accepted_there.left
-      ∙ ap (λ x. port_at (acted x accepted_there.holder.below) i []) effect ∙ in_row
+  stood = grind (arith, accepted_there, effect, in_row, port_below_at)
 
   told_there : PortStatusAt ((path_to j) ++ (suc i ∷ [])) (status_in bytes.items) old new
   unfolding status
@@ -119,16 +107,13 @@ module _ (t : Target) (j : Location) (i : ℕ) (old new : World) (bytes : Vec �
     port = status.port;
     stood = stood;
     is = ap status_in (came_status (suc i) done) ∙ status_seen status.port;
-    before = resting_course t request (status_plain (suc i)) old now accepted_there;
+    before = search (accepted_there, resting_course, status_plain);
     since = λ x. behind_asks_nothing t x done.moment.since
-        (subst (λ w. IsSettled w.roots) (sym accepted_there.last)
-        (settled_attempt _ accepted_there.mid accepted_there.holder.made.settled));
+        (grind (arith, settled_attempt));
     row = record { parent = path_to j; number = suc i; is = refl; reached = a.on };
     untold = asked_backlog t request sets_no_port accepted_there told.settled;
-    rested = rests_backlog t done.moment.since
-        (subst (λ w. IsSettled w.roots) (sym accepted_there.last)
-        (settled_attempt _ accepted_there.mid accepted_there.holder.made.settled));
-    control = queried_control t request (Ok bytes) old new told tt;
+    rested = rests_backlog t done.moment.since (grind (arith, settled_attempt));
+    control = search queried_control;
   }
 
 at_hub : (t : Target) (f : AddressMap) (hub : List ℕ) (port : ℕ) (old new : World) (bytes : Vec ℕ)
@@ -143,10 +128,10 @@ at_hub t f (suc j ∷ e) (suc i) old new bytes is number held own told =
     told_there t (record { row = j; rest = e }) i old new bytes told after.single
     (answered_at f t old new (record { row = j; rest = e }) own held
     (who_reads t (get_port_status (suc i)) bytes old new (omega arith)
-    (same_setup (get_port_status (suc i))) told.settled told.stages after.single))
+    (search same_setup) told.settled told.stages after.single))
   where
     after : MapHolds f new
-    after = reads_leave f t (get_port_status (suc i)) (same_setup (get_port_status (suc i))) refl
+    after = reads_leave f t (get_port_status (suc i)) (search same_setup) refl
         refl old (Ok bytes) new told.stages own
 
 -- why it is not told
@@ -157,8 +142,7 @@ told_served : (t : Target) (n : ℕ) (old : World) (result : Result PortStatus P
     ≡ Some b → NoHubFailed result
 told_served t zero old result new told three single most x b stood =
     absurd (omega (arith, x.has.least))
-told_served t (suc i) old result new told three single most x b stood =
-    status_served t i old new three single most x b stood status_in result told
+told_served t (suc i) old result new told three single most x b stood = search status_served
 
 port_status_why : (hub : Target) (port : ℕ) (old : World) (result : Result PortStatus PipeFault)
     (new : World) → ReadAs status_in hub (get_port_status port) old result new
@@ -166,20 +150,15 @@ port_status_why : (hub : Target) (port : ℕ) (old : World) (result : Result Por
     → new.shared ≡ false → 8 ≤ h.max → (x : HubServes h n new)
     → (b : PortState) → port_there old.roots (path_to x.spot ++ (n ∷ [])) ≡ Some b
     → NoHubFailed result
-port_status_why hub port old result new told h n same =
-    let ends : _ = same_port hub h port n same in
-    told_served h n old result new (subst (λ t. ReadAs status_in t (get_port_status n) old result
-    new) (sym ends.0) (subst (λ m. ReadAs status_in hub (get_port_status m) old result new)
-    (sym ends.1) told))
+port_status_why hub port old result new told h n same = told_served h n old result new (grind arith)
 
 pub hub_tells : (hub_port : HubPort) (hub : Target) (port : ℕ) (old : World)
     (result : Result PortStatus PipeFault) (new : World) → hub_port ≡ External hub port
     → ReadAs status_in hub (get_port_status port) old result new → ReadsPort hub_port old result new
 hub_tells hub_port hub port old result new is told =
     rw is (record {
-      tells = λ f p at o status e. tells f p at o status
-          (subst (λ r. ReadAs status_in hub (get_port_status port) old r new) e told);
-      why = port_status_why hub port old result new told;
+      tells = λ f p at o status e. tells f p at o status (grind arith);
+      why = search port_status_why;
     })
   where
     tells : (f : AddressMap) (p : List ℕ) → IsBelow f hub.addr port p
@@ -187,23 +166,18 @@ hub_tells hub_port hub port old result new is told =
         → ReadAs status_in hub (get_port_status port) old (Ok status) new
         → PortStatusAt p status old new
     tells f p at o status told =
-        let read : IsReadFrom status_in told.answer status =
-        said status_in (get_port_status port).length told.answer status told.told in
+        let read : IsReadFrom status_in told.answer status = search said in
         subst (λ p. PortStatusAt p status old new) (sym at.path)
         (subst (λ s. PortStatusAt (at.hub ++ (port ∷ [])) s old new) (sym read.read_so)
         (at_hub hub f at.hub port old new read.bytes at.is_path at.number at.held
-        (o.so told.ends.sound) (subst (λ r. Queried hub (get_port_status port) old r new)
-        read.is told.asked)))
+        (o.so told.ends.sound) (grind arith)))
 
 -- The status of a root port
 
 root_stood : (number : ℕ) (w : World) → IsRootPort w number → port_there w.roots (number ∷ [])
     ≡ Some (root_port w number)
 unfolding root_port
-root_stood zero w is = absurd (omega (arith, is.0))
-root_stood (suc i) w is = row_port w.roots i
-    ∙ slice_get-get_or (root_row w) i off (omega (arith, is.1))
-    ∙ ap (λ n. Some (slice_index_or (root_row w) n off)) (sym (less_one i))
+root_stood number w is = grind (arith, row_port, slice_get-get_or)
 
 pub root_tells : (port : HubPort) (number : ℕ) (old : World) (result : Result PortStatus PipeFault)
     (new : World) → port ≡ Root number → IsPort old port → PortRead port old result new
@@ -216,16 +190,16 @@ root_tells port number old result new e is read = rw e (root (rw e at is) (rw e 
       tells = λ f p at o status told. record {
         now = old;
         port = root_port old number;
-        stood = ap (port_there old.roots) at ∙ root_stood number old is;
-        is = same_status status (sym told ∙ r.status);
+        stood = grind (arith, root_stood);
+        is = grind arith;
         before = λ x. here old;
         since = λ x. subst (λ w. Course (LeavesPortAlone x) old w) (sym r.same) (here old);
         row = record { parent = []; number = number; is = at; reached = refl };
         untold = all_none old;
-        rested = subst (KeepsAll old) (sym r.same) (all_none old);
+        rested = grind arith;
         control = subst (ControlCourse old) (sym r.same) (here old);
       };
-      why = λ hub n same. absurd (cc same);
+      why = grind arith;
     }
       where
         same_status : (status : PortStatus) → (let a : Result PortStatus PipeFault = Ok status in

@@ -1,11 +1,11 @@
 -- A request without data that resets no port asks nothing but of ports below the device that has
 -- its address.
-use Rattle.std.proofs.Common.{◌≡◌, ℕ, inl, inr, true, false, List, Result, refl, ap, ◌∙◌}
-use Rattle.usb_request.specs.{bytes_of, Setup}
+use Rattle.std.proofs.Common.{arith, ◌≡◌, ℕ, inl, inr, true, false, List, Result, refl, ap, ◌∙◌}
+use Rattle.usb_request.specs.{Setup}
 use Rattle.usb_world.specs.{Attempt, is_harmless, AsksNothing, is_above, LeavesPortAlone, Course}
 use Rattle.usb_world.specs.{attempt, after, World, Made}
 use Rattle.usb_world.proofs.Interface.{course_joined, elsewhere, holder_or_nobody, made_of}
-use Rattle.usb_transaction.specs.{Target, setup_attempt}
+use Rattle.usb_transaction.specs.{Target}
 use Rattle.usb_pipe.specs.{PipeFault, Writes, IsNoBusFault}
 use Rattle.usb_address.specs.{MapHolds}
 use Rattle.usb_address.proofs.Interface.{ClaimedAt, KeepsClaim, claimed_holder, nobody_asks_nothing}
@@ -18,7 +18,7 @@ use Rattle.usb_hub.proofs.RestingRequests.{behind_asks_nothing}
 attempt_elsewhere : (a : Attempt) (w : World) (q x : List ℕ) → ClaimedAt q a.addr w
     → Made w (after (attempt a) w) → is_above q x ≡ false → AsksNothing (attempt a) w x
 attempt_elsewhere a w q x claimed made apart =
-    elim (holder_or_nobody a w (made_of a w claimed.owned.settled made)
+    elim (holder_or_nobody a w (grind (arith, made_of))
     (unshared_after claimed.claims a w claimed.owned)) [
       | inl h ↦ elsewhere a w h x (ap (λ y. is_above y x)
           (claimed_holder q a.addr w claimed a refl h) ∙ apart)
@@ -32,12 +32,10 @@ order_elsewhere t request result old new writes harmless sound f q held own x ap
     course_joined trail.1 (behind_asks_nothing t x sent.behind trail.0.settled)
   where
     sent : Sent t request old new
-    sent = writes_sent t request old result new sound writes
+    sent = grind (arith, writes_sent)
 
     follows : KeepsClaim t request q (MapHolds f)
-    follows = quiet_follows t request (same_setup request) f q harmless held
+    follows = grind (arith, quiet_follows, same_setup)
 
     trail : MapHolds f sent.mid × Course (LeavesPortAlone x) old sent.mid
-    trail = trail_with (MapHolds f) follows.onward
-        (λ w made o. attempt_elsewhere (setup_attempt t (bytes_of request)) w q x
-        (follows.claimed w o) made apart) sent.trail own
+    trail = trail_with (MapHolds f) follows.onward (search attempt_elsewhere) sent.trail own

@@ -1,24 +1,22 @@
 -- A port that had no power, after a call that powered it: a change of connection is pending, or
 -- nothing is plugged there.
-use Rattle.std.proofs.Common.{◌≡◌, ℕ, zero, suc, ◌&&◌, ◌⊎◌, inl, inr, Bool, true, false, List, []}
+use Rattle.std.proofs.Common.{arith, ◌≡◌, ℕ, zero, suc, ◌⊎◌, inl, inr, Bool, true, false, List, []}
 use Rattle.std.proofs.Common.{◌∷◌, ◌++◌, Option, None, Some, option_map, refl, ap, sym, subst, ◌∙◌}
 use Rattle.std.proofs.lemmas.Option.{same_Some}
 use Rattle.usb_port.specs.{PortState, is_attached, speed_of, powered_on, SetPower}
-use Rattle.usb_device.specs.{State, Ports, vacant, taken, empty, full, port_of, called}
-use Rattle.usb_device.specs.{place, place_at, port_there, state_there, Place}
+use Rattle.usb_device.specs.{State, Ports, vacant, taken, empty, full, port_of, called, place}
+use Rattle.usb_device.specs.{place_at, port_there, state_there, Place}
 use Rattle.usb_world.specs.{Attempt, NoReset, is_made, made_resets, resets, spec_of, row_reached}
 use Rattle.usb_world.specs.{StillSet, UnchangedOrPending, Consistent, ConsistentPlace, Step}
-use Rattle.usb_world.specs.{attempt, after, with_attempt, at_attempt}
-use Rattle.usb_world.specs.{Course, here, step, WorldInvariant, World}
+use Rattle.usb_world.specs.{attempt, after, with_attempt, at_attempt, Course, here, step}
+use Rattle.usb_world.specs.{WorldInvariant, World}
 use Rattle.usb_tree.specs.{has_power, pending}
 use Rattle.usb_world.proofs.Interface.{MadeOrNot, attempt_cases, between_after, between_course}
 use Rattle.usb_world.proofs.Interface.{between_ready, course_bits, course_wider, made_reach}
 use Rattle.usb_world.proofs.Interface.{made_sound, pending_persists, reach_live, rests_or_pends}
 use Rattle.usb_world.proofs.Interface.{same_device, stands, stands_or_pends, state_stands}
 use Rattle.usb_world.proofs.Interface.{step_pend}
-use Rattle.usb_tree.proofs.Interface.{false_true}
-use Rattle.usb_address.proofs.Interface.{IsUp, NoPower, live_of_up, not_way, pend_of_up}
-use Rattle.usb_address.proofs.Interface.{ready_unpowered}
+use Rattle.usb_address.proofs.Interface.{NoPower, live_of_up, not_way, pend_of_up, ready_unpowered}
 use Rattle.usb_hub.specs.{ports_at_step, ActsAt, PortCallDone}
 use Rattle.usb_hub.proofs.CalledPorts.{port_of_place, due_course}
 
@@ -27,22 +25,19 @@ use Rattle.usb_hub.proofs.CalledPorts.{port_of_place, due_course}
 sane_place : (k : Ports) (j : ℕ) (p : List ℕ) (x : Place) → Consistent k → place_at k j p ≡ Some x
     → ConsistentPlace x
 unfolding Consistent ConsistentPlace place_at
-sane_place (vacant b k) zero [] x h e = subst ConsistentPlace (same_Some (empty b) x e) (h.0, h.1)
+sane_place (vacant b k) zero [] x h e = grind arith
 sane_place (vacant b k) (suc j) p x h e = sane_place k j p x h.2 e
-sane_place (taken b s a k) zero [] x h e = subst ConsistentPlace (same_Some (full b s a) x e)
-    (h.0, h.1, h.2, h.4, h.5)
+sane_place (taken b s a k) zero [] x h e = grind arith
 sane_place (taken b s a k) zero (suc i ∷ p) x h e = sane_place a i p x h.2 e
 sane_place (taken b s a k) (suc j) p x h e = sane_place k j p x h.3 e
 sane_place _ _ _ x h e = absurd (cc e)
 
 pub sane_there : (k : Ports) (p : List ℕ) (x : Place) → Consistent k → place k p ≡ Some x
     → ConsistentPlace x
-sane_there k (suc j ∷ p) x h e = sane_place k j p x h e
-sane_there k _ x h e = absurd (cc e)
+sane_there k p x h e = grind (arith, sane_place)
 
 pub state_of_place : (k : Ports) (p : List ℕ) → state_there k p ≡ stands (place k p)
-state_of_place k (suc j ∷ p) = sym (state_stands k j p)
-state_of_place k _ = refl
+state_of_place k p = grind (arith, state_stands)
 
 -- a powered port of a row that is live is live, and its change of connection is pending
 
@@ -50,27 +45,18 @@ live_there : (k : Ports) (q : List ℕ) (n : ℕ) (b : PortState) → Consistent
     → row_reached k q ≡ true → port_there k (q ++ (n ∷ [])) ≡ Some b → b.power ≡ true
     → (has_power k (q ++ (n ∷ [])) ≡ true)
     × (b.connection_changed ≡ true → pending k (q ++ (n ∷ [])) ≡ true)
-live_there k q n b sane on there h =
-    (live_of_up k q n b (up q on) there h, λ changed. pend_of_up k q n b (up q on) there h changed)
-  where
-    up : (q : List ℕ) → row_reached k q ≡ true → IsUp k q
-    up [] on = tt
-    up (zero ∷ e) on = false_true on
-    up (suc j ∷ e) on = reach_live k j e sane on
+live_there k q n b sane on there h = grind (arith, live_of_up, pend_of_up, reach_live)
 
 -- Steps about the port
 
 pub spec_of-none : (o v : Option State) → option_map spec_of o ≡ option_map spec_of v → v ≡ None
     → o ≡ None
-spec_of-none None v e h = refl
-spec_of-none (Some s) None e h = absurd (cc e)
-spec_of-none (Some s) (Some t) e h = absurd (cc h)
+spec_of-none o v e h = grind arith
 
 -- a row of ports that is reached was so before, where nothing on its way was reset
 pub row_reached-back : (q : List ℕ) {w v : World} → Course (NoReset q) w v
     → row_reached v.roots q ≡ true → row_reached w.roots q ≡ true
-row_reached-back [] c on = refl
-row_reached-back (m ∷ e) c on = (same_device (m ∷ e) c on).0
+row_reached-back q c on = grind (arith, same_device)
 
 module _ (q : List ℕ) (n : ℕ) where
   abbrev p : List ℕ
@@ -98,18 +84,16 @@ module _ (q : List ℕ) (n : ℕ) where
   powers m v sane o e sane_after on = pick (place m p) refl
     where
       unpowered : (x : Place) → place m p ≡ Some x → (port_of x).power ≡ false
-      unpowered x s = ap (λ b. b.power) (same_Some (port_of x) o.port
-          (sym (port_of_place m p ∙ ap (option_map port_of) s) ∙ o.there)) ∙ o.off
+      unpowered x s = grind (arith, port_of_place)
 
       alive : (x : Place) → place m p ≡ Some x → port_of (called SetPower x) ≡ powered_on
           (port_of x) → (has_power v.roots p ≡ true)
           × ((powered_on (port_of x)).connection_changed ≡ true → pending v.roots p ≡ true)
       alive x s is = live_there v.roots q n (powered_on (port_of x)) sane_after on
-          (port_of_place v.roots p ∙ ap (option_map port_of) (e
-          ∙ ap (option_map (called SetPower)) s) ∙ ap Some is) (rw (unpowered x s) refl)
+          (grind (arith, port_of_place)) (rw (unpowered x s) refl)
 
       pick : (x : Option Place) → place m p ≡ x → PendsOrVacant v
-      pick None s = absurd (cc (sym o.there ∙ port_of_place m p ∙ ap (option_map port_of) s))
+      pick None s = grind (arith, port_of_place)
       pick (Some (empty c)) s = inr (
         (alive (empty c) s refl).0,
         state_of_place v.roots p ∙ ap stands (e ∙ ap (option_map (called SetPower)) s),
@@ -140,38 +124,34 @@ module _ (q : List ℕ) (n : ℕ) where
           → row_reached (with_attempt a (at_attempt w)).roots q ≡ true
           → row_reached (at_attempt w).roots q ≡ true
       row_ready [] r h = refl
-      row_ready (m ∷ e) r h = made_reach a (at_attempt w) (m ∷ e) r h
+      row_ready (m ∷ e) r h = search made_reach
 
       made : w.fault ≡ None → is_made w.fault w ≡ true
           → after (attempt a) w ≡ with_attempt a (at_attempt w) → Finds (attempt a) w
       made sound so is = finds (record {
         port = still.now;
         there = still.stands;
-        off = ready_unpowered w p none still.now still.stands;
+        off = grind (arith, ready_unpowered);
       }) (between_ready w between).sane
         where
           none : NoPower (port_there w.roots p)
           none b h = ap (λ x. x.power) (same_Some b o.port (sym h ∙ o.there)) ∙ o.off
 
           reached : row_reached (at_attempt w).roots q ≡ true
-          reached = row_ready q (sym (ap (λ x. x && made_resets a (at_attempt w) q) so) ∙ rests)
-              (subst (λ v. row_reached v.roots q ≡ true) is on)
+          reached = row_ready q (grind arith)
+              (grind arith)
 
           still : StillSet o.port (port_there (at_attempt w).roots p)
           still = course_bits q n (course_wider (λ s w k. k.leaves)
               (due_course p w.left w refl sound)) reached o.port o.there
 
       cases : MadeOrNot a w (after (attempt a) w) → Finds (attempt a) w
-      cases (inl e) = nothing_done (ap (λ v. v.roots) e)
+      cases (inl e) = grind arith
       cases (inr m) = made (made_sound w m.0) m.0 m.1
 
   step_finds : (s : Step) (w : World) → WorldInvariant w → resets s w q ≡ false
       → row_reached (after s w).roots q ≡ true → Off w.roots → Finds s w
-  step_finds (attempt a) w between rests on o = attempt_finds a w between rests on o
-  step_finds _ w between rests on o = finds o between.sane
-
-  off_as : (k v : Ports) → port_there v p ≡ port_there k p → Off k → Off v
-  off_as k v e o = record { port = o.port; there = e ∙ o.there; off = o.off }
+  step_finds s w between rests on o = grind (arith, attempt_finds)
 
   no_reset : (s : Step) (w : World) → ActsAt p SetPower s w → resets s w q ≡ false
   no_reset s w k = (k.about.others q (not_way q n)).rests
@@ -185,16 +165,13 @@ module _ (q : List ℕ) (n : ℕ) where
           → (place (after s w).roots p ≡ place (ports_at_step s w) p)
           ⊎ (place (after s w).roots p ≡ option_map (called SetPower) (place (ports_at_step s w) p))
           → SoFar (after s w)
-      by_port m sane (inl e) = inl (off_as (ports_at_step s w) (after s w).roots
-          (port_of_place (after s w).roots p ∙ ap (option_map port_of) e
-          ∙ sym (port_of_place (ports_at_step s w) p)) m)
+      by_port m sane (inl e) = grind (arith, port_of_place)
       by_port m sane (inr e) = inr (powers (ports_at_step s w) (after s w) sane m e
           (between_after s w between).sane on)
 
       by_found : Finds s w → SoFar (after s w)
       by_found (finds m sane) = by_port m sane k.port
-      by_found (nothing_done e) = inl (off_as w.roots (after s w).roots (ap (λ t. port_there t p) e)
-          o)
+      by_found (nothing_done e) = grind arith
 
   -- and at a moment when it was called
   off_called : (s : Step) (w : World) → ActsAt p SetPower s w
@@ -204,32 +181,23 @@ module _ (q : List ℕ) (n : ℕ) where
   off_called s w k e between on o = by_found (step_finds s w between (no_reset s w k) on o)
     where
       powered : (c : PortState) → (powered_on c).power ≡ true
-      powered c = split c.power refl
-        where
-          split : (b : Bool) → c.power ≡ b → (powered_on c).power ≡ true
-          split true h = rw h refl
-          split false h = rw h refl
+      powered c = grind arith
 
       stays_off : (x : Option Place) → option_map port_of (option_map (called SetPower) x)
           ≡ Some o.port → ⊥
       stays_off None h = absurd (cc h)
-      stays_off (Some (empty c)) h = false_true (sym o.off
-          ∙ ap (λ b. b.power) (sym (same_Some (powered_on c) o.port h)) ∙ powered c)
-      stays_off (Some (full c t a)) h = false_true (sym o.off
-          ∙ ap (λ b. b.power) (sym (same_Some (powered_on c) o.port h)) ∙ powered c)
+      stays_off (Some (empty c)) h = grind arith
+      stays_off (Some (full c t a)) h = grind arith
 
       by_found : Finds s w → PendsOrVacant (after s w)
       by_found (finds m sane) = powers (ports_at_step s w) (after s w) sane m e
           (between_after s w between).sane on
-      by_found (nothing_done h) =
-          elim (stays_off (place (ports_at_step s w) p) (ap (option_map port_of) (sym e)
-          ∙ sym (port_of_place (after s w).roots p) ∙ ap (λ t. port_there t p) h ∙ o.there))
-          [ ]
+      by_found (nothing_done h) = grind (arith, port_of_place)
 
   -- what pends or is vacant stays so
   vacant_step : (s : Step) (w : World) → ActsAt p SetPower s w → PendsOrVacant w
       → PendsOrVacant (after s w)
-  vacant_step s w k (inl x) = inl (step_pend s w p (k.about.spares refl) x)
+  vacant_step s w k (inl x) = grind (arith, step_pend)
   vacant_step s w k (inr x) =
       elim (stands_or_pends p (step s (k.about.spares refl) (here (after s w))) x.0) [
         | inl y ↦ inr (
@@ -257,15 +225,11 @@ module _ (q : List ℕ) (n : ℕ) where
     row_now = row_reached-back q (course_wider (λ s w k. k.rests) (x.since q)) on
 
     row_before : row_reached x.before.roots q ≡ true
-    row_before = row_reached-back q (step x.last (no_reset x.last x.before x.acts)
+    row_before = row_reached-back q (step x.last (search no_reset)
         (here (after x.last x.before))) row_now
 
     now_vacant : PendsOrVacant (after x.last x.before)
-    now_vacant = elim (so_far x.repeats between row_before (inl o)) [
-      | inl y ↦ off_called x.last x.before x.acts x.done (between_course x.repeats between) row_now
-          y
-      | inr y ↦ vacant_step x.last x.before x.acts y
-    ]
+    now_vacant = grind (arith, between_course, off_called, row_before, row_now, so_far, vacant_step)
 
     since_vacant : PendsOrVacant new
     since_vacant = elim now_vacant [
@@ -275,11 +239,7 @@ module _ (q : List ℕ) (n : ℕ) where
       where
         later : state_there (after x.last x.before).roots p ≡ None
             → UnchangedOrPending (after x.last x.before) new p → PendsOrVacant new
-        later h (inl z) = inr (
-          z.0,
-          spec_of-none (state_there new.roots p)
-              (state_there (after x.last x.before).roots p) z.1.what h,
-        )
+        later h (inl z) = grind arith
         later h (inr z) = inl z
 
 pub powered_stands : (p : List ℕ) (old new : World) → PortCallDone p SetPower old new
@@ -290,9 +250,4 @@ powered_stands p old new x between b there off =
     subst (λ p. (pending new.roots p ≡ true)
     ⊎ ((has_power new.roots p ≡ true) × (state_there new.roots p ≡ None))) (sym x.row.is)
     (since_vacant x.row.parent x.row.number old new
-    (subst (λ p. PortCallDone p SetPower old new) x.row.is x) between x.row.reached
-    (record {
-      port = b;
-      there = subst (λ p. port_there old.roots p ≡ Some b) x.row.is there;
-      off = off;
-    }))
+    (grind arith) between x.row.reached (grind arith))

@@ -1,10 +1,9 @@
 -- Requests that ask nothing of any port.
 use Rattle.usb_device.specs.{Location, State}
-use Rattle.std.proofs.Common.{◌≡◌, ℕ, ◌≤◌, ◌==◌, ◌⊎◌, inl, inr, true, false, List, Result, refl, ap}
-use Rattle.std.proofs.Common.{sym, subst, ◌∙◌, arith}
-use Rattle.std.proofs.lemmas.Bool.Decides.{nat_tests}
+use Rattle.std.proofs.Common.{◌≡◌, ℕ, ◌⊎◌, inl, inr, true, false, List, Result, refl, sym, subst}
+use Rattle.std.proofs.Common.{arith}
 use Rattle.std.specs.Global.{Vec}
-use Rattle.usb_request.specs.{DEVICE_OUT, PORT_OUT, bytes_of, IsToHost, Setup}
+use Rattle.usb_request.specs.{bytes_of, IsToHost, Setup}
 use Rattle.usb_world.specs.{Attempt, is_setup, asks_no_port, LeavesPortAlone, World, Step, attempt}
 use Rattle.usb_world.specs.{Course}
 use Rattle.usb_tree.specs.{IsSettled}
@@ -21,8 +20,7 @@ use Rattle.usb_hub.specs.{TouchesNoPort}
 -- an attempt behind a SETUP is none
 pub no_set_up : {a b d : Attempt} → (a ≡ b) ⊎ (a ≡ d) → is_setup b.kind ≡ false
     → is_setup d.kind ≡ false → is_setup a.kind ≡ false
-no_set_up (inl e) f g = ap (λ y. is_setup y.kind) e ∙ f
-no_set_up (inr e) f g = ap (λ y. is_setup y.kind) e ∙ g
+no_set_up h f g = grind arith
 
 -- a step behind a SETUP asks nothing of any port
 pub behind_rests : (t : Target) (x : List ℕ) (s : Step) (w : World) → IsBehind t s w
@@ -44,17 +42,14 @@ resting_course t request plain old now at x =
     (trail_course (λ w made. asks w) at.trail) (asks at.mid))
   where
     asks : (w : World) → LeavesPortAlone x (attempt (setup_attempt t (bytes_of request))) w
-    asks w = payload_asks_nothing (setup_attempt t (bytes_of request)) w x
-        (ap asks_no_port (same_setup request) ∙ plain)
+    asks w = search (payload_asks_nothing, same_setup)
 
 -- a whole transfer of such a request
 module _ (t : Target) (request : Setup) (plain : asks_no_port request ≡ true) where
   step_rests : (x : List ℕ) (s : Step) (w : World) → IsOfTransfer t request s w → IsSettled w.roots
       → LeavesPortAlone x s w
   step_rests x s w (inl e) h =
-      subst (λ s. LeavesPortAlone x s w) (sym e)
-      (payload_asks_nothing (setup_attempt t (bytes_of request)) w x
-      (ap asks_no_port (same_setup request) ∙ plain))
+      subst (λ s. LeavesPortAlone x s w) (sym e) (search (payload_asks_nothing, same_setup))
   step_rests x s w (inr k) h = behind_rests t x s w k h
 
   transfer_rests : (x : List ℕ) {w v : World} → Course (IsOfTransfer t request) w v
@@ -64,8 +59,7 @@ module _ (t : Target) (request : Setup) (plain : asks_no_port request ≡ true) 
 -- an attempt behind one with data to the device is none
 pub behind_data_kind : (t : Target) (a : Attempt) (w : World) → IsBehindData t (attempt a) w
     → is_setup a.kind ≡ false
-behind_data_kind t a w (inl e) = ap (λ (y : Attempt). is_setup y.kind) e
-behind_data_kind t a w (inr x) = ap (λ (y : Attempt). is_setup y.kind) x.2
+behind_data_kind t a w h = grind arith
 
 -- a whole transfer with data to the device
 module _ (t : Target) (request : Setup) (plain : asks_no_port request ≡ true) where
@@ -83,28 +77,20 @@ module _ (t : Target) (request : Setup) (plain : asks_no_port request ≡ true) 
       → IsSettled old.roots → PutsData t request bytes old result new → IsNoBusFault result
       → TouchesNoPort old new
   put_rests bytes result old new settled puts sound x =
-      settled_wider (data_step_rests x)
-      ((put_attempts t request bytes result old new puts).whole sound) settled
+      settled_wider (data_step_rests x) (grind (arith, put_attempts)) settled
 
 read_asks_no_port : (request : Setup) → IsToHost request → asks_no_port request ≡ true
-read_asks_no_port request host = rw (
-  other request.request_type PORT_OUT host (omega arith),
-  other request.request_type DEVICE_OUT host (omega arith),
-) refl
-  where
-    other : (n m : ℕ) → 128 ≤ n → m ≤ 127 → (n == m) ≡ false
-    other n m far near = grind (arith, nat_tests, far, near)
+read_asks_no_port request host = grind arith
 
 pub reads_rests : (t : Target) (request : Setup) (result : Result (Vec ℕ) PipeFault)
     (old new : World) → IsToHost request → IsSettled old.roots → Reads t request old result new
     → IsNoBusFault result → TouchesNoPort old new
 reads_rests t request result old new host settled reads sound x =
     transfer_rests t request (read_asks_no_port request host) x
-    ((read_attempts t request result old new reads).whole sound) settled
+    (grind (arith, read_attempts)) settled
 
 pub write_rests : (t : Target) (request : Setup) (result : Result (Unit {0}) PipeFault)
     (old new : World) → IsSettled old.roots → Writes t request old result new
     → asks_no_port request ≡ true → IsNoBusFault result → TouchesNoPort old new
-write_rests t request result old new settled writes plain sound x =
-    transfer_rests t request plain x ((write_attempts t request result old new writes).whole sound)
-    settled
+write_rests t request result old new settled writes plain sound =
+    grind (arith, transfer_rests, write_attempts)
