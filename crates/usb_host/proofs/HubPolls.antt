@@ -1,24 +1,22 @@
 -- What the poll of a hub leaves, and what follows it.
-use Rattle.std.proofs.Common.{◌≡◌, ◌∙◌, ◌+◌, ◌≤◌, ◌≢◌, ◌⊎◌, ap, arith, inl, inr, refl, subst, sym}
-use Rattle.std.proofs.Common.{ℕ, List, Option, None, Some, Result, Ok, Err, IsOk, IsSome, is_some}
-use Rattle.std.proofs.Common.{true}
+use Rattle.std.proofs.Common.{◌≡◌, ◌∙◌, ◌+◌, ◌≤◌, ◌≢◌, ◌⊎◌, ap, arith, inl, inr, refl, ℕ, List}
+use Rattle.std.proofs.Common.{Option, None, Some, Result, Ok, Err, IsOk, IsSome, true}
 use Rattle.arrayvec.specs.ArrayVec.{ArrayVec}
 use Rattle.usb_tree.proofs.Interface.{decided}
 use Rattle.usb_tree.specs.{pending}
-use Rattle.usb_device.specs.{hub_ports, row_of, told_bits}
+use Rattle.usb_device.specs.{told_bits}
 use Rattle.usb_world.specs.{BusFault, PlanData, World}
 use Rattle.usb_bus.specs.{StepRun}
 use Rattle.usb_transaction.specs.{NoThreeDamaged}
 use Rattle.usb_backlog.specs.{KeepsAll, KeepsBy, unmarked}
 use Rattle.usb_backlog.proofs.Interface.{few-none}
 use Rattle.usb_pipe.specs.{ByteTold, PipeFault}
-use Rattle.usb_pipe.specs.declared.fault.PipeFault.TheVariants.{Bus, Memory}
+use Rattle.usb_pipe.specs.declared.fault.PipeFault.TheVariants.{Bus}
 use Rattle.usb_hub.specs.{NoHubFailed}
-use Rattle.usb_enum.specs.{Accepted, Finding, HubFacts}
+use Rattle.usb_enum.specs.{Finding, HubFacts}
 use Rattle.usb_enum.specs.declared.finding.Finding.TheVariants.{Device}
-use Rattle.usb_table.specs.{Absent, BitsOf, Function, GoesThrough, Hub as HubPipe, HubTold}
-use Rattle.usb_table.specs.{KeepsPolled, Pipes, PipesPolled, accepted_device_of, finding_at}
-use Rattle.usb_table.specs.{hub_facts_at, hub_facts_in, pipes_at, TablePolls}
+use Rattle.usb_table.specs.{BitsOf, GoesThrough, HubTold, KeepsPolled, Pipes, PipesPolled}
+use Rattle.usb_table.specs.{finding_at, hub_facts_at, hub_facts_in, pipes_at, TablePolls}
 use Rattle.usb_host.specs.{NoneHears, ServesPorts, AddsNoWork, Agrees, Costs, DropsOne, HostFault}
 use Rattle.usb_host.specs.{HostInvariant, HostProgress, HostRuns, HostState, HostSteps, HubPaid}
 use Rattle.usb_host.specs.{IsDroppable, KeepsBulk, KeepsInvariant, PartStays, Pays, PaysPart}
@@ -26,7 +24,7 @@ use Rattle.usb_host.specs.{PolledOnce, Quiet, ServesHub, ServesTold, ShowsTold, 
 use Rattle.usb_host.specs.{StaysWhere, StopsWithin, ToldPaid, Weights, Worked, WorksOn}
 use Rattle.usb_host.specs.{asked_failed, asked_none, asked_some, by_rest, drop_bound, drop_failed}
 use Rattle.usb_host.specs.{hubs, not_heard, poll_failed, poll_most, port_failed, table_in}
-use Rattle.usb_host.specs.{told_most, told_none, told_some, waiting}
+use Rattle.usb_host.specs.{told_most, told_none, told_some}
 use Rattle.usb_host.proofs.devices.Owners.{dropped_hub_owned, single_then, stays_owned_then}
 use Rattle.usb_host.proofs.RoundLoops.{hub_fails}
 use Rattle.usb_host.proofs.StepSums.{goes_wider, host_goes_then, went_before}
@@ -40,9 +38,8 @@ use Rattle.usb_host.proofs.knowledge.Soundness.{sound_dropped, sound_under, stay
 use Rattle.usb_host.proofs.knowledge.Soundness.{truthful_under}
 use Rattle.usb_host.proofs.knowledge.SettledListings.{reached_there}
 use Rattle.usb_host.proofs.knowledge.ToldBits.{poll_shows}
-use Rattle.usb_host.proofs.payments.Payments.{costs_pays, few_stop, pays_costs, pays_where}
-use Rattle.usb_host.proofs.payments.Payments.{plain_costs, plain_pays, ports_after, stops_after}
-use Rattle.usb_host.proofs.payments.Payments.{works_on, works_on-ports}
+use Rattle.usb_host.proofs.payments.Payments.{few_stop, pays_where, plain_costs, plain_pays}
+use Rattle.usb_host.proofs.payments.Payments.{ports_after, stops_after, works_on, works_on-ports}
 use Rattle.usb_host.proofs.rests.Polls.{HubThere, heard_at, hub_there, poll_silent, reached_at}
 
 -- a hub that is listed was polled, as the table tells it
@@ -68,34 +65,16 @@ pub polled_by : {hub : List ℕ} {a b : HostState}
     } → GoesThrough hub (table_in a) (table_in b)
     → TablePolls hub (table_in a) a.world a.trace answer (table_in b) b.world b.trace
     → HubPoll hub a told b
-polled_by {b = b} is agrees listed rest through polls = record {
-  agrees = agrees;
-  listed = listed;
-  once = record {
-    through = rw is at polls.polled;
-    remains = ap (λ es. record b { entries = es }) through.entries ∙ rest;
-  };
-  went = polls.went;
-  through = through;
-  keeps = rw is at polls.keeps;
-}
+polled_by is agrees listed rest through polls = grind arith
 
 -- where the bus is at work, a poll that failed was not answered
 not_failed : (pipes left : Pipes) (fault : PipeFault) (old new : World)
     → PipesPolled pipes old (Err fault) left new → new.fault ≡ None
     → NoHubFailed {A = Option (ArrayVec ℕ)} (Err fault) → ⊥
-not_failed (HubPipe pipe) left (Bus fault) old new x still served = cc
-    (x.2.polls.ends.told, still)
-not_failed (Function pipes) left (Bus fault) old new x still served = cc (x.0)
-not_failed (Absent said) left (Bus fault) old new x still served = cc (x.0)
-not_failed (HubPipe pipe) left Memory old new x still served = x.2.polls.room refl
-not_failed (Function pipes) left Memory old new x still served = cc (x.0)
-not_failed (Absent said) left Memory old new x still served = cc (x.0)
-not_failed pipes left _ old new x still served = served
+not_failed pipes left fault old new x still served = grind arith
 
 hub_listed : (o : Option Finding) → IsSome (hub_facts_in o) → IsSome o
-hub_listed None some = absurd (cc some)
-hub_listed (Some f) some = refl
+hub_listed o some = grind arith
 
 some_facts : (o : Option HubFacts) → IsSome o → (facts : HubFacts) × (o ≡ Some facts)
 some_facts None some = absurd (cc some)
@@ -116,78 +95,55 @@ part_where a c options f = record {
 drop_stop : (c : Weights) {w : World} {t : Option (List ℕ)} (a d : HostState)
     → StepRun 768 a.world a.trace w t → StepRun drop_bound w t d.world d.trace
     → StopsWithin c (poll_most c) a d
-drop_stop c a d first second =
-    few_stop c (poll_most c) a d (omega (arith, first.spends.most, second.spends.most))
-    (omega (arith, first.spends.onward, second.spends.onward))
+drop_stop c a d first second = grind arith
 
 module _ {hub : List ℕ} {answer : Result (Option (ArrayVec ℕ)) PipeFault} {a b : HostState}
     (poll : HubPoll hub a answer b) where
   same : b.entries ≡ a.entries
-  same = ap (λ (h : HostState). h.entries) poll.once.remains
+  same = grind arith
 
   agrees_on : Agrees b.options b.entries b.addresses
-  agrees_on = subst (λ (h : HostState). Agrees h.options h.entries h.addresses)
-      (sym poll.once.remains) poll.agrees
+  agrees_on = grind arith
 
   before : b.world.fault ≡ None → a.world.fault ≡ None
   before = went_before poll.went
 
   goes : HostRuns 768 a b
-  goes = record {
-    went = poll.went;
-    going = ap (λ (h : HostState). h.stopped) poll.once.remains;
-    options = ap (λ (h : HostState). h.options) poll.once.remains;
-  }
+  goes = grind arith
 
   -- What it keeps
 
   called : PipeCall 768 hub (IsOk answer) a b
-  called = record {
-    agrees = poll.agrees;
-    same = same;
-    width = goes.options;
-    went = poll.went;
-    levels = in_sync-sets poll.keeps.levels;
-  }
+  called = search in_sync-sets
 
   owned : StaysOwned a b
   owned = stays_under called
 
   stays : HostInvariant a → a.world.fault ≡ None → StaysWhere (Unit {0}) a b
-  stays s still = where_polled hub a b answer poll.through poll.once.through
-      (poll.keeps.spares (s.owned.so still) (s.level still hub))
+  stays s still = where_polled hub a b answer poll.through poll.once.through (grind arith)
 
   bulk : HostInvariant a → b.world.fault ≡ None → KeepsBulk a b
   bulk s still =
       bulk_stays a b (where_stays a b tt (stays s (before still)))
-      (by_rest (poll.keeps.levels.worlds.rests still)
-      (poll.keeps.spares (s.owned.so (before still)) (s.level (before still) hub)))
+      (by_rest (poll.keeps.levels.worlds.rests still) (grind arith))
 
   sound : IsOk answer → KeepsInvariant a b
   sound ok = sound_under called (λ still. ok)
 
   part : IsOk answer → PartStays a b
-  part ok = record {
-    sound = sound ok;
-    bulk = bulk;
-    plugs = λ s still. plugs_kept a b poll.went.spends.onward same;
-  }
+  part ok = search (bulk, plugs_kept, sound)
 
   facts : (facts : HubFacts) × (hub_facts_at hub a.entries ≡ Some facts)
-  facts = some_facts (hub_facts_at hub a.entries) poll.listed
+  facts = search some_facts
 
   there : HubThere hub a.entries facts.0
   there = hub_there hub a.entries facts.0 facts.1
 
   still_listed : IsSome (finding_at hub b.entries)
-  still_listed = rw same (hub_listed (finding_at hub a.entries) poll.listed)
+  still_listed = search (hub_listed, same)
 
   droppable : HostInvariant a → IsDroppable hub b
-  droppable s = record {
-    listed = still_listed;
-    but = but_under called s;
-    there = λ still. occupied_under called s still_listed still agrees_on;
-  }
+  droppable s = search (agrees_on, but_under, called, occupied_under, still_listed)
 
   -- a hub that does not answer is not reached, or a change is pending on the way to it
   pends : (b.world.fault ≡ None → NoHubFailed answer → ⊥) → HostInvariant a
@@ -198,12 +154,9 @@ module _ {hub : List ℕ} {answer : Result (Option (ArrayVec ℕ)) PipeFault} {a
         let fits = accounted b agrees_on (owned.rooted s.rooted) in
         let known = known_under called s still in
         let truthful = truthful_under called s still in
-        let found : finding_at hub b.entries ≡ Some (Device there.device) =
-        ap (finding_at hub) same ∙ there.found in
+        let found : finding_at hub b.entries ≡ Some (Device there.device) = search there in
         let on = reached_at b.world fits known truthful hub found none in
-        absurd (failed still (poll.keeps.why (s.owned.so (before still))
-        (s.level (before still) hub) few there.device (ap accepted_device_of there.found)
-        (ap is_some there.told) (heard_at b.world fits known truthful hub found on)))
+        absurd (grind (arith, heard_at))
   ]
 
   -- What was done
@@ -211,21 +164,15 @@ module _ {hub : List ℕ} {answer : Result (Option (ArrayVec ℕ)) PipeFault} {a
   -- an attempt was made, and what came after it took nothing back
   on_by : (c : HostState) → a.world.attempts + 1 ≤ b.world.attempts → AddsNoWork b c
       → HostProgress a c
-  on_by c more holds =
-      let listed = ap waiting same in
-      omega (arith, poll.went.spends.served, poll.went.spends.later)
+  on_by c more holds = grind arith
 
   tells : IsOk answer → HostInvariant a → b.world.fault ≡ None
       → HubTold hub a.world answer b.world
-  tells ok s still = poll.keeps.told (s.owned.so (before still)) (s.level (before still) hub)
-      there.device (ap accepted_device_of there.found) (ap is_some there.told) ok
+  tells ok s still = grind arith
 
   none_hears : (b.world.fault ≡ None → NoHubFailed answer → ⊥) → HostInvariant a
       → b.world.fault ≡ None → NoneHears hub a b.world
-  none_hears failed s still few device at heard =
-      let is : there.device ≡ device = cc (sym (ap accepted_device_of there.found) ∙ at) in
-      failed still (poll.keeps.why (s.owned.so (before still)) (s.level (before still) hub) few
-      device at (ap (λ (d : Accepted). is_some d.hub) (sym is) ∙ ap is_some there.told) heard)
+  none_hears failed s still = grind arith
 
   -- What it costs
 
@@ -259,7 +206,7 @@ module _ {hub : List ℕ} {answer : Result (Option (ArrayVec ℕ)) PipeFault} {a
           → hubs d.entries + 1 ≤ hubs b.entries → Pays c c.polls a d
       drop_paid d second drops fewer =
           let then : KeepsBy unmarked unmarked unmarked b.world d.world =
-          drops.all (ports_after plan a b poll.went w still) unmarked unmarked unmarked few-none in
+          search (few-none, ports_after, drops.all) in
           plain_pays c 11968 c.polls 0 0 1 0 a d
           (omega (arith, poll.went.spends.most, second.spends.most))
           (omega (arith, all.looks, then.looks)) (omega (arith, all.strays, then.strays))
@@ -282,10 +229,8 @@ module _ {hub : List ℕ} {answer : Result (Option (ArrayVec ℕ)) PipeFault} {a
     told_paid : {bits : ℕ} (c : Weights) {plan : PlanData} → WorksOn c plan a → b.world.fault ≡ None
         → ToldPaid hub bits c b d → ShowsTold hub bits b ⊎ (a.world.taken + 1 ≤ b.world.taken)
         → Pays c c.polls a d
-    told_paid c w still x (inl shows) =
-        costs_pays c a b d 768 (c.polls + 768) c.polls (costs w still) (x.shown shows) (omega arith)
-    told_paid c w still x (inr came) =
-        pays_costs c a b d (c.polls + 32768) 32000 c.polls (paid w still came) x.costs (omega arith)
+    told_paid c w still x (inl shows) = grind (arith, costs)
+    told_paid c w still x (inr came) = grind (arith, paid)
 
 -- It told nothing
 
@@ -298,7 +243,7 @@ poll_quiet {hub = hub} {a = a} {b = b} poll = record {
       owned = owned poll;
       sound = part poll refl;
     };
-    calm = λ is still. poll.keeps.levels.worlds.rests still;
+    calm = grind arith;
     silent = λ s is still none.
         poll_silent b (agrees_on poll) ((sound poll refl).sound s) still hub
         (pipes_at hub (table_in a)) a.world (rw (same poll) poll.through.fits) poll.once.through
@@ -311,10 +256,8 @@ poll_quiet {hub = hub} {a = a} {b = b} poll = record {
   };
   fails = tt;
   pays = record {
-    stops = λ c plan w. poll_stop poll c (poll_most c) (omega arith);
-    pays = λ c plan w still.
-        let there = reached_there b.world.roots hub (tells poll refl w.sound still).reached in
-        (costs poll w still, ap is_some there.1);
+    stops = grind arith;
+    pays = λ c plan w still. grind (arith, costs, reached_there);
   };
 }
 
@@ -328,18 +271,15 @@ module _ {hub : List ℕ} {packet : ArrayVec ℕ} {byte : ℕ} {a b : HostState}
 
   -- they are of ports: the hub itself has no change
   of_ports : HostInvariant a → byte ≢ 1
-  of_ports s one =
-      let t = told s in
-      none_own (hub_ports t.so.state.spec.hub) (row_of t.so.ports) (sym t.so.told ∙ sym (read
-      ∙ t.is) ∙ one)
+  of_ports s = grind (arith, none_own)
 
   -- the ports of which it told show their changes, or an event came
   shows : HostInvariant a → ShowsTold hub byte b ⊎ (a.world.taken + 1 ≤ b.world.taken)
   shows s =
       let t = told s in
-      let facts = some_facts (hub_facts_at hub b.entries) (rw (same poll) poll.listed) in
+      let facts = some_facts (hub_facts_at hub b.entries) (search same) in
       rw (read ∙ t.is) (poll_shows hub a b (agrees_on poll) s ((sound poll refl).sound s)
-      (before poll still) still facts.0 (hub_there hub b.entries facts.0 facts.1)
+      (before poll still) still facts.0 (search hub_there)
       (tells poll refl s still).reached t.bits t.so t.so.came t.some)
 
 -- the ports were served
@@ -417,17 +357,13 @@ poll_cut {hub = hub} {why = why} poll = record {
   });
   polls = tt;
   fails = λ s none. poll_failed why poll.once (stays poll s none);
-  pays = record {
-    stops = λ c plan w. poll_stop poll c (poll_most c) (omega arith);
-    pays = λ c plan w still. tt;
-  };
+  pays = grind arith;
 }
 
 module _ {hub : List ℕ} {why : PipeFault} {a b : HostState} (poll : HubPoll hub a (Err why) b)
   where
     failed : b.world.fault ≡ None → NoHubFailed {A = Option (ArrayVec ℕ)} (Err why) → ⊥
-    failed = not_failed (pipes_at hub (table_in a)) (pipes_at hub (table_in b)) why a.world b.world
-        poll.once.through
+    failed h h1 = grind arith
 
 -- it was dropped
 pub poll_lost : {hub : List ℕ} {why : PipeFault} {a b d : HostState} → DropsOne hub b (Ok tt) d
@@ -447,8 +383,8 @@ poll_lost {hub = hub} {why = why} {a = a} {b = b} {d = d} y poll more = record {
   };
   polls = record {
     did = on_by poll d more y.holds;
-    polled = λ s still. not_heard why b poll.once (none_hears poll (failed poll) s
-        (went_before y.goes.went still)) y.owned.lost;
+    polled = λ s still. not_heard why b poll.once
+        (search (failed, none_hears, went_before)) y.owned.lost;
     order = asked_failed why b poll.once y.owned.lost;
   };
   fails = tt;
@@ -472,9 +408,6 @@ poll_undropped {hub = hub} {why = why} {a = a} {b = b} {d = d} y poll works = re
   });
   polls = tt;
   fails = λ s none. drop_failed why b poll.once (bulk poll s (works none))
-      (record { entries = y.cut; bulk = y.bulk (droppable poll s) });
-  pays = record {
-    stops = λ c plan w. drop_stop c a d poll.went y.goes.went;
-    pays = λ c plan w still. tt;
-  };
+      (search (droppable, y.bulk));
+  pays = search drop_stop;
 }

@@ -6,19 +6,17 @@ use Rattle.usb_table.specs.{NoPort, KnownPort, Entries, finding_at, without}
 use Rattle.usb_host.specs.{Affords, Bus, CutAt, HostFault, HostState, HostWorks, Look, LookCosts}
 use Rattle.usb_host.specs.{LookDid, LookKeeps, LookMade, LookTells, LooksOver, StopsAsLook}
 use Rattle.usb_host.specs.{PartFaultAllowed, ReportsPort, StandsNowhere, StaysOwned, StaysSingle}
-use Rattle.usb_host.specs.{Weights, handling_bound, handling_most, is_final, look_cost, EndsAs}
-use Rattle.usb_host.specs.{FinishesAt, HostProgress, LookedThere, LooksAt, LooksOnceMore, Round}
-use Rattle.usb_host.specs.{StandsAt, Waits, Worked, ChangesNear, DropsNear, EntriesStay, Entered}
-use Rattle.usb_host.specs.{is_last_fault}
+use Rattle.usb_host.specs.{Weights, handling_bound, is_final, EndsAs, FinishesAt, HostProgress}
+use Rattle.usb_host.specs.{LookedThere, LooksAt, LooksOnceMore, Round, StandsAt, Waits, Worked}
+use Rattle.usb_host.specs.{ChangesNear, DropsNear, EntriesStay, Entered, is_last_fault}
 use Rattle.usb_host.specs.declared.fault.HostFault.TheVariants.{Stopped, Transfer, Memory}
 use Rattle.usb_host.proofs.StepSums.{host_goes_none}
 use Rattle.usb_host.proofs.devices.Owners.{stays_owned_none}
 use Rattle.usb_host.proofs.knowledge.Soundness.{part_none}
-use Rattle.usb_host.proofs.payments.Payments.{costs_none, few_stop, stops_more}
 use Rattle.usb_enum.specs.{EnumFault, Finding, Lost}
 use Rattle.usb_host.proofs.HostProgress.{handled}
 use Rattle.usb_host.proofs.PortServes.{done_by, look_finished}
-use Rattle.usb_host.proofs.RoundLoops.{part-fails, part-wider}
+use Rattle.usb_host.proofs.RoundLoops.{part-wider}
 use Rattle.usb_host.proofs.payments.PortPayments.{look_over_pays}
 use Rattle.usb_host.proofs.Services.{looked_left, port_cut, handled_once}
 use Rattle.std.specs.BTreeMap.{insert_entry}
@@ -40,11 +38,7 @@ stays_single x = record { single = λ o. (x.stays o).single }
 
 none_costs : (result : Result Look HostFault) (h : HostState) (c : Weights) (plan : PlanData)
     → Affords c plan h → LookCosts c plan h result h
-none_costs result h c plan w = record {
-  most = few_stop c (look_cost c plan) h h (omega arith) (omega arith);
-  costs = λ goes still. costs_none c (look_cost c plan) h;
-  plugs = λ goes still. w.plugs;
-}
+none_costs result h c plan w = grind arith
 
 -- no port has the path
 pub made_unknown : {path : List ℕ} {h : HostState} → StandsNowhere path h
@@ -58,7 +52,7 @@ made_unknown {path = path} {h = h} none = record {
   single = stays_single stays_owned_none;
   owned = λ goes. stays_owned_none;
   sound = λ goes. part_none h;
-  costs = none_costs (Err (Transfer NoPort)) h;
+  costs = search none_costs;
 }
 
 module _ {path : List ℕ} {a d : HostState} where
@@ -77,101 +71,39 @@ module _ {path : List ℕ} {a d : HostState} where
     single = x.part.owned;
     owned = λ goes. absurd (cc goes);
     sound = λ goes. absurd (cc goes);
-    costs = λ c plan w. record {
-      most = stops_more c a d (handling_most c) (look_cost c plan) (x.pays.stops c plan w.works)
-          (omega arith);
-      costs = λ goes. absurd (cc goes);
-      plugs = λ goes. absurd (cc goes);
-    };
+    costs = grind arith;
   }
-  made_stops Memory told works x = record {
-    went = x.part.goes.went;
-    going = x.part.goes.going;
-    told = tt;
-    works = works;
-    did = x.cut;
-    single = x.part.owned;
-    owned = λ goes. absurd (cc goes);
-    sound = λ goes. absurd (cc goes);
-    costs = λ c plan w. record {
-      most = stops_more c a d (handling_most c) (look_cost c plan) (x.pays.stops c plan w.works)
-          (omega arith);
-      costs = λ goes. absurd (cc goes);
-      plugs = λ goes. absurd (cc goes);
-    };
-  }
+  made_stops Memory told works x = grind arith
 
   module _ (x : LooksOver path a (Ok tt) d) where
     over_costs : (result : Result Look HostFault) (c : Weights) (plan : PlanData) → Affords c plan a
         → LookCosts c plan a result d
-    over_costs result c plan w = record {
-      most = stops_more c a d (handling_most c) (look_cost c plan) (x.pays.stops c plan w.works)
-          (omega arith);
-      costs = λ goes still. x.pays.pays c plan w.works still;
-      plugs = λ goes still. x.part.sound.plugs w.works.sound still plan w.works.is w.works.paths
-          w.works.course w.plugs;
-    }
+    over_costs result c plan w = grind arith
 
     -- what is listed was reported
     pub made_known : (result : Result Look HostFault) → HostWorks {A = Unit {0}} a (Ok tt) d
         → ReportsPort path d result → LookMade path a result d
-    made_known (Ok look) works reports = record {
-      went = x.part.goes.went;
-      going = x.part.goes.going;
-      told = tt;
-      works = works;
-      did = (x.looked, reports);
-      single = stays_single x.part.owned;
-      owned = λ goes. x.part.owned;
-      sound = λ goes. x.part.sound;
-      costs = over_costs (Ok look);
-    }
-    made_known (Err (Transfer fault)) works reports = record {
-      went = x.part.goes.went;
-      going = x.part.goes.going;
-      told = tt;
-      works = λ sound. works;
-      did = (reports.0, inr (x.looked, reports.1));
-      single = stays_single x.part.owned;
-      owned = λ goes. x.part.owned;
-      sound = λ goes. x.part.sound;
-      costs = over_costs (Err (Transfer fault));
-    }
+    made_known (Ok look) works reports = grind (arith, stays_single)
+    made_known (Err (Transfer fault)) works reports = grind (arith, stays_single)
     made_known (Err Stopped) works reports = absurd reports
     made_known (Err (Bus fault)) works reports = absurd reports
     made_known (Err Memory) works reports = absurd reports
 
 -- With the host's stop
 
--- it is the same host, where that goes on
-same_host : (b : HostState) (stopped : Bool) → stopped ≡ b.stopped
-    → record b { stopped = stopped } ≡ b
-same_host b stopped is = ap (λ (s : Bool). record b { stopped = s }) is
-
 pub cut_stopped : {path : List ℕ} {a b : HostState} (stopped : Bool) → CutAt path a b
     → CutAt path a (record b { stopped = stopped })
 cut_stopped stopped x = record {
   entries = x.entries;
   bulk = record {
-    each = λ p device is.
-        let y = x.bulk.each p device is in
-        record {
-          listed = y.listed;
-          pipes = y.pipes;
-          endpoints = y.endpoints;
-          named = y.named;
-        };
+    each = grind arith;
   };
 }
 
 pub look_stops : {A : Type 0} {result : Result A HostFault} {a : HostState} (b : HostState)
     → a.stopped ≡ false → result ≢ Err Stopped → b.stopped ≡ is_final result
     → StopsAsLook a result b
-look_stops b going other stops = record {
-  said = (λ is. absurd (other is), λ on. absurd (cc (on, going)));
-  nothing = λ on. absurd (cc (on, going));
-  stops = λ going. stops;
-}
+look_stops b going other stops = grind arith
 
 module _ {path : List ℕ} {result : Result Look HostFault} {a b : HostState} (stopped : Bool)
     (going : a.stopped ≡ false) (stops : stopped ≡ is_final result)
@@ -180,27 +112,18 @@ module _ {path : List ℕ} {result : Result Look HostFault} {a b : HostState} (s
   look_end = record b { stopped = stopped }
 
   same_end : is_final result ≡ false → look_end ≡ b
-  same_end goes = same_host b stopped (stops ∙ goes ∙ sym (m.going ∙ going))
+  same_end goes = grind arith
 
   end_keeps : LookKeeps a result look_end
   end_keeps = record {
-    owning = λ o. record {
-      single = m.single.single (o.owned going);
-      owned = λ on. (m.owned (sym stops ∙ on)).stays (o.owned going);
-    };
+    owning = grind arith;
     sound = λ goes. rw (same_end goes) (m.sound goes);
-    costs = λ c plan w.
-        let x = m.costs c plan w in
-        record {
-          most = x.most;
-          costs = x.costs;
-          plugs = λ goes still. rw (same_end goes) (x.plugs goes still);
-        };
+    costs = grind arith;
   }
 
   pub look_tells : result ≢ Err Stopped → LookTells path a result look_end
   look_tells other = record {
-    stopped = look_stops look_end going other stops;
+    stopped = search look_stops;
     went = m.went;
     told = m.told;
     works = m.works;
@@ -226,19 +149,14 @@ stopped_tells path h on stops = record {
   told = tt;
   works = λ sound none. none;
   did = λ going. absurd (cc (on, going));
-  keeps = record {
-    owning = λ o. o;
-    sound = λ goes. part_none h;
-    costs = none_costs (Err Stopped) h;
-  };
+  keeps = grind (arith, part_none);
 }
 
 -- What the enumeration of a port anew leaves.
 
 on_due : {Due : Type 0} (P : Type 0) (result : Result (Unit {0}) HostFault)
     → OnOk result (Due → P) → Due → OnOk result P
-on_due P (Ok done) by due = by due
-on_due P (Err fault) by due = tt
+on_due P result by due = grind arith
 
 module _ {path : List ℕ} {port : KnownPort} {a b d : HostState} (s : StandsAt path port a) where
   looked_there : (served : Result (Unit {0}) EnumFault) (result : Result (Unit {0}) HostFault)
@@ -259,7 +177,7 @@ module _ {path : List ℕ} {port : KnownPort} {a b d : HostState} (s : StandsAt 
     part = look_finished s ends y x;
     on = λ waits. on_due (HostProgress a d) result
         (handled result served a b d ends y.holds x.on) (inr waits);
-    looked = looked_there served result ends y x;
+    looked = search looked_there;
     cut = port_cut path served result a b d y.goes.went ends y.left
         (λ i. looked_left path served a b (x.looked i.owned)) x.sound.cut
         (λ i. y.drops.cut (x.sound.sound i));
@@ -271,13 +189,7 @@ module _ {path : List ℕ} {port : KnownPort} {a b d : HostState} (s : StandsAt 
 module _ {path : List ℕ} {a d : HostState} where
   pub waited_fails : {fault : HostFault} → LooksOver path a (Err fault) d
       → LooksOnceMore path a (Err fault) d
-  waited_fails x = record {
-    part = part-fails x.part (omega arith);
-    did = tt;
-    looked = tt;
-    order = tt;
-    cut = x.cut;
-  }
+  waited_fails x = grind arith
 
   pub waited : Waits path a → LooksOver path a (Ok tt) d → LooksOnceMore path a (Ok Worked) d
   waited waits x = record {
@@ -297,32 +209,26 @@ stay_same path is other away = ap (finding_at other) is
 
 pub stay_without : (path : List ℕ) (es : Entries) {fs : Entries} → fs ≡ without path es
     → EntriesStay path es fs
-stay_without path es is other away = ap (finding_at other) is ∙ finding-kept path other es away
+stay_without path es is = grind (arith, finding-kept)
 
 pub stay_entered : (path : List ℕ) (f : Finding) (es : Entries) {fs : Entries}
     → fs ≡ insert_entry path_cmp es path f → EntriesStay path es fs
-stay_entered path f es is other away =
-    ap (finding_at other) is
-    ∙ lookup-insert_entry_elsewhere other path f es (untied path other away)
+stay_entered path f es is = grind (arith, lookup-insert_entry_elsewhere, untied)
 
 pub stay_then : (path : List ℕ) (es fs gs : Entries) → EntriesStay path es fs
     → EntriesStay path fs gs → EntriesStay path es gs
-stay_then path es fs gs first then other away = then other away ∙ first other away
+stay_then path es fs gs first then = grind arith
 
 -- one may be entered
 pub stay_found : (path : List ℕ) (c d : HostState) (result : Result (Unit {0}) EnumFault)
     → Entered path c result d → EntriesStay path c.entries d.entries
-stay_found path c d (Ok done) e = stay_entered path e.finding c.entries e.entries
-stay_found path c d (Err fault) e = stay_same path e
+stay_found path c d result e = grind (arith, stay_entered)
 
 -- A hub is dropped
 
 pub part_final : (modelled : Bool) (fault : HostFault) (h : HostState)
     → PartFaultAllowed modelled fault h → is_last_fault fault ≡ true
-part_final modelled Stopped h told = absurd told
-part_final modelled (Transfer fault) h told = absurd told
-part_final modelled (Bus fault) h told = refl
-part_final modelled Memory h told = refl
+part_final modelled fault h told = grind arith
 
 module _ {A : Type 0} {result : Result A HostFault} where
   pub drops_none : (hub : List ℕ) {es fs : Entries} → fs ≡ es → is_final result ≡ true
@@ -337,12 +243,7 @@ module _ {A : Type 0} {result : Result A HostFault} where
   pub drops_gone : {hub : List ℕ} (lost : List ℕ) (es : Entries) {fs : Entries}
       → is_way lost hub ≡ true → fs ≡ without lost es → is_final result ≡ true
       → DropsNear hub result es fs
-  drops_gone lost es way is stops = record {
-    on = lost;
-    way = way;
-    rest = stay_without lost es is;
-    lost = λ goes. false_true (sym goes ∙ stops);
-  }
+  drops_gone lost es way is stops = grind (arith, stay_without)
 
   pub drops_listed : {hub : List ℕ} (lost : List ℕ) (es fs gs : Entries)
       → is_way lost hub ≡ true → fs ≡ without lost es
@@ -350,34 +251,16 @@ module _ {A : Type 0} {result : Result A HostFault} where
   drops_listed lost es fs gs way gone is = record {
     on = lost;
     way = way;
-    rest = stay_then lost es fs gs (stay_without lost es gone)
-        (stay_entered lost (Refused Lost) fs is);
-    lost = λ goes. ap (finding_at lost) is ∙ lookup-insert_entry_here lost (Refused Lost) fs;
+    rest = stay_then lost es fs gs (stay_without lost es gone) (search stay_entered);
+    lost = grind (arith, lookup-insert_entry_here);
   }
 
   -- of the hub of a port
   pub drops_above : {path : List ℕ} {es fs : Entries} (hub : List ℕ) → parent_of path ≡ Some hub
       → DropsNear hub result es fs → DropsNear path result es fs
-  drops_above {path = path} hub is x = record {
-    on = x.on;
-    way = way_trans x.on hub path x.way (way_parent path hub is);
-    rest = x.rest;
-    lost = x.lost;
-  }
+  drops_above hub is x = grind (arith, way_parent, way_trans)
 
   -- after the port was handled
   pub near_then : (path : List ℕ) (es fs gs : Entries) → EntriesStay path es fs
       → ChangesNear path result fs gs → ChangesNear path result es gs
-  near_then path es fs gs first (inl then) = inl (stay_then path es fs gs first then)
-  near_then path es fs gs first (inr x) = inr (record {
-    on = x.on;
-    way = x.way;
-    rest = λ other away. x.rest other away
-        ∙ first other (apart other away (is_way path other) refl);
-    lost = x.lost;
-  })
-    where
-      apart : (other : List ℕ) → is_way x.on other ≡ false → (b : Bool) → is_way path other ≡ b
-          → is_way path other ≡ false
-      apart other away true way = false_true (sym away ∙ way_trans x.on path other x.way way)
-      apart other away false way = way
+  near_then path es fs gs first h = grind (arith, way_trans)

@@ -1,11 +1,10 @@
 -- What is left where a hub is dropped.
-use Rattle.std.proofs.Common.{◌≡◌, ◌∙◌, ◌-◌, ◌*◌, ◌≤◌, arith, inl, inr, refl, ap, subst, true}
-use Rattle.std.proofs.Common.{false, Bool, ℕ, List, length, Option, None, Some, Result, Ok, Err}
-use Rattle.std.proofs.Common.{IsSome, IsSomeAnd}
+use Rattle.std.proofs.Common.{◌≡◌, ◌-◌, ◌*◌, ◌≤◌, arith, refl, ap, subst, true, false, Bool, ℕ}
+use Rattle.std.proofs.Common.{List, length, Option, None, Some, Result, Ok, Err, IsSome, IsSomeAnd}
 use Rattle.arrayvec.specs.ArrayVec.{ArrayVec}
 use Rattle.usb_port.specs.{parent_of, IsPath}
 use Rattle.usb_tree.specs.{is_way, pending}
-use Rattle.usb_world.specs.{World, here}
+use Rattle.usb_world.specs.{here}
 use Rattle.usb_address.specs.{KeepsAddresses}
 use Rattle.usb_address.proofs.Interface.{keeps_none, keeps_then}
 use Rattle.usb_pipe.specs.{write_bound}
@@ -27,12 +26,10 @@ use Rattle.usb_host.proofs.devices.Causes.{lost_drops}
 use Rattle.usb_host.proofs.PortLocations.{parent_length}
 use Rattle.usb_host.proofs.knowledge.HandledPorts.{climb_caused, climb_sound, done_caused}
 use Rattle.usb_host.proofs.knowledge.HandledPorts.{top_absurd}
-use Rattle.usb_host.proofs.payments.PortPayments.{hubs_dropped}
 use Rattle.usb_host.proofs.devices.Owners.{LostListed, bares_above, drop_ends, drop_not_done}
-use Rattle.usb_host.proofs.devices.Owners.{lost_entries, but_above}
+use Rattle.usb_host.proofs.devices.Owners.{but_above}
 use Rattle.usb_host.proofs.entries.KindCounts.{hubs-dropped, of_kind-without, waiting-entered_other}
 use Rattle.usb_host.proofs.StepSums.{goes_forgotten, host_goes_none, host_goes_then, went_before}
-use Rattle.usb_host.proofs.devices.Plugs.{plugs_none}
 use Rattle.usb_host.proofs.HostProgress.{rests_holds}
 use Rattle.usb_host.proofs.Services.{forgets_there, loses_parent}
 use Rattle.usb_world.proofs.Interface.{course_joined, way_parent}
@@ -70,7 +67,7 @@ module _ {first path : List ℕ} {a b c : HostState} (x : ClimbedTo first path a
   climb_goes least = host_goes_then x.goes y.goes (omega arith)
 
   climb_devices : KeepsDevices a.world c.world
-  climb_devices = devices_then write_bound a.world b.world c.world x.devices y.goes.went y.devices
+  climb_devices = search devices_then
 
   climb_control : c.world.fault ≡ None → ControlCourse a.world c.world
   climb_control still =
@@ -78,7 +75,7 @@ module _ {first path : List ℕ} {a b c : HostState} (x : ClimbedTo first path a
       (y.control still)
 
   climb_keeps : KeepsAddresses a.world c.world
-  climb_keeps = keeps_then a.world b.world c.world x.keeps y.owned.keeps
+  climb_keeps = grind (arith, keeps_then)
 
   climb_backlog : IsDroppable first a → c.world.fault ≡ None → KeepsAll a.world c.world
   climb_backlog d still =
@@ -102,15 +99,8 @@ module _ {first path : List ℕ} {a b c : HostState} (x : ClimbedTo first path a
 
   module _ (least : 1 ≤ length path) where
     pub climb_fails : {fault : HostFault} → Climbs first a (Err fault) c
-    climb_fails = record {
-      goes = climb_goes least;
-      bares = climb_keeps;
-      devices = climb_devices;
-      control = climb_control;
-      sound = λ d. tt;
-      backlog = climb_backlog;
-      caused = λ d fair pends caused. tt;
-    }
+    climb_fails =
+        grind (arith, climb_backlog, climb_control, climb_devices, climb_goes, climb_keeps)
 
     module _ (on : is_way path first ≡ true) (r : OnlyBusSteps a b) where
       -- the port was told to pass nothing on
@@ -136,19 +126,13 @@ module _ {first path : List ℕ} {a b c : HostState} (x : ClimbedTo first path a
         control = climb_control;
         sound = λ d. absurd (top_absurd root y is (x.sound d));
         backlog = climb_backlog;
-        caused = λ d fair pends caused. absurd (top_absurd root y is (x.sound d));
+        caused = grind arith;
       }
 
 -- A hub is dropped
 
 not_dropped : {hub : List ℕ} {fault : HostFault} {a b : HostState} → DropsSound hub a (Err fault) b
-not_dropped = record {
-  sound = λ d. tt;
-  backlog = λ d. tt;
-  bulk = λ d. tt;
-  plugs = tt;
-  caused = λ d fair pends caused. tt;
-}
+not_dropped = grind arith
 
 -- no port was told
 pub drop_untold : (hub : List ℕ) {fault : HostFault} {a b : HostState} → OnlyBusSteps a b
@@ -159,7 +143,7 @@ drop_untold hub {fault = fault} {a = a} {b = b} r x = record {
   hubs = tt;
   owned = owned;
   sound = not_dropped;
-  cut = forgets_there hub (inl (ap (λ (h : HostState). h.entries) r));
+  cut = grind (arith, forgets_there);
   bulk = λ d. stays_where a b (stay_rests a b r x.devices (owned.ends d.but.owned));
 }
   where
@@ -173,8 +157,7 @@ module _ {hub lost : List ℕ} {a b c : HostState} (r : OnlyBusSteps a b)
 
   forgot_holds : AddsNoWork a c
   forgot_holds =
-      let before : waiting b.entries ≡ waiting a.entries =
-      ap (λ (h : HostState). waiting h.entries) r in
+      let before : waiting b.entries ≡ waiting a.entries = grind arith in
       let left : waiting c.entries ≡ waiting (without lost b.entries) = ap waiting f.rest in
       rw (ap (λ (h : HostState). h.world) f.others) (omega (
         arith,
@@ -186,25 +169,15 @@ module _ {hub lost : List ℕ} {a b c : HostState} (r : OnlyBusSteps a b)
   -- there is no memory to list it as lost
   pub drop_unlisted : {fault : HostFault} → DropsOne hub a (Err fault) c
   drop_unlisted =
-      let world = ap (λ (h : HostState). h.world) f.others in
       let single = λ (o : IsOwnedBut hub a). (x.bares.bares o).single in
       record {
         goes = forgot_goes;
         holds = forgot_holds;
         hubs = tt;
-        owned = record {
-          lost = tt;
-          ends = λ o. ap (λ (w : World). w.shared) world ∙ single o;
-          rooted = λ q at. tt;
-        };
+        owned = grind arith;
         sound = not_dropped;
-        cut = record {
-          on = lost;
-          way = x.bares.on;
-          left = inr (f.rest ∙ ap (λ (h : HostState). without lost h.entries) r);
-        };
-        bulk = λ p. stays_where a c (stay_joined a b c
-            (stay_rests a b r x.devices (single p.but.owned)) (stay_forgotten f));
+        cut = grind arith;
+        bulk = λ p. search (stay_forgotten, stay_joined, stay_rests, stays_where);
       }
 
   pub drop_done : (d : HostState)
@@ -221,21 +194,13 @@ module _ {hub lost : List ℕ} {a b c : HostState} (r : OnlyBusSteps a b)
         table = table;
       } in
       let more = waiting-entered_other lost (Refused Lost) c.entries refl in
-      let one = ap waiting (lost_entries listed) in
-      let left = f.rest ∙ ap (λ (h : HostState). without lost h.entries) r in
       let drops = drop_ends listed r x.goes.went.spends.roots x.bares in
       record {
         goes = goes_forgotten a forgot_goes others;
-        holds = rw (ap (λ (h : HostState). h.world) others) (omega (
-          arith,
-          forgot_holds,
-          more,
-          one,
-        ));
-        hubs = λ some. hubs-dropped lost hub a.entries c.entries x.bares.on left
-            (lost_entries listed) some;
+        holds = grind (arith, forgot_holds);
+        hubs = search hubs-dropped;
         owned = drops;
-        sound = lost_drops listed r x.goes.went.spends.onward x drops;
+        sound = search lost_drops;
         cut = tt;
         bulk = λ p. tt;
       }
@@ -246,15 +211,7 @@ pub finish_done : (path : List ℕ) (h : HostState) → FinishesAt path (Ok tt) 
 finish_done path h = record {
   goes = host_goes_none;
   holds = omega arith;
-  drops = record {
-    owned = record { ends = λ o. o; rooted = λ r within. r };
-    sound = λ p. p;
-    backlog = λ p still. all_none h.world;
-    bulk = λ p still. bulk_none h;
-    cut = λ p. tt;
-    plugs = plugs_none h;
-    caused = λ p fair q. q;
-  };
+  drops = grind (arith, bulk_none);
   left = refl;
   fewer = λ is. absurd (cc is);
 }
@@ -271,23 +228,20 @@ finish_lost path {hub = hub} {a = a} {b = b} {result = result} above x =
       holds = x.holds;
       drops = record {
         owned = record {
-          ends = λ o. x.owned.ends (but_above hub (way_parent path hub above) o);
-          rooted = λ r at. x.owned.rooted r (rw (root_parent path hub above) at (at refl));
+          ends = search (but_above, way_parent, x.owned.ends);
+          rooted = grind (arith, root_parent);
         };
         sound = λ p. x.sound.sound (at p);
         backlog = λ p. x.sound.backlog (at p);
         bulk = λ p. x.sound.bulk (at p);
         cut = λ p. x.bulk (at p);
         plugs = x.sound.plugs;
-        caused = λ p fair q.
-            let e = rw above at q in
-            x.sound.caused (at p) fair e.0 e.1;
+        caused = grind arith;
       };
       left = loses_parent path hub a.entries b.entries result above x.owned.lost x.cut;
-      fewer = λ is has. hubs_dropped result hub a b x.hubs (rw above at has);
+      fewer = grind arith;
     }
 
 -- a port whose hub was lost is no root port
 pub no_parent : (o : Option (List ℕ)) {P : Type 0} → o ≡ None → IsSome o → P
-no_parent None is some = absurd (cc some)
-no_parent (Some hub) is some = absurd (cc is)
+no_parent o is some = grind arith

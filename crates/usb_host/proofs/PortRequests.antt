@@ -1,16 +1,15 @@
 -- What requests at a port leave, one after the other.
-use Rattle.usb_device.specs.{path_to, port_there}
+use Rattle.usb_device.specs.{path_to}
 use Rattle.std.proofs.Common.{◌≡◌, inl, inr, refl, sym, ap, subst, ◌∙◌, ℕ, true, false, List}
 use Rattle.std.proofs.Common.{Option, None, Some, Result, Ok, Err, IfOk, OnOk, ◌⊎◌, ◌+◌, ◌*◌, ◌≤◌}
 use Rattle.std.proofs.Common.{arith, Bool, IfErr, IsOk}
-use Rattle.std.specs.Global.{Vec}
 use Rattle.std.proofs.lemmas.List.{same_from_push}
 use Rattle.usb_request.specs.{PORT_ENABLE, C_PORT_CONNECTION, C_PORT_ENABLE, C_PORT_RESET}
-use Rattle.usb_port.specs.{PortStatus, status_in, PortCall, ClearEnable, ClearConnectionChange}
-use Rattle.usb_port.specs.{ClearResetChange, clear_call, is_reset, ClearEnableChange}
+use Rattle.usb_port.specs.{PortStatus, PortCall, ClearEnable, ClearConnectionChange}
+use Rattle.usb_port.specs.{ClearResetChange, clear_call, is_reset}
 use Rattle.usb_backlog.specs.{gives_power, KeepsAll}
 use Rattle.usb_tree.specs.{pending}
-use Rattle.usb_world.specs.{here, World, HasFault, AttemptsWithin, BusFault}
+use Rattle.usb_world.specs.{here, World, HasFault, BusFault}
 use Rattle.usb_world.proofs.Interface.{course_joined, course_wider, pending_persists}
 use Rattle.usb_bus.specs.{StepRun}
 use Rattle.usb_address.specs.{AddressMap, MapHolds, WhileBusWorks, KeepsAddresses}
@@ -19,25 +18,23 @@ use Rattle.usb_transaction.specs.{NoThreeDamaged, Target}
 use Rattle.usb_pipe.specs.{PipeFault, IsNoBusFault, FaultAfter, write_bound}
 use Rattle.usb_pipe.specs.declared.fault.PipeFault.TheVariants as pipe
 use Rattle.usb_hub.specs.{HubPort, Root, External, IsAt, KeepsDevices, KeepsAsked, KeepsCleared}
-use Rattle.usb_hub.specs.{ReadsPort, CommandsPort, IsCall, PortRead, TouchesNoPort, said_in}
-use Rattle.usb_hub.specs.{NoHubFailed, ClearsOfPort, PortCleared, order_bound, status_bound}
-use Rattle.usb_hub.specs.{EndsAfter, ClearsOfHub, StillWorks, WorksAfter}
-use Rattle.usb_hub.proofs.Interface.{keeps_devices_none, clear_works, hub_change_works}
-use Rattle.usb_hub.proofs.Interface.{port_change_works, read_works}
+use Rattle.usb_hub.specs.{ReadsPort, CommandsPort, IsCall, PortRead, TouchesNoPort, NoHubFailed}
+use Rattle.usb_hub.specs.{ClearsOfPort, PortCleared, order_bound, status_bound, ClearsOfHub}
+use Rattle.usb_hub.specs.{StillWorks, WorksAfter}
+use Rattle.usb_hub.proofs.Interface.{keeps_devices_none, hub_change_works, read_works}
 use Rattle.usb_backlog.proofs.Interface.{all_none, all_then}
 use Rattle.usb_enum.specs.{EnumFault, ParentLost, CanFail, fault_at_port, at_port, IsInOrder}
-use Rattle.usb_enum.specs.{read_bound, FaultAllowedAt, Bus, Memory, EnumWorks}
-use Rattle.usb_enum.proofs.Interface.{devices_then, went_in_order, went_three, at_port_works}
-use Rattle.usb_enum.proofs.Interface.{order_most}
+use Rattle.usb_enum.specs.{read_bound, Bus, EnumWorks}
+use Rattle.usb_enum.proofs.Interface.{devices_then, went_in_order, went_three}
 use Rattle.usb_host.specs.{LetsGoOn, RestElsewhere, HasWay, IsLost, Watches, Tidies, ClearsChange}
 use Rattle.usb_host.specs.{Decides, BaresPort, ClearsReset, ClearsConnection, clearing_bound}
-use Rattle.usb_host.specs.{HasOnlyWorldChanges, HostState, Gained, ProgressOnOk, IsDue, Requested}
-use Rattle.usb_host.specs.{Shown, HostRuns, HostSteps, ClearsError, ClearsFeature, ClearsOthers}
-use Rattle.usb_host.specs.{ClearsOwn, ClearsPort, ClearsWhere, SettlesPort, ShowsPort, TidiesPort}
+use Rattle.usb_host.specs.{HasOnlyWorldChanges, HostState, ProgressOnOk, IsDue, Requested, Shown}
+use Rattle.usb_host.specs.{HostRuns, HostSteps, ClearsError, ClearsFeature, ClearsOthers, ClearsOwn}
+use Rattle.usb_host.specs.{ClearsPort, ClearsWhere, SettlesPort, ShowsPort, TidiesPort}
 use Rattle.usb_host.specs.{ClearsAndReads, ClearsTold, ClearsBoth, ClearsReported, DisablesAfter}
 use Rattle.usb_host.specs.{DoneWhere, first_failed, is_stuck, next_done}
 use Rattle.usb_host.proofs.StepSums.{went_before, status_read_goes, goes_by, host_goes_none}
-use Rattle.usb_host.proofs.StepSums.{host_goes_then, goes_wider}
+use Rattle.usb_host.proofs.StepSums.{host_goes_then}
 use Rattle.usb_host.proofs.payments.Backlogs.{call_all, connection_done, reset_done}
 use Rattle.usb_host.proofs.rests.ClearedPorts.{cleared_way, told_decides, decided_stays, bares_kept}
 use Rattle.usb_host.proofs.rests.ClearedPorts.{keeps_each_then, cleared_steady}
@@ -45,7 +42,7 @@ use Rattle.usb_host.proofs.devices.Owners.{bares_after}
 use Rattle.usb_host.proofs.knowledge.TidiedPorts.{Tidy, enable, reset, tidy_call, holds_at_then}
 use Rattle.usb_host.proofs.knowledge.TidiedPorts.{holds_same, tidied_holds}
 use Rattle.usb_request.specs.declared.hub_feature.TheConstants.{C_PORT_OVER_CURRENT, C_PORT_SUSPEND}
-use Rattle.usb_tree.proofs.Interface.{both, decided, false_true}
+use Rattle.usb_tree.proofs.Interface.{decided}
 use Rattle.usb_bus.proofs.Interface.{went_then}
 use Rattle.usb_table.specs.{IsAskable}
 use Rattle.usb_host.proofs.Services.{call_done, done_not}
@@ -56,55 +53,35 @@ use Rattle.usb_host.proofs.Services.{call_done, done_not}
 
 pub goes_sound : (A B : Type 0) (fault : PipeFault) → LetsGoOn {A = A} (Err (fault_at_port fault))
     → IsNoBusFault {A = B} (Err fault)
-goes_sound A B (pipe.Bus fault) h = absurd h
-goes_sound A B _ h = tt
+goes_sound A B fault h = grind arith
 
 pub sound_by : {A : Type 0} (result : Result A PipeFault) → LetsGoOn (at_port result)
     → IsNoBusFault result
-sound_by (Ok x) h = tt
-sound_by {A = A} (Err fault) h = goes_sound A A fault h
-
-unserved_by : (A B : Type 0) (fault : PipeFault) → fault_at_port fault ≡ ParentLost
-    → NoHubFailed {A = B} (Err fault) → ⊥
-unserved_by A B (pipe.Bus fault) e h = absurd (cc e)
-unserved_by A B pipe.Memory e h = absurd (cc e)
-unserved_by A B _ e h = h
+sound_by result h = grind arith
 
 pub lost_unserved : {A : Type 0} (result : Result A PipeFault) → at_port result ≡ Err ParentLost
     → NoHubFailed result → ⊥
-lost_unserved (Ok x) e h = absurd (cc e)
-lost_unserved {A = A} (Err fault) e h = unserved_by A A fault (cc e) h
+lost_unserved result e h = grind arith
 
 -- A status
-
-said_sound : {A : Type 0} (read : List ℕ → A) (size : ℕ) (answer : Result (Vec ℕ) PipeFault)
-    → IsNoBusFault (said_in read size answer) → IsNoBusFault answer
-said_sound read size (Err (pipe.Bus fault)) h = h
-said_sound read size _ h = tt
 
 pub port_read_rests : (port : HubPort) (old : World) (result : Result PortStatus PipeFault)
     (new : World) → PortRead port old result new → IsNoBusFault result → TouchesNoPort old new
 port_read_rests (Root number) old result new read sound = rw read.same (λ x. here old)
-port_read_rests (External hub number) old result new read sound =
-    read.asked.rests (said_sound status_in _ read.answer (rw read.told at sound))
+port_read_rests (External hub number) old result new read sound = grind arith
 
 pub port_read_backlog : (port : HubPort) (old : World) (result : Result PortStatus PipeFault)
     (new : World) → PortRead port old result new → IsNoBusFault result → KeepsAll old new
-port_read_backlog (Root number) old result new read sound = rw read.same (all_none old)
-port_read_backlog (External hub number) old result new read sound =
-    read.asked.backlog (said_sound status_in _ read.answer (rw read.told at sound))
+port_read_backlog port old result new read sound = grind (arith, all_none)
 
 pub ok_at_port : {A : Type 0} (result : Result A PipeFault) {x : A} → at_port result ≡ Ok x
     → result ≡ Ok x
-ok_at_port (Ok y) e = ap Ok (cc e)
-ok_at_port (Err fault) e = absurd (cc e)
+ok_at_port result e = grind arith
 
 -- a hub answered
 still_by : (port : HubPort) (old : World) (result : Result PortStatus PipeFault) (new : World)
     → PortRead port old result new → CanFail port → OnOk (at_port result) (old.fault ≡ None)
-still_by (Root number) old result new read can = absurd can
-still_by (External hub number) old (Ok status) new read can = read.ends.sound
-still_by (External hub number) old (Err fault) new read can = tt
+still_by port old result new read can = grind arith
 
 pub watched : (port : HubPort) (old : World) (result : Result PortStatus PipeFault) (new : World)
     → PortRead port old result new → ReadsPort port old result new → KeepsAsked port old result new
@@ -112,9 +89,9 @@ pub watched : (port : HubPort) (old : World) (result : Result PortStatus PipeFau
 watched port old result new read tells asked = record {
   addresses = asked.keeps;
   devices = asked.devices;
-  rests = λ goes. port_read_rests port old result new read (sound_by result goes);
-  backlog = λ goes. port_read_backlog port old result new read (sound_by result goes);
-  told = λ f p at owned status e. tells.tells f p at owned status (ok_at_port result e);
+  rests = grind (arith, port_read_rests);
+  backlog = grind (arith, port_read_backlog);
+  told = search (ok_at_port, tells.tells);
   still = still_by port old result new read;
   lost = lost;
 }
@@ -124,7 +101,7 @@ watched port old result new read tells asked = record {
     lost p (inl on) few still single e hub number is most serves path =
         let b : _ = live_port old.roots p on in
         absurd (lost_unserved result e (tells.why hub number is few single most serves b.0
-        (subst (λ l. port_there old.roots l ≡ Some b.0) path b.1)))
+        (grind arith)))
     lost p (inr x) few still single e hub number is most serves path =
         let same = (same_from_push x.0 (path_to serves.spot) x.1 number (sym x.2 ∙ path)).0 in
         subst (λ l. pending new.roots l ≡ true) same
@@ -135,24 +112,17 @@ watched port old result new read tells asked = record {
 -- A clearing of a change bit of enable or reset
 
 tidy_reset : (t : Tidy) → is_reset (tidy_call t) ≡ true → ⊥
-tidy_reset enable e = absurd (cc e)
-tidy_reset reset e = absurd (cc e)
+tidy_reset t e = grind arith
 
 tidy_power : (t : Tidy) → gives_power (tidy_call t) ≡ true → ⊥
-tidy_power enable e = absurd (cc e)
-tidy_power reset e = absurd (cc e)
+tidy_power t e = grind arith
 
 module _ {port : HubPort} (feature : ℕ) {c : PortCall} (is : clear_call feature ≡ Some c)
     {old : World} {result : Result (Unit {0}) PipeFault} {new : World}
     (calls : CommandsPort port (clear_call feature) old result new) where
   pub call_of : (is_reset c ≡ true → ⊥) → {f : AddressMap} (p : List ℕ) → IsAt f port p
       → WhileBusWorks (MapHolds f) old → IsCall f port p (clear_call feature) c old
-  call_of other p at owned = record {
-    at = at;
-    is = is;
-    alone = λ resets. absurd (other resets);
-    owned = owned;
-  }
+  call_of other p at owned = grind arith
 
   -- a hub that serves the port does it
   pub call_lost : (p : List ℕ) → NoThreeDamaged old → new.fault ≡ None → new.shared ≡ false
@@ -179,7 +149,7 @@ call_tidies port feature tidy is old result new calls keeps = record {
   where
     call : (f : AddressMap) (p : List ℕ) → IsAt f port p → WhileBusWorks (MapHolds f) old
         → IsCall f port p (clear_call feature) (tidy_call tidy) old
-    call f p at owned = call_of feature is calls (tidy_reset tidy) p at owned
+    call f p at owned = search (call_of, tidy_reset)
 
     done_by : (r : Result (Unit {0}) PipeFault) → at_port r ≡ Ok tt → r ≡ Ok tt
     done_by (Ok tt) e = refl
@@ -196,7 +166,7 @@ tidies_none port w = record {
   addresses = keeps_none w;
   devices = keeps_devices_none w;
   others = λ f p at owned goes x away. here w;
-  stays = λ f p at owned done x way. holds_same {x = x} w {v = w} refl;
+  stays = search holds_same;
   backlog = λ f p at owned goes. all_none w;
   lost = λ p few still single e. absurd (cc e);
 }
@@ -209,13 +179,11 @@ disabled_so status (Err fault) = Err (fault_at_port fault)
 pub connection_call : {port : HubPort} {w : World} {f : AddressMap} {p : List ℕ} → IsAt f port p
     → WhileBusWorks (MapHolds f) w
     → IsCall f port p (clear_call C_PORT_CONNECTION) ClearConnectionChange w
-connection_call at owned =
-    record { at = at; is = refl; alone = λ resets. absurd (cc resets); owned = owned }
+connection_call at owned = grind arith
 
 enable_call : {port : HubPort} {w : World} {f : AddressMap} {p : List ℕ} → IsAt f port p
     → WhileBusWorks (MapHolds f) w → IsCall f port p (clear_call PORT_ENABLE) ClearEnable w
-enable_call at owned =
-    record { at = at; is = refl; alone = λ resets. absurd (cc resets); owned = owned }
+enable_call at owned = grind arith
 
 -- Calls one after another
 
@@ -236,7 +204,7 @@ module _ {port : HubPort} {m n : ℕ} {old mid new : World} {t s r q : Option (L
         (y.stays f p at (x.addresses.kept f owned) done z way);
     backlog = λ f p at owned goes. all_then (x.backlog f p at owned tt)
         (y.backlog f p at (x.addresses.kept f owned) goes);
-    lost = λ p few still alone e. y.lost p (went_three m old mid before few) still alone e;
+    lost = search (went_three, y.lost);
   }
 
   -- the change of connection was cleared before
@@ -255,7 +223,7 @@ module _ {port : HubPort} {m n : ℕ} {old mid new : World} {t s r q : Option (L
         (x.backlog f p at (k.kept f owned) goes);
     decides = λ f p at owned way order still. x.decides f p at (k.kept f owned)
         (cleared_way p mid (calls.done f p ClearConnectionChange (connection_call at owned) refl)
-        way) (went_in_order m old mid before order) still;
+        way) (search went_in_order) still;
     lost = λ f p at owned way few still alone e. x.lost f p at (k.kept f owned)
         (cleared_way p mid (calls.done f p ClearConnectionChange (connection_call at owned) refl)
         way) (went_three m old mid before few) still alone e;
@@ -280,7 +248,7 @@ module _ {port : HubPort} {m n : ℕ} {old mid new : World} {t s r q : Option (L
         (λ x away. port_read_rests port old (Ok status) mid read tt x)
         (calls.rests f p ClearEnable (enable_call at (asked.keeps.kept f owned))
         (goes_by result goes));
-    decides = λ f p at owned way order still. decided result f p at owned way order still calls;
+    decides = grind (arith, decided);
     backlog = λ f p at owned goes.
         all_then (port_read_backlog port old (Ok status) mid read tt)
         (call_all (λ g. absurd (cc g)) (λ g. absurd (cc g))
@@ -306,7 +274,7 @@ module _ {port : HubPort} {m n : ℕ} {old mid new : World} {t s r q : Option (L
       decided (Ok tt) f p at owned way order still calls =
           let sane = (went_in_order m old mid before order (went_before went still)).sane
           in
-          let told = told_decides p status old mid (tells.tells f p at owned status refl) sane
+          let told = told_decides p status old mid (search tells.tells) sane
           way in
           decided_stays status.connected p mid new
           (calls.done f p ClearEnable (enable_call at (asked.keeps.kept f owned)) refl) told
@@ -330,8 +298,7 @@ pub clears_failed : {port : HubPort} {old : World} (fault : PipeFault) {new : Wo
 clears_failed fault calls keeps = record {
   bares = keeps.keeps;
   devices = keeps.devices;
-  others = λ f p at owned goes. calls.rests f p ClearConnectionChange (connection_call at owned)
-      (goes_sound PortStatus (Unit {0}) fault goes);
+  others = grind arith;
   decides = λ f p at owned way order still. tt;
   backlog = λ f p at owned goes.
       call_all (λ g. absurd (cc g)) (λ g. absurd (cc g))
@@ -344,14 +311,7 @@ clears_failed fault calls keeps = record {
 -- the status after it failed, or was told
 pub clears_untold : {port : HubPort} {old : World} {fault : EnumFault} {new : World}
     → Watches port old (Err fault) new → ClearsChange port old (Err fault) new
-clears_untold x = record {
-  bares = x.addresses;
-  devices = x.devices;
-  others = λ f p at owned goes y away. x.rests goes y;
-  decides = λ f p at owned way order still. tt;
-  backlog = λ f p at owned goes. x.backlog goes;
-  lost = λ f p at owned way few still alone e. x.lost p way few still alone e;
-}
+clears_untold x = search (x.rests, x.lost)
 
 pub tells_keeps_asked : (port : HubPort) {n : ℕ} (old : World) (status : PortStatus) (new : World)
     {t s : Option (List ℕ)} → StepRun n old t new s → status.enabled ≡ false
@@ -360,11 +320,11 @@ pub tells_keeps_asked : (port : HubPort) {n : ℕ} (old : World) (status : PortS
 tells_keeps_asked port {n = n} old status new went off read tells asked = record {
   bares = asked.bare status refl off;
   devices = asked.devices;
-  others = λ f p at owned goes x away. port_read_rests port old (Ok status) new read tt x;
+  others = grind (arith, port_read_rests);
   decides = λ f p at owned way order still. told_decides p status old new
-      (tells.tells f p at owned status refl) (went_in_order n old new went order still).sane way;
-  backlog = λ f p at owned goes. port_read_backlog port old (Ok status) new read tt;
-  lost = λ f p at owned way few still alone e. absurd (cc e);
+      (search tells.tells) (went_in_order n old new went order still).sane way;
+  backlog = grind (arith, port_read_backlog);
+  lost = grind arith;
 }
 
 -- What a clearing that is done does to what is left to do
@@ -386,16 +346,15 @@ module _ {port : HubPort} {old mid asked_at : World} {status : PortStatus}
     (k : KeepsAddresses old mid) (tells : ReadsPort port mid (Ok status) asked_at) where
   pub changes_done : {new : World} → KeepsAll asked_at new → ClearsConnection port status old new
   changes_done rest f p at owned =
-      connection_done p status old (calls.done f p ClearConnectionChange (connection_call at owned)
-      refl) (tells.tells f p at (k.kept f owned) status refl) rest
+      connection_done p status old (grind arith)
+      (tells.tells f p at (k.kept f owned) status refl) rest
 
   -- the port was told to pass nothing on, too
   pub changes_disabled : {new : World} → KeepsAddresses mid asked_at
       → CommandsPort port (clear_call PORT_ENABLE) asked_at (Ok tt) new
       → ClearsConnection port status old new
   changes_disabled kept disables f p at owned =
-      connection_done p status old (calls.done f p ClearConnectionChange (connection_call at owned)
-      refl) (tells.tells f p at (k.kept f owned) status refl)
+      connection_done p status old (grind arith) (tells.tells f p at (k.kept f owned) status refl)
       (call_all (λ g. absurd (cc g)) (λ g. absurd (cc g))
       (disables.backlog f p ClearEnable (enable_call at (kept.kept f (k.kept f owned))) tt))
 
@@ -403,32 +362,27 @@ module _ {port : HubPort} {old mid asked_at : World} {status : PortStatus}
 
 pub requested-none : {A : Type 0} {port : HubPort} {n : ℕ} (x : A) {h : HostState}
     → Requested port n h (Ok x) h
-requested-none x = record { goes = host_goes_none; told = tt; works = λ none. none }
+requested-none x = search host_goes_none
 
 works_on : {A : Type 0} (result : Result A EnumFault) (old mid new : World) → StillWorks old mid
     → EnumWorks result mid new → EnumWorks result old new
-works_on (Ok x) _ _ _ first next = λ none. next (first none)
-works_on (Err _) _ _ _ first next = λ sound none. next sound (first none)
+works_on result old mid new first next = grind arith
 
 pub requested-then : {A B : Type 0} {port : HubPort} {k m n : ℕ} {a b c : HostState} {x : A}
     {result : Result B EnumFault} → Requested port m a (Ok x) b → Requested port n b result c
     → m + n ≤ k → Requested port k a result c
-requested-then {a = a} {b = b} {c = c} {result = result} p q le = record {
-  goes = host_goes_then p.goes q.goes le;
-  told = q.told;
-  works = works_on result a.world b.world c.world p.works q.works;
-}
+requested-then p q le = search (host_goes_then, works_on, p.goes)
 
 pub requested-wider : {A : Type 0} {port : HubPort} {k m : ℕ} {a b : HostState}
     {result : Result A EnumFault} → Requested port m a result b → m ≤ k
     → Requested port k a result b
-requested-wider p le = record { goes = goes_wider p.goes le; told = p.told; works = p.works }
+requested-wider p le = grind arith
 
 -- one of them failed, and so did the call
 pub requested-fails : {A : Type 0} (B : Type 0) {port : HubPort} {k m : ℕ} {a b : HostState}
     {fault : EnumFault} → Requested {A = A} port m a (Err fault) b → m ≤ k
     → Requested {A = B} port k a (Err fault) b
-requested-fails B p le = record { goes = goes_wider p.goes le; told = p.told; works = p.works }
+requested-fails B p le = grind arith
 
 -- What one tells
 
@@ -437,37 +391,16 @@ bus_told : {A : Type 0} (answer : Result A PipeFault) (old new : World)
     → answer ≡ Err (pipe.Bus f) → HasFault f new
 bus_told answer old new x f is = rw is at x
 
-port_fault : (port : HubPort) (fault : PipeFault) (new : World) → CanFail port
-    → ((f : BusFault) → fault ≡ pipe.Bus f → HasFault f new)
-    → FaultAllowedAt port (fault_at_port fault) new
-port_fault _ (pipe.Bus f) _ _ told = told f refl
-port_fault _ pipe.Memory _ _ _ = tt
-port_fault _ _ _ can _ = can
-
--- a root port is a register, and never fails
-requested_told : {A : Type 0} (port : HubPort) (answer : Result A PipeFault) (new : World)
-    → CanFail port ⊎ IsOk answer → ((f : BusFault) → answer ≡ Err (pipe.Bus f) → HasFault f new)
-    → IfErr (at_port answer) (λ fault. FaultAllowedAt port fault new)
-requested_told port (Ok x) new can told = tt
-requested_told port (Err fault) new (inl can) told =
-    port_fault port fault new can (λ f is. told f (ap (λ e. Err e) is))
-requested_told port (Err fault) new (inr ok) told = absurd (cc ok)
-
 requested_by : {A : Type 0} {port : HubPort} {n : ℕ} {a : HostState} (b : HostState)
     (answer : Result A PipeFault) {result : Result A EnumFault} → HostRuns n a b
     → CanFail port ⊎ IsOk answer
     → ((f : BusFault) → answer ≡ Err (pipe.Bus f) → HasFault f b.world)
     → WorksAfter answer a.world b.world → result ≡ at_port answer → Requested port n a result b
-requested_by {port = port} {a = a} b answer {result} goes can told works is = record {
-  goes = goes;
-  told = rw is (requested_told port answer b.world can told);
-  works = at_port_works _ answer a.world b.world is works;
-}
+requested_by b answer goes can told works is = grind arith
 
 read_can : (port : HubPort) (old : World) (answer : Result PortStatus PipeFault) (new : World)
     → PortRead port old answer new → CanFail port ⊎ IsOk answer
-read_can (Root _) _ _ _ x = inr (rw x.status refl)
-read_can (External _ _) _ _ _ x = inl tt
+read_can port old answer new x = grind arith
 
 pub shows : (port : HubPort) (a b : HostState) {answer : Result PortStatus PipeFault}
     {result : Result PortStatus EnumFault} → IsAskable port → HostSteps (status_bound port) a b
@@ -476,7 +409,7 @@ pub shows : (port : HubPort) (a b : HostState) {answer : Result PortStatus PipeF
     → PortRead port a.world answer b.world → ReadsPort port a.world answer b.world
     → KeepsAsked port a.world answer b.world → result ≡ at_port answer → ShowsPort port a result b
 shows port a b {answer = answer} askable went same width fault read tells keeps is = record {
-  requested = requested_by b answer (status_read_goes port a b askable went same width)
+  requested = requested_by b answer (search status_read_goes)
       (read_can port a.world answer b.world read) (bus_told _ a.world b.world fault)
       (read_works port answer a.world b.world read) is;
   answer = answer;
@@ -485,11 +418,6 @@ shows port a b {answer = answer} askable went same width fault read tells keeps 
   tells = tells;
   keeps = keeps;
 }
-
-cleared_can : (port : HubPort) (feature : ℕ) (old : World) (answer : Result (Unit {0}) PipeFault)
-    (new : World) → PortCleared port feature old answer new → CanFail port ⊎ IsOk answer
-cleared_can (Root _) _ _ _ _ x = inr x.done
-cleared_can (External _ _) _ _ _ _ x = inl tt
 
 pub clears_by : (port : HubPort) (feature : ℕ) (a b : HostState)
     {answer : Result (Unit {0}) PipeFault} {result : Result (Unit {0}) EnumFault}
@@ -500,22 +428,14 @@ pub clears_by : (port : HubPort) (feature : ℕ) (a b : HostState)
     → CommandsPort port (clear_call feature) a.world answer b.world → result ≡ at_port answer
     → ClearsFeature port feature a result b
 clears_by port feature a b {answer = answer} went same width fault effect keeps calls is = record {
-  requested = requested_by b answer (goes_by {k = write_bound} a b went (order_most port) same
-      width)
-      (cleared_can port feature a.world answer b.world effect)
-      (bus_told _ a.world b.world fault)
-      (clear_works port feature answer a.world b.world effect) is;
+  requested = requested_by b answer (grind arith) (grind arith)
+      (bus_told _ a.world b.world fault) (grind arith) is;
   answer = answer;
   is = is;
   effect = effect;
   keeps = keeps;
   calls = calls;
 }
-
-other_can : (port : HubPort) (feature : ℕ) (old : World) (answer : Result (Unit {0}) PipeFault)
-    (new : World) → ClearsOfPort port feature old answer new → CanFail port ⊎ IsOk answer
-other_can (Root _) _ _ _ _ x = inr (rw x.0 refl)
-other_can (External _ _) _ _ _ _ x = inl tt
 
 pub others_by : {asked : Bool} (port : HubPort) (feature : ℕ) (a b : HostState)
     (answer : Result (Unit {0}) PipeFault) {result : Result (Unit {0}) EnumFault} → asked ≡ true
@@ -525,15 +445,10 @@ pub others_by : {asked : Bool} (port : HubPort) (feature : ℕ) (a b : HostState
     → KeepsDevices a.world b.world → result ≡ at_port answer
     → ClearsOthers port write_bound (ClearsReported asked port feature) a result b
 others_by port feature a b answer asks went same width fault effect addresses devices is = record {
-  requested = requested_by b answer (goes_by {k = write_bound} a b went (order_most port) same
-      width)
-      (other_can port feature a.world answer b.world effect) (bus_told _ a.world b.world fault)
-      (port_change_works port feature answer a.world b.world effect) is;
-  keeps = record { addresses = addresses; devices = devices };
-  clears = record {
-    so = λ _. record { answer = answer; is = is; cleared = effect };
-    not = λ e. absurd (cc (e, asks));
-  };
+  requested = requested_by b answer (grind arith) (grind arith) (bus_told _ a.world b.world fault)
+      (grind arith) is;
+  keeps = grind arith;
+  clears = grind arith;
 }
 
 pub own_by : (target : Target) (number : ℕ) (a b : HostState)
@@ -553,8 +468,8 @@ pub others_none : {asked : Bool} {port : HubPort} {feature n : ℕ} {h : HostSta
     → ClearsOthers port n (ClearsReported asked port feature) h (Ok tt) h
 others_none {h = h} unasked = record {
   requested = requested-none tt;
-  keeps = record { addresses = keeps_none h.world; devices = keeps_devices_none h.world };
-  clears = record { so = λ so. absurd (cc (so, unasked)); not = λ e. (refl, refl) };
+  keeps = grind arith;
+  clears = grind arith;
 }
 
 module _ {port : HubPort} (status : PortStatus) (k : ℕ) {m : ℕ} {a b : HostState} where
@@ -580,99 +495,45 @@ module _ {port : HubPort} (status : PortStatus) (k : ℕ) {m : ℕ} {a b : HostS
 
 -- That the host gets on
 
-made_by : (A : Type 0) (fault : PipeFault) (old new : World) → FaultAfter 1 old fault new
-    → LetsGoOn {A = A} (Err (fault_at_port fault)) → old.attempts + 1 ≤ new.attempts
-made_by A pipe.Broken old new x goes = absurd x
-made_by A (pipe.Bus f) old new x goes = absurd goes
-made_by A _ old new x goes = omega (arith, x.least)
-
-attempt_made : {A : Type 0} (least : ℕ) (answer : Result A PipeFault) (old new : World) → 1 ≤ least
-    → EndsAfter least old answer new → LetsGoOn (at_port answer) → old.attempts + 1 ≤ new.attempts
-attempt_made least (Ok x) old new le ends goes = omega (arith, ends.least)
-attempt_made {A = A} _ (Err fault) old new _ ends goes = made_by A fault old new ends goes
-
-gains_by : {A : Type 0} (result : Result A EnumFault) (old new : World)
-    → (LetsGoOn result → Gained old new) → ProgressOnOk result old new
-gains_by (Err (Bus _)) _ _ g = tt
-gains_by (Err Memory) _ _ g = tt
-gains_by _ _ _ g = g tt
-
 pub goes_as : (A B : Type 0) (fault : EnumFault) → LetsGoOn {A = A} (Err fault)
     → LetsGoOn {A = B} (Err fault)
-goes_as A B ParentLost _ = tt
-goes_as A B _ goes = absurd goes
-
--- a hub was asked
-order_gains : (port : HubPort) (feature : ℕ) {n : ℕ} {old : World}
-    (answer : Result (Unit {0}) PipeFault) {new : World} → CanFail port → AttemptsWithin n old new
-    → PortCleared port feature old answer new → LetsGoOn (at_port answer) → Gained old new
-order_gains (Root number) feature answer can s x goes = absurd can
-order_gains (External hub number) feature {old = old} answer {new = new} can s x goes =
-    omega (arith, s.served, attempt_made 2 answer old new (omega arith) x.ends goes)
-
--- or the change of a root port was cleared
-change_gains : (port : HubPort) {n : ℕ} {old : World} (answer : Result (Unit {0}) PipeFault)
-    {new : World} → IsDue old port → AttemptsWithin n old new
-    → PortCleared port C_PORT_CONNECTION old answer new → LetsGoOn (at_port answer) → Gained old new
-change_gains (Root number) answer due s x goes = omega (arith, x.served refl due, x.quiet.attempts)
-change_gains (External hub number) answer due s x goes =
-    order_gains (External hub number) C_PORT_CONNECTION answer tt s x goes
-
-gained_then : {n : ℕ} (old : World) {mid new : World} → Gained old mid → AttemptsWithin n mid new
-    → Gained old new
-gained_then old g s = omega (arith, s.served, s.later)
+goes_as A B fault goes = grind arith
 
 -- A status
-
-shown_by : (port : HubPort) {n : ℕ} (old : World) (answer : Result PortStatus PipeFault)
-    (new : World) → AttemptsWithin n old new → PortRead port old answer new
-    → Shown port (at_port answer) old new
-shown_by (Root number) old answer new s x =
-    (ap (λ (r : Result PortStatus PipeFault). at_port r) x.status, x.same)
-shown_by (External hub number) old answer new s x =
-    gains_by (at_port answer) old new
-    (λ goes. omega (arith, s.served, attempt_made 3 answer old new (omega arith) x.ends goes))
 
 module _ {port : HubPort} {a b : HostState} {result : Result PortStatus EnumFault}
     (x : ShowsPort port a result b) where
   pub shows_shown : Shown port result a.world b.world
-  shows_shown = rw x.is (shown_by port _ x.answer _ x.requested.goes.went.spends x.read)
+  shows_shown = grind arith
 
   pub shows_watches : Watches port a.world result b.world
-  shows_watches = rw x.is (watched _ _ _ _ x.read x.tells x.keeps)
+  shows_watches = rw x.is (search watched)
 
 -- A clearing, where it is asked for
 
 feature_calls : {port : HubPort} {feature : ℕ} (a b : HostState)
     → ClearsFeature port feature a (Ok tt) b
     → CommandsPort port (clear_call feature) a.world (Ok tt) b.world
-feature_calls {port = port} {feature = feature} a b x =
-    rw (ok_at_port x.answer (sym x.is)) at x.calls
+feature_calls a b x = grind arith
 
 module _ {asked : Bool} {port : HubPort} {feature : ℕ} {a b : HostState} where
   where_cases : (P : Result (Unit {0}) EnumFault → HostState → Type 0)
       {result : Result (Unit {0}) EnumFault} → ClearsWhere asked port feature a result b
       → (ClearsFeature port feature a result b → P result b) → P (Ok tt) a → P result b
-  where_cases P x so not = elim (decided asked) [
-    | inl e ↦ so (x.so e)
-    | inr e ↦
-        let rests = x.not e in
-        rw rests.0 (rw rests.1 not)
-  ]
+  where_cases P x so not = grind arith
 
   where_requested : {result : Result (Unit {0}) EnumFault}
       → ClearsWhere asked port feature a result b → Requested port write_bound a result b
   where_requested x =
       where_cases (λ r h. Requested port write_bound a r h) x (λ y. y.requested)
-      (requested-none {port = port} {n = write_bound} tt {h = a})
+      (search requested-none)
 
   where_tidies : (tidy : Tidy) → clear_call feature ≡ Some (tidy_call tidy)
       → {result : Result (Unit {0}) EnumFault} → ClearsWhere asked port feature a result b
       → Tidies port a.world result b.world
   where_tidies tidy is x =
       where_cases (λ r h. Tidies port a.world r h.world) x
-      (λ y. subst (λ r. Tidies port a.world r b.world) (sym y.is)
-      (call_tidies port feature tidy is a.world y.answer b.world y.calls y.keeps))
+      (λ y. subst (λ r. Tidies port a.world r b.world) (sym y.is) (search call_tidies))
       (tidies_none port a.world)
 
   where_done : (call : PortCall) → clear_call feature ≡ Some call → (is_reset call ≡ true → ⊥)
@@ -681,9 +542,8 @@ module _ {asked : Bool} {port : HubPort} {feature : ℕ} {a b : HostState} where
   where_done call is other x f p at owned = elim (decided asked) [
     | inl e ↦
         let calls = rw is at (feature_calls a b (x.so e)) in
-        subst (λ (x : Bool). DoneWhere x p call a.world b.world) (sym e)
-        (call_done other calls f p at owned)
-    | inr e ↦ done_not p call _ _ e (ap (λ (h : HostState). h.world) (x.not e).1)
+        subst (λ (x : Bool). DoneWhere x p call a.world b.world) (sym e) (search call_done)
+    | inr e ↦ done_not p call _ _ e (grind arith)
   ]
 
 -- The changes of enable and of reset
@@ -695,7 +555,7 @@ module _ {port : HubPort} (status : PortStatus) {a b : HostState} where
   tidied_fails x = record {
     requested = requested-wider (where_requested x) (omega arith);
     tidies = where_tidies enable clears_enable_change x;
-    clears = record { reset = tt; calm = λ off none. x.not off; clears = λ f p at owned. tt };
+    clears = grind arith;
     order = first_failed _ x refl;
   }
 
@@ -710,8 +570,7 @@ module _ {port : HubPort} (status : PortStatus) {a b : HostState} where
     reset_by : (result : Result (Unit {0}) EnumFault)
         → ClearsWhere status.reset_changed port C_PORT_RESET b result c
         → OnOk result (status.reset_changed ≡ true → ClearsReset port a.world c.world)
-    reset_by (Ok tt) y = λ told. resets_done b.world first_tidies (feature_calls b c (y.so told))
-    reset_by (Err fault) y = tt
+    reset_by result y = grind (arith, first_tidies, resets_done)
 
     clears_told_by : (result : Result (Unit {0}) EnumFault)
         → ClearsWhere status.reset_changed port C_PORT_RESET b result c
@@ -719,7 +578,7 @@ module _ {port : HubPort} (status : PortStatus) {a b : HostState} where
         → OnOk result (ClearsTold p status a.world c.world)
     clears_told_by (Ok tt) y f p at owned = record {
       mid = b.world;
-      enable = where_done ClearEnableChange refl (λ resets. absurd (cc resets)) x f p at owned;
+      enable = grind arith;
       reset = where_done ClearResetChange refl
           (λ resets. absurd (cc resets)) y f p at (first_tidies.addresses.kept f owned);
     }
@@ -734,11 +593,7 @@ module _ {port : HubPort} (status : PortStatus) {a b : HostState} where
           requested = requested-then first_requested after (omega arith);
           tidies = tidies_then first_requested.goes.went after.goes.went first_tidies
               (where_tidies reset clears_reset_change y);
-          clears = record {
-            reset = reset_by result y;
-            calm = λ off none. ((y.not none).0, (y.not none).1 ∙ (x.not off).1);
-            clears = clears_told_by result y;
-          };
+          clears = grind (arith, clears_told_by, reset_by);
           order = next_done tt b x y;
         }
 
@@ -748,7 +603,7 @@ pub settled_fails : {port : HubPort} {status : PortStatus} {a b : HostState} {fa
     → TidiesPort port status a (Err fault) b → SettlesPort port status a (Err fault) b
 settled_fails x = record {
   requested = requested-wider x.requested (omega arith);
-  keeps = record { addresses = x.tidies.addresses; devices = x.tidies.devices };
+  keeps = grind arith;
   tidies = λ _. x;
   order = first_failed _ x refl;
 }
@@ -759,11 +614,9 @@ pub port_settled : (port : HubPort) (status : PortStatus) {a b c : HostState}
     → (HasOnlyWorldChanges status → (result ≡ Ok tt) × (c ≡ b)) → SettlesPort port status a result c
 port_settled port status {a = a} {b = b} x y none = record {
   requested = requested-then x.requested y.requested (omega arith);
-  keeps = keeps_each_then (record { addresses = x.tidies.addresses; devices = x.tidies.devices })
+  keeps = keeps_each_then (grind arith)
       y.requested.goes.went y.keeps;
-  tidies = λ plain.
-      let rests = none plain in
-      rw rests.0 (rw rests.1 x);
+  tidies = grind arith;
   order = next_done tt b x y;
 }
 
@@ -776,14 +629,12 @@ status_after status (Err fault) = Err fault
 
 disabled_as : (status : PortStatus) (answer : Result (Unit {0}) PipeFault)
     → disabled_so status answer ≡ status_after status (at_port answer)
-disabled_as _ (Ok _) = refl
-disabled_as _ (Err _) = refl
+disabled_as status answer = grind arith
 
 after_told : {port : HubPort} {n : ℕ} (status : PortStatus) {a b : HostState}
     (result : Result (Unit {0}) EnumFault) → Requested port n a result b
     → Requested port n a (status_after status result) b
-after_told _ (Ok _) x = record { goes = x.goes; told = tt; works = x.works }
-after_told _ (Err _) x = record { goes = x.goes; told = x.told; works = x.works }
+after_told status result x = grind arith
 
 change_failed : (port : HubPort) (old : World) (answer : Result (Unit {0}) PipeFault) (new : World)
     (fault : EnumFault) → Err fault ≡ at_port answer
@@ -797,15 +648,11 @@ change_failed port old (Err why) new fault is calls keeps =
 -- a change that was cleared is not told again
 
 stuck_can : (port : HubPort) (status : PortStatus) → is_stuck port status ≡ true → CanFail port
-stuck_can (Root number) status stuck = false_true stuck
-stuck_can (External hub number) status stuck = tt
+stuck_can port status stuck = grind arith
 
 stuck_by : (port : HubPort) (status : PortStatus) → CanFail port → is_stuck port status ≡ true
     → (status.enabled ≡ true → status.connection_changed ≡ false) → ⊥
-stuck_by (Root _) _ can _ _ = can
-stuck_by (External _ _) status _ stuck steady =
-    let told = both status.enabled status.connection_changed stuck in
-    false_true (sym (steady told.0) ∙ told.1)
+stuck_by port status can stuck steady = grind arith
 
 module _ {port : HubPort} {a b : HostState} where
   -- it was not cleared
@@ -813,10 +660,7 @@ module _ {port : HubPort} {a b : HostState} where
       → ClearsPort port a (Err fault) b
   change_fails {fault = fault} x = record {
     requested = requested-fails PortStatus x.requested (omega arith);
-    gains = λ due.
-        gains_by {A = PortStatus} (Err fault) a.world b.world
-        (λ goes. change_gains port x.answer due x.requested.goes.went.spends x.effect
-        (subst LetsGoOn x.is (goes_as PortStatus (Unit {0}) fault goes)));
+    gains = grind arith;
     keeps = change_failed _ _ _ _ _ x.is x.calls x.keeps;
     paid = tt;
     reads = λ f p _ _. tt;
@@ -829,16 +673,11 @@ module _ {port : HubPort} {a b : HostState} where
 
     change_after : {n : ℕ} (c : HostState) {result : Result PortStatus EnumFault} → HostSteps n b c
         → ClearsChange port b.world result c.world → ClearsChange port a.world result c.world
-    change_after c went y =
-        clears_after x.requested.goes.went went _
-        change_calls x.keeps.keeps x.keeps.devices y
+    change_after c went y = search (change_calls, clears_after)
 
     change_on : {n : ℕ} (c : HostState) (result : Result PortStatus EnumFault) → HostSteps n b c
         → IsDue a.world port → ProgressOnOk result a.world c.world
-    change_on c result went due =
-        gains_by result a.world c.world
-        (λ _. gained_then a.world (change_gains port x.answer due x.requested.goes.went.spends
-        x.effect (rw (← x.is) tt)) went.spends)
+    change_on c result went due = grind arith
 
     -- the status was not told
     pub change_untold : {c : HostState} {fault : EnumFault} → ShowsPort port b (Err fault) c
@@ -883,10 +722,7 @@ module _ {port : HubPort} {a b : HostState} where
 
       paid_so : (result : Result (Unit {0}) EnumFault) → ClearsFeature port PORT_ENABLE c result d
           → IfOk (status_after status result) (λ s. ClearsConnection port s a.world d.world)
-      paid_so (Ok tt) z =
-          changes_disabled change_calls x.keeps.keeps
-          told_tells told_asks.keeps (feature_calls c d z)
-      paid_so (Err _) z = tt
+      paid_so result z = grind (arith, changes_disabled, told_tells)
 
       reads_by : (result : Result (Unit {0}) EnumFault)
           → ClearsWhere status.enabled port PORT_ENABLE c result d → (f : AddressMap) (p : List ℕ)
@@ -916,16 +752,11 @@ module _ {port : HubPort} {a b : HostState} where
           let went = host_goes_then {k = write_bound + read_bound 4}
           x.requested.goes y.requested.goes (omega arith) in
           record {
-            requested = record {
-              goes = goes_wider went (omega arith);
-              told = stuck_can port status stuck;
-              works = λ _ none. y.requested.works (x.requested.works none);
-            };
-            gains = change_on c (Err ParentLost) y.requested.goes.went;
+            requested = grind arith;
+            gains = grind arith;
             keeps = record {
-              bares = keeps_then a.world b.world c.world x.keeps.keeps told_asks.keeps;
-              devices = devices_then (read_bound 4) a.world b.world c.world x.keeps.devices
-                  y.requested.goes.went told_asks.devices;
+              bares = grind (arith, keeps_then);
+              devices = search devices_then;
               others = λ f p at owned _. rest_elsewhere_then p a.world b.world c.world
                   (change_calls.rests f p ClearConnectionChange (connection_call at owned) tt)
                   (λ z _. port_read_rests port b.world (Ok status) c.world told_read tt z);
@@ -934,14 +765,11 @@ module _ {port : HubPort} {a b : HostState} where
                   (call_all (λ g. absurd (cc g)) (λ g. absurd (cc g)) (change_calls.backlog f p
                   ClearConnectionChange (connection_call at owned) tt))
                   (port_read_backlog port b.world (Ok status) c.world told_read tt);
-              lost = λ f p at owned _ _ _ _ e. absurd (stuck_never stuck f p at owned);
+              lost = grind (arith, stuck_never);
             };
             paid = tt;
             reads = λ f p _ _. tt;
-            order = next_done tt b x (next_done status c y (record {
-              stuck = λ e. (refl, refl);
-              steady = λ calm. absurd (cc (stuck, calm));
-            }));
+            order = next_done tt b x (next_done status c y (grind arith));
           }
 
       last_asked : (result : Result (Unit {0}) EnumFault) → is_stuck port status ≡ false
@@ -961,31 +789,27 @@ module _ {port : HubPort} {a b : HostState} where
           → ClearsPort port a (status_after status result) d
       change_cleared calm {result = result} z =
           let last = where_requested z in
-          let went = host_goes_then {k = read_bound 4 + write_bound}
-          y.requested.goes last.goes (omega arith) in
           record {
             requested = after_told status result
                 (requested-then {A = Unit {0}} {k = clearing_bound} {m = write_bound + read_bound 4}
                 {a = a} {x = tt} (record {
                   goes = host_goes_then x.requested.goes y.requested.goes (omega arith);
                   told = tt;
-                  works = λ none. y.requested.works (x.requested.works none);
+                  works = grind arith;
                 }) last (omega arith));
-            gains = change_on d (status_after status result) went.went;
+            gains = grind arith;
             keeps = elim (decided status.enabled) [
               | inl e ↦ disabled_kept (z.so e)
               | inr e ↦
                   let rests = z.not e in
-                  rw rests.0 (rw rests.1 (change_after c y.requested.goes.went
-                  (tells_keeps_asked port b.world status c.world y.requested.goes.went e told_read
-                  told_tells told_asks)))
+                  rw rests.0 (rw rests.1 (search
+                  (change_after, tells_keeps_asked, told_asks, told_read, told_tells)))
             ];
             paid = elim (decided status.enabled) [
               | inl e ↦ paid_so result (z.so e)
               | inr e ↦
                   let rests = z.not e in
-                  rw rests.0 (rw rests.1 (changes_done change_calls x.keeps.keeps told_tells
-                  (all_none c.world)))
+                  rw rests.0 (grind (arith, changes_done))
             ];
             reads = reads_by result z;
             order = next_done tt b x (next_done status c y (last_asked result calm z));
@@ -998,10 +822,7 @@ module _ {port : HubPort} {a b : HostState} where
       → ClearsError port a (Err fault) b
   error_fails {fault = fault} x = record {
     requested = requested-fails PortStatus x.requested (omega arith);
-    gains = λ can.
-        gains_by {A = PortStatus} (Err fault) a.world b.world
-        (λ goes. order_gains port C_PORT_ENABLE x.answer can x.requested.goes.went.spends x.effect
-        (subst LetsGoOn x.is (goes_as PortStatus (Unit {0}) fault goes)));
+    gains = grind arith;
     bares = x.keeps.keeps;
     order = first_failed _ x refl;
   }
@@ -1009,11 +830,7 @@ module _ {port : HubPort} {a b : HostState} where
   module _ (x : ClearsFeature port C_PORT_ENABLE a (Ok tt) b) where
     error_on : {n : ℕ} (c : HostState) (result : Result PortStatus EnumFault) → HostRuns n b c
         → CanFail port → ProgressOnOk result a.world c.world
-    error_on c result goes can =
-        gains_by result a.world c.world
-        (λ _. gained_then a.world
-        (order_gains port C_PORT_ENABLE x.answer can x.requested.goes.went.spends x.effect
-        (rw (← x.is) tt)) goes.went.spends)
+    error_on c result goes can = grind arith
 
     pub error_kept : {c : HostState} {fault : EnumFault}
         → ClearsFeature port PORT_ENABLE b (Err fault) c → ClearsError port a (Err fault) c
@@ -1031,9 +848,7 @@ module _ {port : HubPort} {a b : HostState} where
       bares_by (Ok _) k =
           let bare = y.keeps.bare refl (ok_at_port y.answer (sym y.is)) in
           bares_kept (bares_after x.keeps.keeps bare) k
-      bares_by (Err _) k =
-          keeps_then _ _ _
-          (keeps_then _ _ _ x.keeps.keeps y.keeps.keeps) k
+      bares_by (Err _) k = grind (arith, keeps_then)
 
       pub error_cleared : {result : Result PortStatus EnumFault} → ShowsPort port c result d
           → ClearsError port a result d
@@ -1043,7 +858,6 @@ module _ {port : HubPort} {a b : HostState} where
           record {
             requested = requested-then first z.requested (omega arith);
             order = next_done tt b x (next_done tt c y z);
-            gains = error_on d result (host_goes_then {k = write_bound + read_bound 4}
-                y.requested.goes z.requested.goes (omega arith));
+            gains = grind arith;
             bares = bares_by result z.keeps.keeps;
           }

@@ -1,40 +1,37 @@
 -- What a look at a port leaves, its serving and its handling.
-use Rattle.std.proofs.Common.{◌≡◌, ◌∙◌, ◌⊎◌, ◌+◌, ◌≤◌, arith, inl, inr, ap, refl, subst, sym, true}
-use Rattle.std.proofs.Common.{false, Bool, ℕ, List, None, Result, Ok, Err, OnOk, OnErr, ◌*◌, []}
-use Rattle.std.proofs.Common.{◌∷◌, ◌++◌, Some}
+use Rattle.std.proofs.Common.{◌≡◌, ◌∙◌, ◌⊎◌, ◌+◌, ◌≤◌, arith, inl, ap, refl, subst, true, false}
+use Rattle.std.proofs.Common.{Bool, ℕ, List, None, Result, Ok, Err, OnOk, OnErr, ◌*◌, [], ◌∷◌, ◌++◌}
+use Rattle.std.proofs.Common.{Some}
 use Rattle.arrayvec.specs.ArrayVec.{ArrayVec}
-use Rattle.usb_port.specs.{PortStatus, path_cmp}
-use Rattle.usb_tree.proofs.Interface.{decided}
+use Rattle.usb_port.specs.{PortStatus}
 use Rattle.usb_hub.specs.{Isolates, StillWorks}
 use Rattle.usb_resources.specs.{IsFull}
-use Rattle.usb_enum.specs.{enumeration_bound, widest_enumeration, Enumerates, FaultAllowedAt}
-use Rattle.usb_enum.specs.{EnumFault, Memory, Finding, IsFound, IsSaid, read_bound, ParentLost, Bus}
-use Rattle.usb_table.specs.{KnownPort, Replaced, without, known_port, tier_of, Table, entered}
-use Rattle.usb_table.specs.{Entries, said_at, accepted_device_at}
+use Rattle.usb_enum.specs.{enumeration_bound, widest_enumeration, FaultAllowedAt, EnumFault, Memory}
+use Rattle.usb_enum.specs.{Finding, IsFound, IsSaid, read_bound, ParentLost, Bus}
+use Rattle.usb_table.specs.{KnownPort, without, known_port, tier_of, Table, entered, said_at}
+use Rattle.usb_table.specs.{accepted_device_at}
 use Rattle.usb_table.proofs.Interface.{known_port-without, said_at-entered}
 use Rattle.usb_host.specs.{PaysAtLook, hubs, clearing_bound, HostState, IsOwned, KeepsPort}
 use Rattle.usb_host.specs.{StaysOwned, StaysWhere, claims, FindsSound, IsOpen, ServesSound}
 use Rattle.usb_host.specs.{KeepsPlugs, MovesNoBulk, Entered, Forgets, Gained, IsPortAt, Requested}
 use Rattle.usb_host.specs.{ProgressOrLost, StandsAt, Waits, HostRuns, HostSteps, OnlyBusSteps}
 use Rattle.usb_host.specs.{waiting, ClearsError, ClearsPort, Discovers, LookedOrLost}
-use Rattle.usb_host.specs.{LooksAfterError, LooksAt, RenewsPort, HostInvariant, Agrees, EntersFound}
+use Rattle.usb_host.specs.{LooksAfterError, LooksAt, RenewsPort, HostInvariant, EntersFound}
 use Rattle.usb_host.specs.{FindsAnew, first_failed, next_done, table_in, drop_bound, handling_bound}
 use Rattle.usb_host.specs.{look_bound, was_disabled, PortOwned, Watches, EndsAs, IsDue}
 use Rattle.usb_host.specs.{StandsNowhere, ClearsOwn, SettlesPort, ShowsPort, TidiesPort, EndsAt}
 use Rattle.usb_host.specs.{FinishesAt, HandlesPort, LooksOnceMore, ServesOwn, ServesPort, Part}
 use Rattle.usb_host.specs.{HostFault, DoneAt, OwnHandled, OwnServed, Quiet, all_done, at_connection}
 use Rattle.usb_host.specs.{at_error, at_others, hub_failed, by_both, own_known}
-use Rattle.usb_world.specs.{World}
 use Rattle.usb_backlog.specs.{KeepsAll, KeepsFound}
 use Rattle.usb_backlog.proofs.Interface.{anew_owed, found_all, found_then}
 use Rattle.usb_host.proofs.devices.Pipes.{bulk_stays, bulk_then, stays_where, where_joined}
-use Rattle.usb_host.proofs.devices.Pipes.{stay_joined, stay_none}
+use Rattle.usb_host.proofs.devices.Pipes.{stay_joined}
 use Rattle.usb_host.proofs.devices.Causes.{cleared_caused, entered_finds, forgot_caused}
 use Rattle.usb_host.proofs.devices.Causes.{unentered_finds, unfound_finds, causes_rests}
 use Rattle.usb_host.proofs.devices.Causes.{tidied_caused, watched_caused}
 use Rattle.usb_host.proofs.StepSums.{EnumerationAt, enumeration_goes, goes_forgotten}
 use Rattle.usb_host.proofs.StepSums.{host_goes_none, went_before, host_goes_then, no_work_then}
-use Rattle.usb_host.proofs.StepSums.{host_rests_then}
 use Rattle.usb_host.proofs.devices.Fairness.{fair_after, fair_before}
 use Rattle.usb_host.proofs.devices.Owners.{found_ends, found_fails, found_lost, rests_keeps_port}
 use Rattle.usb_host.proofs.devices.Owners.{stays_keeps_port, port_then, stays_bare, port_finished}
@@ -43,9 +40,9 @@ use Rattle.usb_host.proofs.entries.KindCounts.{hubs-found, hubs-gone, hubs-rest,
 use Rattle.usb_host.proofs.payments.PortPayments.{look_bare, look_lost, look_pays, plan_within-went}
 use Rattle.usb_host.proofs.payments.PortPayments.{handling_pays, after_look, after_tidy}
 use Rattle.usb_host.proofs.payments.PortPayments.{status_lost, told_there}
-use Rattle.usb_host.proofs.HostProgress.{enters_few, enters_other, without_rests, looks, renews}
-use Rattle.usb_host.proofs.HostProgress.{served_any, failed_on_way, lost_on, handled, looked_on}
-use Rattle.usb_host.proofs.HostProgress.{rests_holds, status_lost_on, tidied_on}
+use Rattle.usb_host.proofs.HostProgress.{enters_few, enters_other, without_rests, looks, served_any}
+use Rattle.usb_host.proofs.HostProgress.{failed_on_way, lost_on, handled, looked_on, rests_holds}
+use Rattle.usb_host.proofs.HostProgress.{status_lost_on}
 use Rattle.usb_host.proofs.devices.Plugs.{plugs_forgot, plugs_found, plugs_kept, plugs_rests}
 use Rattle.usb_host.proofs.devices.Plugs.{plugs_then}
 use Rattle.usb_host.proofs.devices.UnmovedBulk.{cleared_unmoved, shown_unmoved, tidied_unmoved}
@@ -58,7 +55,6 @@ use Rattle.usb_host.proofs.knowledge.HandledPorts.{watched_lost, watched_sound, 
 use Rattle.usb_host.proofs.Services.{cleared_failed, found_failed, renews_by, cut_after, on_errors}
 use Rattle.usb_host.proofs.Services.{port_cut, served_left, handled_at, handles_at, serves_looked}
 use Rattle.usb_host.proofs.Services.{serves_tidied, status_failed}
-use Rattle.std.specs.BTreeMap.{insert_entry}
 use Rattle.usb_host.proofs.PortLocations.{stands_at-claim}
 use Rattle.usb_address.proofs.Interface.{keeps_then}
 use Rattle.usb_pipe.specs.{write_bound}
@@ -80,25 +76,13 @@ module _ {path : List ℕ} {port : KnownPort} {a b : HostState} (same : b.stoppe
       → EnumerationAt (enumeration_bound port.port) path port (Err fault) a b
       → b.entries ≡ a.entries → b.pipes ≡ a.pipes → b.addresses ≡ a.addresses
       → FaultAllowedAt port.port fault b.world → Discovers path port a (Err fault) b
-  discover_fails e entries pipes pool told =
-      let owned = found_fails e entries in
-      record {
-        requested = record { goes = found_goes e; told = told; works = e.gives.works };
-        owned = owned;
-        sound = unfound_finds e entries pipes pool told owned;
-        gave = tt;
-      }
+  discover_fails e entries pipes pool told = search (found_fails, found_goes, unfound_finds)
 
   -- for what was found there is no memory
   pub discover_lost : {f : Finding}
       → EnumerationAt (enumeration_bound port.port) path port (Ok f) a b
       → b.entries ≡ a.entries → b.pipes ≡ a.pipes → Discovers path port a (Err Memory) b
-  discover_lost e entries pipes = record {
-    requested = record { goes = found_goes e; told = tt; works = λ sound. e.gives.works };
-    owned = found_lost e entries;
-    sound = unentered_finds e entries pipes;
-    gave = tt;
-  }
+  discover_lost e entries pipes = search (found_goes, found_lost, unentered_finds)
 
   pub discover_done : {f : Finding}
       → EnumerationAt (enumeration_bound port.port) path port (Ok f) a b
@@ -108,7 +92,7 @@ module _ {path : List ℕ} {port : KnownPort} {a b : HostState} (same : b.stoppe
   discover_done {f = f} e is said says table =
       let owned = found_ends e (ap (λ (t : Table). t.entries) table) in
       record {
-        requested = record { goes = found_goes e; told = tt; works = e.gives.works };
+        requested = grind (arith, found_goes);
         owned = owned;
         sound = entered_finds e said table owned;
         gave = record {
@@ -129,56 +113,35 @@ module _ {path : List ℕ} {port : KnownPort} {a b : HostState} (same : b.stoppe
 -- the port stands where it stood
 pub forgot_placed : {modelled : Bool} {path : List ℕ} {port : KnownPort} {a b : HostState}
     → Forgets path a b → IsPortAt modelled path port a → IsPortAt modelled path port b
-forgot_placed {path = path} {a = a} f s = record {
-  is = s.is;
-  known = ap (known_port path) f.rest ∙ known_port-without path a.entries ∙ s.known;
-  asked = rw (ap (λ (h : HostState). h.world) f.others) s.asked;
-  askable = s.askable;
-  agrees = f.agrees;
-}
+forgot_placed f s = grind (arith, known_port-without)
 
 entered_few : (path : List ℕ) (c d : HostState) (result : Result (Unit {0}) EnumFault)
     → Entered path c result d → waiting d.entries ≤ waiting c.entries + 1
-entered_few path c d (Ok done) e = enters_few path c d e
-entered_few path c d (Err fault) e = omega (arith, ap waiting e)
+entered_few path c d result e = grind (arith, enters_few)
 
 entered_other : (path : List ℕ) (c d : HostState) (result : Result (Unit {0}) EnumFault)
     → Entered path c result d → (IsFull c.addresses → ⊥) → waiting d.entries ≤ waiting c.entries
-entered_other path c d (Ok done) e free = enters_other path c d e free
-entered_other path c d (Err fault) e free = omega (arith, ap waiting e)
+entered_other path c d result e free = grind (arith, enters_other)
 
 pub entered_hubs : (path : List ℕ) (c d : HostState) (result : Result (Unit {0}) EnumFault)
     → Entered path c result d → hubs d.entries ≤ hubs c.entries + 1
-entered_hubs path c d (Ok done) e = hubs-found path c d e
-entered_hubs path c d (Err fault) e = omega (arith, ap hubs e)
+entered_hubs path c d result e = grind (arith, hubs-found)
 
 module _ {path : List ℕ} {port : KnownPort} {on : Bool} {b d : HostState}
     {result : Result (Unit {0}) EnumFault} (x : RenewsPort path port on b result d) where
   renew_cases : (P : Result (Unit {0}) EnumFault → HostState → Type 0)
       → (on ≡ true → P result d) → (on ≡ false → P (Ok tt) x.mid) → P result d
-  renew_cases P found none = elim (decided on) [
-    | inl e ↦ found e
-    | inr e ↦
-        let rests = x.none e in
-        rw rests.0 (rw rests.1 (none e))
-  ]
+  renew_cases P found none = grind arith
 
   -- after a request
   module _ {n : ℕ} {a : HostState} (r : OnlyBusSteps a b) (goes : HostRuns n a b) where
     forgot_goes : HostRuns n a x.mid
     forgot_goes = goes_forgotten a goes x.forgot.others
 
-    forgot_works : StillWorks a.world b.world → StillWorks a.world x.mid.world
-    forgot_works works none = ap (λ (h : HostState). h.world.fault) x.forgot.others ∙ works none
-
     renew_requested : {k : ℕ} → StillWorks a.world b.world → n + widest_enumeration ≤ k
         → Requested port.port k a result d
     renew_requested {k = k} works le =
-        let first : Requested {A = Unit {0}} port.port n a (Ok tt) x.mid = record {
-          goes = forgot_goes;
-          told = tt;
-          works = forgot_works works;
-        } in
+        let first : Requested {A = Unit {0}} port.port n a (Ok tt) x.mid = grind arith in
         renew_cases (λ q h. Requested port.port k a q h)
         (λ on. requested-then first (x.found on).requested le)
         (λ off. requested-wider first (omega arith))
@@ -196,14 +159,12 @@ module _ {path : List ℕ} {port : KnownPort} {on : Bool} {b d : HostState}
 
     renew_hubs : hubs d.entries ≤ hubs a.entries + 1
     renew_hubs =
-        let fewer = hubs-gone path a b x.mid r x.forgot.rest in
-        renew_cases (λ q h. hubs h.entries ≤ hubs a.entries + 1)
-        (λ on. omega (arith, entered_hubs path x.mid d result (x.entered on))) (λ off. omega arith)
+        let fewer = hubs-gone path a b x.mid r x.forgot.rest in grind (arith, entered_hubs)
 
     renew_owned : StandsAt path port a → Isolates port.port a.world b.world
         → KeepsPort path a result d
     renew_owned s bares =
-        let gone : StaysOwned a x.mid = stays_bare s r goes.went.spends.roots bares x.forgot in
+        let gone : StaysOwned a x.mid = grind (arith, stays_bare) in
         renew_cases (λ q h. KeepsPort path a q h) (λ on. port_then gone (x.found on).owned)
         (λ off. stays_keeps_port path a gone)
 
@@ -219,23 +180,20 @@ look_fails {path = path} port {a = a} {b = b} {fault = fault} s r x =
     record {
       requested = requested-fails (Unit {0}) x.requested (omega arith);
       on = λ due. lost_on PortStatus port.port a b fault r x.gains told;
-      owned = rests_keeps_port path a b r went.spends.roots x.keeps.bares;
+      owned = grind (arith, rests_keeps_port);
       sound = record {
         sound = cleared_lost s r went fault x.keeps told;
-        bulk = λ i on still. bulk_stays a b (cleared_stay s r went x.keeps i)
-            (cleared_unmoved x i.owned (goes_as (Unit {0}) PortStatus fault on));
+        bulk = λ i on still. search (bulk_stays, cleared_stay, cleared_unmoved);
         cut = λ i. stays_where a b (cleared_stay s r went x.keeps i);
         plugs = λ i still. plugs_rests a b went r;
         caused = cleared_caused s r went fault x.keeps told;
       };
       renewed = tt;
       pays = record {
-        pays = λ i still before status ports at changed.
-            look_lost a b s went i before status ports at (none_rests a went r) fault x.keeps;
-        few = λ i most plan. omega (arith, went.spends.most);
+        pays = search (look_lost, none_rests);
+        few = grind arith;
         anew = λ i ports on still. anew_owed path ports (found_all path
-            (x.keeps.backlog (claims a.entries) path (stands_at-claim s) i.owned
-            (goes_as (Unit {0}) PortStatus fault on)));
+            (x.keeps.backlog (claims a.entries) path (stands_at-claim s) i.owned (search goes_as)));
       };
       hubs = omega (arith, hubs-rest a r);
       looked = λ o. cleared_failed s r went o fault;
@@ -250,10 +208,10 @@ module _ {path : List ℕ} {port : KnownPort} {a b c : HostState} (s : StandsAt 
   look_went = x.requested.goes.went
 
   look_goes : HostRuns clearing_bound a c
-  look_goes = goes_forgotten a x.requested.goes f.others
+  look_goes = search goes_forgotten
 
   look_unmoved : HostInvariant a → MovesNoBulk a.world c.world
-  look_unmoved i = subst (MovesNoBulk a.world) (ap (λ (h : HostState). h.world) (sym f.others))
+  look_unmoved i = subst (MovesNoBulk a.world) (grind arith)
       (cleared_unmoved x i.owned tt)
 
   look_left : c.entries ≡ without path a.entries
@@ -263,16 +221,14 @@ module _ {path : List ℕ} {port : KnownPort} {a b c : HostState} (s : StandsAt 
   bare_sound : status.connected ≡ false → ServesSound path a (Ok tt) c
   bare_sound off = record {
     sound = λ i. forgot_sound s r look_went x.keeps f i off;
-    bulk = λ i on still. bulk_stays a c (forgot_stay s r look_went x.keeps f i) (look_unmoved i);
+    bulk = search (bulk_stays, forgot_stay, look_unmoved);
     cut = λ i. tt;
     plugs = λ i still. plugs_forgot look_goes.went r f;
-    caused = λ i fair caused.
-        forgot_caused s r look_went x.keeps f i fair.still caused;
+    caused = λ i fair caused. search forgot_caused;
   }
 
   cleared_keeps : HostInvariant a → KeepsFound path a.world c.world
-  cleared_keeps i = found_all path (subst (KeepsAll a.world)
-      (ap (λ (h : HostState). h.world) (sym f.others))
+  cleared_keeps i = found_all path (subst (KeepsAll a.world) (grind arith)
       (x.keeps.backlog (claims a.entries) path (stands_at-claim s) i.owned tt))
 
   bare_pays : PaysAtLook path a (Ok tt) c
@@ -280,7 +236,7 @@ module _ {path : List ℕ} {port : KnownPort} {a b c : HostState} (s : StandsAt 
     pays = λ i still before told ports at changed.
         look_bare a b s look_went i before told ports at changed status x.paid c f.others
         (record { went = look_goes.went; hubs = hubs-gone path a b c r f.rest }) still;
-    few = λ i most plan. omega (arith, look_goes.went.spends.most);
+    few = grind arith;
     anew = λ i ports on still. anew_owed path ports (cleared_keeps i);
   }
 
@@ -289,7 +245,7 @@ module _ {path : List ℕ} {port : KnownPort} {a b c : HostState} (s : StandsAt 
     status = status;
     mid = b.world;
     cleared = x.reads (claims a.entries) path (stands_at-claim s) o;
-    renewed = renews_by path a.entries c.entries off look_left;
+    renewed = search (look_left, renews_by);
     found = λ on. absurd (cc (on, off));
   }
 
@@ -310,31 +266,14 @@ module _ {path : List ℕ} {port : KnownPort} {a b c : HostState} (s : StandsAt 
         plugs_then clearing_bound widest_enumeration a c d look_goes.went then still
         (plugs_forgot look_goes.went r f) (plugs_kept c d then.spends.onward e)
 
-    found_renewed : (result : Result (Unit {0}) EnumFault) (d : HostState) → Entered path c result d
-        → OnOk result (Replaced path (without path a.entries) d.entries)
-    found_renewed (Ok done) d e = renews a r f e
-    found_renewed (Err fault) d e = tt
-
     found_anew : (d : HostState) → d.options ≡ c.options
         → EntersFound path port c.addresses c.world c.entries d → FindsAnew path a.entries b.world d
     found_anew d width g = record {
       port = port;
       known = s.known;
       addresses = c.addresses;
-      agrees =
-          rw width (subst (λ (es : Entries). Agrees c.options es c.addresses) look_left f.agrees);
-      found = record {
-        finding = g.finding;
-        gave = subst (λ (w : World). Enumerates port.port c.addresses d.options (tier_of path)
-            port.supply w (Ok g.finding) d.world) (ap (λ (h : HostState). h.world) f.others) g.gave;
-        is = g.is;
-        entries = g.entries
-            ∙ ap (λ (es : Entries). insert_entry path_cmp es path g.finding) look_left;
-        said = g.said;
-        says = subst (λ (w : World). IsSaid port.port c.addresses g.said w d.world g.finding)
-            (ap (λ (h : HostState). h.world) f.others) g.says;
-        keeps = g.keeps;
-      };
+      agrees = grind arith;
+      found = grind arith;
     }
 
     found_looked : (result : Result (Unit {0}) EnumFault) (d : HostState) → Entered path c result d
@@ -345,10 +284,7 @@ module _ {path : List ℕ} {port : KnownPort} {a b c : HostState} (s : StandsAt 
       status = status;
       mid = b.world;
       cleared = x.reads (claims a.entries) path (stands_at-claim s) o;
-      renewed = renews_by path a.entries d.entries on (
-        e.finding,
-        e.entries ∙ ap (λ (es : Entries). insert_entry path_cmp es path e.finding) look_left,
-      );
+      renewed = grind arith;
       found = λ shown. found_anew d width g;
     }
     found_looked (Err fault) d e width g o = found_failed path a c d fault look_left e
@@ -358,8 +294,8 @@ module _ {path : List ℕ} {port : KnownPort} {a b c : HostState} (s : StandsAt 
         → OnErr result (StaysWhere (d.world.fault ≡ None) a d)
     found_cut (Ok done) d z i = tt
     found_cut (Err fault) d z i =
-        where_joined a c d (λ still. tt) (stays_where {So = Unit {0}} a c (forgot_stay s r look_went
-        x.keeps f i)) (z.cut (look_opens i))
+        where_joined a c d (λ still. tt) (stays_where {So = Unit {0}} a c (search forgot_stay))
+        (z.cut (look_opens i))
 
     module _ {result : Result (Unit {0}) EnumFault} (d : HostState)
         (e : Entered path c result d) (z : Discovers path port c result d) where
@@ -371,8 +307,8 @@ module _ {path : List ℕ} {port : KnownPort} {a b c : HostState} (s : StandsAt 
             z.requested.goes.went still
             (bulk_stays a c (forgot_stay s r look_went x.keeps f i) (look_unmoved i))
             (z.sound.bulk (look_opens i) goes still);
-        cut = λ i. found_cut result d z.sound i;
-        plugs = λ i still. found_plugs result d z.requested.goes.went e i still;
+        cut = search found_cut;
+        plugs = grind (arith, found_plugs);
         caused = λ i fair caused.
             let causes = forgot_caused s r look_went x.keeps f i
             (fair_before z.requested.goes.went fair).still caused in
@@ -406,11 +342,9 @@ look_done {path = path} {a = a} {b = b} {d = d} result {status = status} s r x y
   sound = cases (λ q h. ServesSound path a q h)
       (λ on. found_sound s r x y.forgot on d (y.entered on) (y.found on))
       (bare_sound s r x y.forgot);
-  renewed = cases (λ q h. OnOk q (Replaced path (without path a.entries) h.entries))
-      (λ on. found_renewed s r x y.forgot on result d (y.entered on))
-      (λ off. inl (without_rests a r y.forgot));
-  pays = cases (λ q h. PaysAtLook path a q h) (λ on. found_pays s r x y.forgot on d (y.entered on)
-      (y.found on)) (λ off. bare_pays s r x y.forgot);
+  renewed = grind arith;
+  pays = cases (λ q h. PaysAtLook path a q h) (search (found_pays, y.entered, y.found))
+      (λ off. bare_pays s r x y.forgot);
   hubs = renew_hubs y r x.requested.goes;
   looked = cases (λ q h. IsOwned a → LookedOrLost path a q h)
       (λ on. found_looked s r x y.forgot on result d (y.entered on)
@@ -432,7 +366,7 @@ pub error_look_fails : (path : List ℕ) (port : KnownPort) {a b : HostState} {f
 error_look_fails path port {a = a} {b = b} {fault = fault} r x = record {
   requested = requested-fails (Unit {0}) x.requested (omega arith);
   on = λ can. failed_on_way PortStatus a b fault r (x.gains can);
-  owned = rests_keeps_port path a b r x.requested.goes.went.spends.roots x.bares;
+  owned = grind (arith, rests_keeps_port);
   order = first_failed fault x refl;
 }
 
@@ -458,26 +392,23 @@ pub serve_fails : {path : List ℕ} (port : KnownPort) {a b : HostState} {fault 
 serve_fails {path = path} port {a = a} {b = b} {fault = fault} s r x =
     let watches = shows_watches x in
     let went = x.requested.goes.went in
-    let told = x.requested.told in
     record {
       requested = requested-fails (Unit {0}) x.requested (omega arith);
       on = λ due. status_lost_on port.port a b r fault (shows_shown x);
-      owned = rests_keeps_port path a b r went.spends.roots watches.addresses;
+      owned = grind (arith, rests_keeps_port);
       sound = record {
-        sound = watched_lost s r went fault watches told;
-        bulk = λ i on still.
-            bulk_stays a b (watched_stay s r went watches i)
-            (shown_unmoved x i.owned (goes_as (Unit {0}) PortStatus fault on));
-        cut = λ i. stays_where a b (watched_stay s r went watches i);
+        sound = search watched_lost;
+        bulk = λ i on still. search (bulk_stays, shown_unmoved, watched_stay);
+        cut = search (stays_where, watched_stay);
         plugs = λ i still. plugs_rests a b went r;
-        caused = watched_caused s r went fault watches told;
+        caused = search watched_caused;
       };
       pays = record {
-        pays = λ i ports still. status_lost s r went i ports fault watches;
-        few = λ i most plan. omega (arith, went.spends.most);
+        pays = search status_lost;
+        few = grind arith;
       };
       hubs = omega (arith, hubs-rest a r);
-      served = λ i. status_failed s r went i.owned fault;
+      served = λ i. search status_failed;
       order = first_failed fault x refl;
     }
 
@@ -501,19 +432,21 @@ module _ {path : List ℕ} {port : KnownPort} {a b : HostState} (s : StandsAt pa
         requested = requested-then x.requested y.requested (omega arith);
         on = λ due.
             looked_on port.port a b d result status r (shows_shown x) x.requested.goes y.on due;
-        owned = port_then (stays_rests a b r shown_went.spends.roots shown_watches.addresses)
-            y.owned;
+        owned = search (port_then, stays_rests);
         sound = record {
           sound = λ i. y.sound.sound (shown_sound i);
           bulk = λ i on still.
-              bulk_then (read_bound 4) look_bound a b d shown_went then still (bulk_stays a b
-              (watched_stay s r shown_went shown_watches i) (shown_unmoved x i.owned tt))
-              (y.sound.bulk (shown_sound i) on still);
-          cut = λ i. cut_after _ d result (watched_stay s r shown_went shown_watches i)
-              (y.sound.cut (shown_sound i));
-          plugs = λ i still.
-              plugs_then (read_bound 4) look_bound a b d shown_went then still
-              (plugs_rests a b shown_went r) (y.sound.plugs (shown_sound i) still);
+              search (
+                bulk_stays,
+                bulk_then,
+                shown_sound,
+                shown_unmoved,
+                shown_watches,
+                watched_stay,
+                y.sound.bulk,
+              );
+          cut = λ i. search (cut_after, shown_sound, shown_watches, watched_stay, y.sound.cut);
+          plugs = search (plugs_rests, plugs_then, shown_sound, y.sound.plugs);
           caused = λ i fair caused.
               let half = fair_before {n = look_bound} {old = a.world} {mid = b.world}
               {new = d.world} then fair in
@@ -521,10 +454,7 @@ module _ {path : List ℕ} {port : KnownPort} {a b : HostState} (s : StandsAt pa
               (causes_rests a r shown_went s.agrees half.still (shown_watches.rests tt) i caused);
         };
         pays = record {
-          pays = λ i ports still.
-              after_look s r shown_went i ports shown_watches result d
-              (y.pays.pays (shown_sound i) still a.world status ports
-              (told_there s r shown_went i ports shown_watches) changed);
+          pays = search (after_look, shown_sound, shown_watches, told_there, y.pays.pays);
           few = λ i most plan.
               omega (
                 arith,
@@ -533,9 +463,7 @@ module _ {path : List ℕ} {port : KnownPort} {a b : HostState} (s : StandsAt pa
               );
         };
         hubs = omega (arith, hubs-rest a r, y.hubs);
-        served = λ i.
-            serves_looked s r shown_went i.owned shown_watches
-            changed result d y.looked;
+        served = λ i. search (serves_looked, shown_watches);
         order = next_done status b x (at_connection changed y);
       }
 
@@ -563,9 +491,7 @@ module _ {path : List ℕ} {port : KnownPort} {a b : HostState} (s : StandsAt pa
       cut = λ i. on_errors result _ (stays_where {So = d.world.fault ≡ None} a d (stay_joined a b d
           (watched_stay s r shown_went shown_watches i)
           (tidied_stay settled_stands q settled_went (settled_tidies i).tidies (shown_sound i))));
-      plugs = λ i still.
-          plugs_then (read_bound 4) (4 * write_bound) a b d shown_went settled_went still
-          (plugs_rests a b shown_went r) (plugs_rests b d settled_went q);
+      plugs = search (plugs_rests, plugs_then);
       caused = λ i fair caused.
           tidied_caused settled_stands q settled_went result (settled_tidies i).tidies
           y.requested.told (shown_sound i) (fair_after shown_went fair)
@@ -577,21 +503,17 @@ module _ {path : List ℕ} {port : KnownPort} {a b : HostState} (s : StandsAt pa
         → ServesPort path port a result d
     serve_settled calm = record {
       requested = requested-then x.requested y.requested (omega arith);
-      on = λ due.
-          tidied_on port.port a b d result status r q (shows_shown x) y.requested.goes steady due;
-      owned = rests_keeps_port path a d (host_rests_then a d r q)
-          (settled_went.spends.roots ∙ shown_went.spends.roots)
-          (keeps_then a.world b.world d.world shown_watches.addresses y.keeps.addresses);
+      on = grind arith;
+      owned = grind (arith, keeps_then, rests_keeps_port);
       sound = settled_sound;
       pays = record {
         pays = λ i ports still.
             let t = settled_tidies i in
-            let order = i.order (went_before shown_went
-            (went_before settled_went still)) in
+            let order = i.order (search went_before) in
             after_tidy s r shown_went i ports shown_watches steady d
-            (none_rests b t.requested.goes.went q) order result t.tidies
+            (search none_rests) order result t.tidies
             t.clears.reset t.clears.calm;
-        few = λ i most plan. omega (arith, shown_went.spends.most, settled_went.spends.most);
+        few = grind arith;
       };
       hubs = omega (arith, hubs-rest a r, hubs-rest b q);
       served = λ i.
@@ -604,18 +526,15 @@ module _ {path : List ℕ} {port : KnownPort} {a b : HostState} (s : StandsAt pa
   module _ (steady : status.connection_changed ≡ false)
       (failed : was_disabled port.port status (accepted_device_at path b.entries) ≡ true) where
     not_failed : HostInvariant a → ⊥
-    not_failed i =
-        none_failed path port a s i status shown_watches (accepted_device_at path b.entries) failed
+    not_failed i = grind (arith, none_failed)
 
     pub serve_failed : {result : Result (Unit {0}) EnumFault} {d : HostState}
         → LooksAfterError path port b result d → hubs d.entries ≤ hubs b.entries + 1
         → ServesPort path port a result d
     serve_failed {result = result} {d = d} y few = record {
       requested = requested-then x.requested y.requested (omega arith);
-      on = λ due.
-          failed_served port.port a b d result status r x.requested.goes
-          (accepted_device_at path b.entries) failed y.on;
-      owned = port_then (stays_rests a b r shown_went.spends.roots shown_watches.addresses) y.owned;
+      on = search failed_served;
+      owned = search (port_then, stays_rests);
       sound = record {
         sound = λ i. absurd (not_failed i);
         bulk = λ i. absurd (not_failed i);
@@ -652,15 +571,7 @@ pub finish_fails : (path : List ℕ) {served : Result (Unit {0}) EnumFault} {fau
 finish_fails path h other single left = record {
   goes = host_goes_none;
   holds = omega arith;
-  drops = record {
-    owned = record { ends = single; rooted = λ r at. tt };
-    sound = λ p. tt;
-    backlog = λ p. tt;
-    bulk = λ p. tt;
-    cut = λ p. stays_where h h (stay_none h);
-    plugs = tt;
-    caused = λ p fair q. tt;
-  };
+  drops = grind arith;
   left = left;
   fewer = λ is. absurd (other is);
 }
@@ -672,14 +583,7 @@ module _ {path : List ℕ} {port : KnownPort} {a b d : HostState} (s : StandsAt 
   finished_part : {n : ℕ} → Requested port.port n a served b → n + drop_bound ≤ handling_bound
       → KeepsPort path a served b → ServesSound path a served b → Part handling_bound a result d
   finished_part {n = n} x le owned sound =
-      let went = x.goes.went in
-      let goes = host_goes_then x.goes y.goes le in
-      record {
-        goes = goes;
-        owned = port_finished path port a result d s went.spends.roots owned y.drops.owned;
-        sound = finished_sound n served result a b d went y.goes.went goes.options ends sound
-            y.drops;
-      }
+      let goes = host_goes_then x.goes y.goes le in search (finished_sound, port_finished)
 
   pub look_finished : LooksAt path port a served b → Part handling_bound a result d
   look_finished x = finished_part x.requested (omega arith) x.owned x.sound
@@ -689,9 +593,8 @@ module _ {path : List ℕ} {port : KnownPort} {a b d : HostState} (s : StandsAt 
   handle_finished x = record {
     part = finished_part x.requested (omega arith) x.owned x.sound;
     handled = handles_at path (IsDue a.world port.port) result a d
-        (handled result served a b d ends y.holds x.on)
-        (λ i. handled_at path served result a b d ends y.left (x.served i))
-        (done_by _ path served result a b d s.known ends y.left x.order);
+        (handled result served a b d ends y.holds x.on) (grind (arith, handled_at))
+        (search done_by);
     cut = port_cut path served result a b d y.goes.went ends y.left
         (λ i. served_left path served a b (x.served i)) x.sound.cut
         (λ i. y.drops.cut (x.sound.sound i));
@@ -702,12 +605,10 @@ module _ {path : List ℕ} {port : KnownPort} {a b d : HostState} (s : StandsAt 
   pub own_finished : OnlyBusSteps a b → ClearsOwn port.port a served b
       → ServesOwn (OwnHandled path) a result d
   own_finished r x =
-      let roots = x.requested.goes.went.spends.roots in
       record {
         goes = host_goes_then x.requested.goes y.goes (omega arith);
         holds = no_work_then a b d (rests_holds a b x.requested.goes r) y.holds;
-        owned = port_finished path port a result d s roots
-            (rests_keeps_port path a {result = served} b r roots x.addresses) y.drops.owned;
+        owned = search (port_finished, rests_keeps_port);
         served = done_by _ path served result a b d s.known ends y.left (x, r);
       }
 
@@ -733,8 +634,8 @@ pub look_nowhere : {path : List ℕ} {h : HostState} → StandsNowhere path h �
     → LooksOnceMore path h (Ok Quiet) h
 look_nowhere {path = path} {h = h} none waits = record {
   part = part-none;
-  did = record { did = refl; some = λ r. absurd (waits_somewhere path h none waits r) };
-  looked = λ s. absurd (waits_somewhere path h none waits s.rooted);
+  did = grind (arith, waits_somewhere);
+  looked = λ s. search waits_somewhere;
   order = (none, refl);
   cut = tt;
 }

@@ -8,21 +8,19 @@ use Rattle.usb_host.specs.{HubsKeep, LooksKeep, NoneWait, HostFault, Round, Quie
 use Rattle.usb_host.specs.{Affords, Weights, Waits, HostProgress, Did, Remains, DidParts}
 use Rattle.usb_host.specs.{LookedAgain, LookedOnce, LooksAgain, ServesEach, ServesHubs, WentByParts}
 use Rattle.usb_host.specs.{next_device, HostInvariant, PartsFail, StopsIn, Worked, hubs_failed}
-use Rattle.usb_host.specs.{looks_failed, roots_failed, PaysPart, handling_bound, RootsPaid}
-use Rattle.usb_host.specs.{IsRooted, AddsNoWork, HandlesNumber, HandlesPort, HubsPolled}
-use Rattle.usb_host.specs.{LooksOnceMore, RootsServed, ServedTold, ServesHub, ServesPorts}
-use Rattle.usb_host.specs.{bit_clear, bit_set, next_hub, no_device, no_hub, no_root, none_yet}
-use Rattle.usb_host.specs.{root_changed, root_steady, hubs_most, handling_most, BitsHandledSo}
-use Rattle.usb_host.specs.{HubsAsked, RootsHandledSo, WaitingAsked, bit_handled, bit_unset}
-use Rattle.usb_host.specs.{bits_begun, hub_asked, hubs_begun, root_handled, root_unchanged}
-use Rattle.usb_host.specs.{roots_begun, waiting_begun, waiting_next, Stops}
-use Rattle.usb_host.proofs.devices.Owners.{single_then, stays_owned_none, stays_owned_then}
+use Rattle.usb_host.specs.{looks_failed, PaysPart, handling_bound, RootsPaid, IsRooted, AddsNoWork}
+use Rattle.usb_host.specs.{HandlesNumber, HandlesPort, HubsPolled, LooksOnceMore, RootsServed}
+use Rattle.usb_host.specs.{ServedTold, ServesHub, ServesPorts, bit_clear, bit_set, next_hub}
+use Rattle.usb_host.specs.{no_device, no_hub, no_root, none_yet, root_changed, root_steady}
+use Rattle.usb_host.specs.{handling_most, BitsHandledSo, HubsAsked, RootsHandledSo, WaitingAsked}
+use Rattle.usb_host.specs.{bit_handled, bit_unset, bits_begun, hub_asked, hubs_begun, root_handled}
+use Rattle.usb_host.specs.{root_unchanged, roots_begun, waiting_begun, waiting_next, Stops}
+use Rattle.usb_host.proofs.devices.Owners.{single_then, stays_owned_then}
 use Rattle.usb_host.proofs.rests.RestingRounds.{done, ok_is, quiet_first, quiet_second, at_rest}
-use Rattle.usb_host.proofs.rests.RestingRounds.{all_idle, hubs_idle, looks_idle, roots_idle}
 use Rattle.usb_host.proofs.rests.RestingRounds.{none_next, none_shows, none_changed, Polled}
 use Rattle.usb_host.proofs.rests.RestingRounds.{calm_then, none_waits, polled_all, polled_then}
 use Rattle.usb_host.proofs.StepSums.{host_goes_none, host_goes_then, goes_wider, did_then}
-use Rattle.usb_host.proofs.StepSums.{went_before, did_holds, no_work_then, worked_after}
+use Rattle.usb_host.proofs.StepSums.{went_before}
 use Rattle.usb_host.proofs.knowledge.Soundness.{part_none, part_then}
 use Rattle.usb_table.specs.{ComesAfter, is_hub, is_waiting, IsLast, IsNext}
 use Rattle.usb_world.specs.{PlanData, changes, root_row, here, root_port_at, roots_of}
@@ -35,7 +33,6 @@ use Rattle.usb_host.proofs.payments.HubPayments.{HubsSoFar, hubs_all, hubs_faile
 use Rattle.usb_host.proofs.payments.HubPayments.{ToldSoFar, root_shows, roots_failed_pay}
 use Rattle.usb_host.proofs.payments.HubPayments.{roots_next, told_all, told_clear, told_failed}
 use Rattle.usb_host.proofs.payments.HubPayments.{told_next, told_so_far_none}
-use Rattle.usb_host.proofs.payments.Payments.{costs_none, few_stop}
 use Rattle.usb_host.proofs.entries.Ranks.{rank_after, rank_after_most, rank_more, rank_most}
 use Rattle.usb_host.proofs.entries.Ranks.{rank_within, rank_rises}
 
@@ -44,52 +41,35 @@ use Rattle.usb_host.proofs.entries.Ranks.{rank_within, rank_rises}
 -- One part after another
 
 pub part-none : {A : Type 0} {n : ℕ} {x : A} {h : HostState} → Part n h (Ok x) h
-part-none {h = h} = record { goes = host_goes_none; owned = stays_owned_none; sound = part_none h }
+part-none = search (host_goes_none, part_none)
 
 pub part-then : {A B : Type 0} {k m n : ℕ} {a b c : HostState} {x : A} (result : Result B HostFault)
     → Part m a (Ok x) b → Part n b result c → m + n ≤ k → Part k a result c
-part-then {m = m} {a = a} {b = b} {c = c} (Ok y) p q le = record {
-  goes = host_goes_then p.goes q.goes le;
-  owned = stays_owned_then p.owned q.owned;
-  sound = part_then m a b c p.goes.went q.goes.went p.sound q.sound;
-}
-part-then (Err fault) p q le = record {
-  goes = host_goes_then p.goes q.goes le;
-  owned = single_then p.owned q.owned;
-  sound = tt;
-}
+part-then {m = m} {a = a} {b = b} {c = c} (Ok y) p q le =
+    search (host_goes_then, part_then, stays_owned_then, p.goes, p.owned, p.goes.went)
+part-then (Err fault) p q le = search (host_goes_then, single_then, p.goes)
 
 pub part-wider : {A : Type 0} (B : Type 0) {k m : ℕ} {a b : HostState} {x : A} {y : B}
     → Part m a (Ok x) b → m ≤ k → Part k a (Ok y) b
-part-wider B p le = record { goes = goes_wider p.goes le; owned = p.owned; sound = p.sound }
+part-wider B p le = search goes_wider
 
 pub part-fails : {A B : Type 0} {k m : ℕ} {a b : HostState} {fault : HostFault}
     → Part {A = A} m a (Err fault) b → m ≤ k → Part {A = B} k a (Err fault) b
-part-fails p le = record { goes = goes_wider p.goes le; owned = p.owned; sound = tt }
+part-fails p le = search goes_wider
 
 -- Parts that failed
 
 module _ {fault : HostFault} {a c : HostState} where
   pub hub_fails : {hub : List ℕ} → Part {A = Round} hub_poll_bound a (Err fault) c
       → HubKeeps hub a (Err fault) c
-  hub_fails x =
-      record { part = x; calm = λ is. absurd (cc is); silent = λ s is. absurd (cc is) }
+  hub_fails x = grind arith
 
   hubs_fail : Part {A = Round} hubs_bound a (Err fault) c → HubsKeep a (Err fault) c
-  hubs_fail x = record {
-    part = x;
-    calm = λ is. absurd (cc is);
-    silent = λ s is. absurd (cc is);
-    agrees = tt;
-  }
+  hubs_fail x = grind arith
 
   looks_fail : Part {A = Round} looks_bound a (Err fault) c → (NoneWait a.entries → ⊥)
       → LooksKeep a (Err fault) c
-  looks_fail x waits = record {
-    part = x;
-    rest = λ r is. absurd (cc is);
-    idle = λ none. absurd (waits none);
-  }
+  looks_fail x waits = grind arith
 
 -- All parts
 
@@ -103,10 +83,9 @@ parts_keep roots hubs looks a b c d none x y z = record {
       (part-wider Round {k = looks_bound} {y = either (either roots hubs) looks} z.part
       (omega arith)) (omega arith);
   rest = λ s is taken still.
-      let all : either (either roots hubs) looks ≡ Quiet =
-      ok_is (either (either roots hubs) looks) Quiet is in
-      let both : either roots hubs ≡ Quiet = quiet_first (either roots hubs) looks all in
-      at_rest a b c d (none (ap done (quiet_first roots hubs both))) y.part.sound.sound
+      let all : either (either roots hubs) looks ≡ Quiet = grind arith in
+      let both : either roots hubs ≡ Quiet = search quiet_first in
+      at_rest a b c d (search quiet_first) y.part.sound.sound
       (rw (quiet_second roots hubs both) at y)
       (rw (quiet_second (either roots hubs) looks all) at z)
       s taken still;
@@ -117,8 +96,7 @@ parts_keep roots hubs looks a b c d none x y z = record {
 -- A second look
 
 either_worked : (r : Round) → either r Worked ≡ Worked
-either_worked Worked = refl
-either_worked Quiet = refl
+either_worked r = grind arith
 
 pub looked_then : (last : Option (List ℕ)) (path : List ℕ) (before round : Round)
     (a b c : HostState) → LookedAgain last before a b → Waits path b → ComesAfter last path
@@ -134,16 +112,7 @@ parts_failed : {fault : HostFault} {a b : HostState} → Part {A = Round} round_
     → (a.entries ≡ [] → changes (root_row a.world) ≡ 0 → ⊥) → (HostInvariant a
     → a.world.fault ≡ None → PartsFail a b)
     → WentByParts a (Err fault) b
-parts_failed part stops idle fails = record {
-  keeps = record { part = part; rest = λ s is. absurd (cc is) };
-  did = tt;
-  none = λ is. absurd (cc is);
-  parts = tt;
-  order = tt;
-  fails = fails;
-  pays = λ c plan w. record { most = stops c plan w; pays = λ still. tt; plugs = tt };
-  idle = λ entries none. absurd (idle entries none);
-}
+parts_failed part stops idle fails = grind arith
 
 module _ {a b : HostState} where
   -- the root ports failed
@@ -151,8 +120,7 @@ module _ {a b : HostState} where
       → WentByParts a (Err fault) b
   parts_rootless {fault = fault} x =
       parts_failed (part-fails {k = round_bound} x.part (omega arith)) (roots_end_pay x)
-      (λ entries none. roots_idle a entries none b fault x.idle)
-      (λ i none. roots_failed (x.fails i none))
+      (grind arith) (grind arith)
 
   module _ {roots : Round} (x : ServesEach a (Ok roots) b)
       (working : a.world.fault ≡ None → b.world.fault ≡ None) {d : HostState} where
@@ -162,10 +130,9 @@ module _ {a b : HostState} where
     parts_hubless {fault = fault} y =
         parts_failed (part-fails {k = round_bound}
         (part-then {k = roots_bound + hubs_bound} _ x.part y.keeps.part (omega arith))
-        (omega arith)) (hubs_end_pay x y)
-        (λ entries none. hubs_idle a entries none b roots x.idle d fault y.idle)
+        (omega arith)) (hubs_end_pay x y) (grind arith)
         (λ i none. hubs_failed roots b (x.serves.served i) (x.part.sound.bulk i (working none))
-        (y.fails (x.part.sound.sound.sound i) (working none)))
+        (grind arith))
 
     module _ {hubs : Round} (y : ServesHubs b (Ok hubs) d)
         (on : b.world.fault ≡ None → d.world.fault ≡ None) (f : HostState) where
@@ -177,9 +144,7 @@ module _ {a b : HostState} where
           → WentByParts a (Err fault) f
       parts_lookless {fault = fault} z =
           parts_failed (part-then {k = round_bound} _ both_served z.keeps.part (omega arith))
-          (looks_end_pay x y z.keeps)
-          (λ entries none. looks_idle a entries none b roots x.idle d hubs y.idle f fault
-          z.keeps.idle)
+          (looks_end_pay x y z.keeps) (grind arith)
           (λ i none.
           let still = on (working none) in
           looks_failed roots hubs b d (x.serves.served i)
@@ -193,11 +158,8 @@ module _ {a b : HostState} where
         keeps = parts_keep roots hubs looks a b d f (λ is. x.serves.none (ok_is roots Quiet is))
             x.part y.keeps z.keeps;
         did = did_then (either roots hubs) looks a d f both_served.goes z.keeps.part.goes
-            (did_then roots hubs a b d x.part.goes y.keeps.part.goes x.serves.did y.did) z.did;
-        none = λ is.
-            let both = quiet_first (either roots hubs) looks
-            (ok_is (either (either roots hubs) looks) Quiet is) in
-            (x.serves.none (quiet_first roots hubs both)).none;
+            (search did_then) z.did;
+        none = grind arith;
         parts = λ s still.
             let before = x.part.sound.sound.sound s in
             record {
@@ -209,33 +171,20 @@ module _ {a b : HostState} where
               polled = y.polls before
                   (went_before z.keeps.part.goes.went still);
               looks = looks;
-              looked = z.looked (y.keeps.part.sound.sound.sound before);
+              looked = z.looked (grind arith);
               is = refl;
             };
         fails = tt;
-        order = record {
-          roots = roots;
-          first = b;
-          handled = x.serves.order;
-          hubs = hubs;
-          second = d;
-          asked = y.order;
-          looks = looks;
-          looked = z.order;
-          is = refl;
-        };
+        order = search z.order;
         pays = parts_pay x y z.keeps;
-        idle = λ entries none.
-            all_idle a entries none b roots x.idle d hubs y.idle f looks z.keeps.idle;
+        idle = grind arith;
       }
 
 did_worked : (r : Round) (a b : HostState) → Did r a b → r ≡ Worked → HostProgress a b
-did_worked Worked a b did is = did
-did_worked Quiet a b did is = absurd (cc is)
+did_worked r a b did is = grind arith
 
 did_quiet : (r : Round) (a b : HostState) → Did r a b → r ≡ Quiet → Remains a b
-did_quiet Worked a b did is = absurd (cc is)
-did_quiet Quiet a b did is = did
+did_quiet r a b did is = grind arith
 
 -- one that failed stops
 pub parts_stopped : (result : Result Round HostFault) (a b : HostState) (stopped : Bool)
@@ -245,7 +194,7 @@ parts_stopped (Ok round) a b stopped is went = tt
 parts_stopped (Err fault) a b stopped is went = λ going i none. record {
   left = b;
   fails = went.fails i none;
-  stops = ap (λ (x : Bool). record b { stopped = x }) is;
+  stops = grind arith;
 }
 
 -- a host that has not stopped goes on
@@ -253,14 +202,8 @@ pub parts_done : (result : Result Round HostFault) (a b : HostState) (stopped : 
     → a.stopped ≡ false → stopped ≡ is_err result → WentByParts a result b → HostWorks a result b
     → IfOk result (λ round. DidParts round a (record b { stopped = stopped }))
 parts_done (Ok round) a b stopped going is went works =
-    subst (λ (x : Bool). DidParts round a (record b { stopped = x }))
-    (sym (is ∙ sym (went.keeps.part.goes.going ∙ going))) (record {
-      did = record {
-        worked = did_worked round a b went.did;
-        quiet = λ quiet.
-            (did_quiet round a b went.did quiet, went.none (ap (λ (r : Round). Ok r) quiet));
-        rooted = went.keeps.part.owned.rooted;
-      };
+    subst (λ (x : Bool). DidParts round a (record b { stopped = x })) (grind arith) (record {
+      did = search (did_quiet, did_worked, went.none);
       parts = λ s still. went.parts s (works still);
       order = went.order;
     })
@@ -287,13 +230,10 @@ roots_begin h = record {
   part = part-none;
   did = refl;
   same = λ quiet. refl;
-  unchanged = λ quiet k least below. absurd (omega arith);
+  unchanged = grind arith;
   served = λ s. no_root h;
   order = roots_begun h;
-  pays = record {
-    stops = λ c plan w. few_stop c (handling_most c) h h (omega arith) (omega arith);
-    pays = λ c plan w still. refl;
-  };
+  pays = grind arith;
   idle = λ none. refl;
 }
 
@@ -325,14 +265,14 @@ module _ {n : ℕ} {round : Round} {a b : HostState} (x : RootsHandled n round a
     roots_handled most y = record {
       part = part-then (Ok Worked) x.part
           (part-wider Round {k = handling_bound} {y = Worked} y.part (omega arith)) (omega arith);
-      did = worked_after round a b d x.part.goes x.did (y.handled.advances on);
+      did = grind arith;
       same = λ quiet. absurd (cc quiet);
       unchanged = λ quiet. absurd (cc quiet);
       served = λ s.
           root_changed n round (x.served s) on (y.handled.served (x.part.sound.sound.sound s));
       order = root_handled n round x.order on y.handled.order;
-      pays = roots_next (root_shows b.world n least most on) x.part y.part x.pays y.pays;
-      idle = λ none. absurd (none_shows a b n (x.same (x.idle none)) none on);
+      pays = search (root_shows, roots_next, y.pays);
+      idle = grind (arith, none_shows);
     }
 
     pub roots_cut : n ≤ 7 → (a.world.fault ≡ None → b.world.fault ≡ None) → {fault : HostFault}
@@ -352,7 +292,7 @@ module _ {n : ℕ} {round : Round} {a b : HostState} (x : RootsHandled n round a
         cut = y.cut (x.part.sound.sound.sound i);
       };
       pays = roots_failed_pay x.part y.part x.pays y.pays;
-      idle = λ none. absurd (none_shows a b n (x.same (x.idle none)) none on);
+      idle = grind (arith, none_shows);
     }
 
 -- all of them were
@@ -362,16 +302,13 @@ roots_end {n = n} round {a = a} {b = b} x most end = record {
   part = part-wider Round x.part (omega arith);
   serves = record {
     did = x.did;
-    none = λ quiet. record {
-      same = x.same quiet;
-      none = none_changed a.world n (omega arith) (x.unchanged quiet);
-    };
-    served = λ s. subst (λ k. RootsServed k round a b) end (x.served s);
-    order = subst (λ k. RootsHandledSo k round a b) end x.order;
+    none = grind (arith, none_changed);
+    served = grind arith;
+    order = grind arith;
   };
   fails = tt;
   pays = x.pays;
-  idle = λ none. (ap (λ (r : Round). Ok r) (x.idle none), x.same (x.idle none));
+  idle = grind arith;
 }
 
 -- Ports of which a hub told
@@ -412,10 +349,10 @@ module _ {hub : List ℕ} {bits n : ℕ} {a b : HostState} (x : PortsHandled hub
     ports_handled {round = round} on y = record {
       part = part-then (Ok tt) x.part
           (part-wider (Unit {0}) {k = handling_bound} {y = tt} y.part (omega arith)) (omega arith);
-      holds = no_work_then a b d x.holds (did_holds round b d y.part.goes y.handled.did);
+      holds = grind arith;
       served = λ s. bit_set n (x.served s) on (y.handled.served (x.part.sound.sound.sound s));
       order = bit_handled n x.order on y.handled.order;
-      pays = told_next least most on x.part y.part x.pays y.pays;
+      pays = search told_next;
     }
 
     pub ports_cut : (a.world.fault ≡ None → b.world.fault ≡ None) → {fault : HostFault}
@@ -443,8 +380,8 @@ pub ports_end : {hub : List ℕ} (bits : ℕ) {n : ℕ} {a b : HostState} → Po
 ports_end {hub = hub} bits {a = a} {b = b} x end = record {
   part = part-wider (Unit {0}) x.part (omega arith);
   holds = x.holds;
-  served = λ s. subst (λ k. ServedTold hub bits k a b) end (x.served s);
-  order = subst (λ k. BitsHandledSo hub bits k a b) end x.order;
+  served = grind arith;
+  order = grind arith;
   fails = tt;
   pays = told_all a b (rw end at x.pays);
 }
@@ -467,13 +404,10 @@ hubs_begin h = record {
   part = part-none;
   did = refl;
   calm = λ quiet still x. here h.world;
-  polled = λ s quiet still taken hub first. absurd (first tt);
+  polled = grind arith;
   polls = λ s still. no_hub h;
   order = hubs_begun h;
-  pays = record {
-    stops = λ c plan w. few_stop c (hubs_most c) h h (omega arith) (omega arith);
-    pays = λ c plan w still. record { polls = 0; few = omega arith; paid = costs_none c 0 h };
-  };
+  pays = grind arith;
 }
 
 module _ {last : Option (List ℕ)} {hub : List ℕ} {round : Round} {a b d : HostState}
@@ -511,8 +445,8 @@ module _ {last : Option (List ℕ)} {hub : List ℕ} {round : Round} {a b d : Ho
   hubs_cut works y idle = record {
     keeps = hubs_fail (part-fails {k = hubs_bound}
         (part-then {k = rank_after (Some hub) * hub_poll_bound} _ x.part y.keeps.part
-        (rank_more hub_poll_bound last hub before path next.stands.after))
-        (rank_within hub_poll_bound (rank_after (Some hub)) (rank_most hub path)));
+        (search rank_more))
+        (search (rank_most, rank_within)));
     did = tt;
     polls = tt;
     order = tt;
@@ -527,7 +461,7 @@ module _ {last : Option (List ℕ)} {hub : List ℕ} {round : Round} {a b d : Ho
       fails = y.fails (x.part.sound.sound.sound i) (works none);
     };
     pays = hubs_failed_pay hub x.part y.keeps.part x.pays y.pays;
-    idle = λ none. absurd (none_next (idle none) none next);
+    idle = λ none. search none_next;
   }
 
 pub hubs_all_handled : (last : Option (List ℕ)) (round : Round) {a b : HostState}
@@ -535,20 +469,13 @@ pub hubs_all_handled : (last : Option (List ℕ)) (round : Round) {a b : HostSta
     → Agrees b.options b.entries b.addresses → (a.entries ≡ [] → (round ≡ Quiet) × (b ≡ a))
     → ServesHubs a (Ok round) b
 hubs_all_handled last round {a = a} {b = b} x path none agrees idle = record {
-  keeps = record {
-    part = part-wider Round x.part
-        (rank_within hub_poll_bound (rank_after last) (rank_after_most last path));
-    calm = λ is still. x.calm (ok_is round Quiet is) still;
-    silent = λ s is still taken.
-        polled_all last b none (x.polled s (ok_is round Quiet is) still taken);
-    agrees = agrees;
-  };
+  keeps = search (ok_is, part-wider, polled_all, rank_after_most, rank_within, x.calm, x.polled);
   did = x.did;
-  polls = λ s still. record { last = last; polled = x.polls s still; all = none };
-  order = record { last = last; asked = x.order; all = none };
+  polls = grind arith;
+  order = grind arith;
   fails = tt;
   pays = hubs_all last round a b x.pays;
-  idle = λ empty. (ap (λ (r : Round). Ok r) (idle empty).0, (idle empty).1);
+  idle = grind arith;
 }
 
 -- Devices that wait
@@ -592,10 +519,9 @@ module _ {last : Option (List ℕ)} {path : List ℕ} {round : Round} {a b d : H
       → LooksAgain a (Err fault) d
   waiting_cut works y idle = record {
     keeps = looks_fail (part-fails {k = looks_bound}
-        (part-then {k = rank_after (Some path) * handling_bound} _ x.part y.part
-        (rank_more handling_bound last path before is after))
-        (rank_within handling_bound (rank_after (Some path)) (rank_most path is)))
-        (λ none. one_waits (idle none) waits none);
+        (part-then {k = rank_after (Some path) * handling_bound} _ x.part y.part (search rank_more))
+        (search (rank_most, rank_within)))
+        (search one_waits);
     did = tt;
     looked = tt;
     order = tt;
@@ -618,17 +544,16 @@ pub waiting_end : {last : Option (List ℕ)} {round : Round} {a b : HostState}
     → (NoneWait a.entries → (round ≡ Quiet) × (b ≡ a)) → LooksAgain a (Ok round) b
 waiting_end {last = last} {round = round} x path agrees all idle = record {
   keeps = record {
-    part = part-wider Round x.part
-        (rank_within handling_bound (rank_after last) (rank_after_most last path));
+    part = search (part-wider, rank_after_most, rank_within);
     rest = λ r is.
         let rests = x.none r (ok_is round Quiet is) in (
           rests.0,
           none_waits agrees (rw rests.1 at all),
         );
-    idle = λ none. (ap (λ (r : Round). Ok r) (idle none).0, (idle none).1);
+    idle = grind arith;
   };
   did = x.did;
-  looked = λ s. record { last = last; looked = x.looked s; all = all };
-  order = record { last = last; looked = x.order; all = all };
+  looked = grind arith;
+  order = grind arith;
   fails = tt;
 }

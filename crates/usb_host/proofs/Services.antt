@@ -1,32 +1,29 @@
 -- What is done at the ports, and what is left where the host stopped.
-use Rattle.usb_tree.proofs.Interface.{decided}
 use Rattle.std.proofs.Common.{◌≡◌, ◌∙◌, refl, sym, arith, true, false, ℕ, ◌+◌, ◌≤◌, ◌/◌, ◌%◌, ◌^◌}
 use Rattle.std.proofs.Common.{◌≢◌, bit_and, List, Ok, Err, OnOk, Result, inl, inr, ap, length}
 use Rattle.std.proofs.Common.{length-append, ◌<◌, not, Bool, [], ◌∷◌, ◌++◌, Some, OnErr}
 use Rattle.std.proofs.Common.{MatchResult, None}
 use Rattle.std.proofs.lemmas.Bool.{eq-eqb, ne_eqb}
 use Rattle.std.proofs.lemmas.Nat.{and_mask}
-use Rattle.usb_port.specs.{has_bit, path_cmp, parent_of, port_on_hub, IsPath, IsPortNumber}
-use Rattle.usb_port.specs.{is_reset, PortCall, PortStatus}
+use Rattle.usb_port.specs.{has_bit, parent_of, port_on_hub, IsPath, IsPortNumber, is_reset}
+use Rattle.usb_port.specs.{PortCall, PortStatus}
 use Rattle.usb_world.specs.{World}
 use Rattle.usb_pipe.specs.{FaultAfter, PipeFault}
 use Rattle.usb_pipe.specs.declared.fault.PipeFault.TheVariants as pipe
 use Rattle.usb_host.specs.{BitsHandledSo, HostFault, OwnServed, ReportHandled, own_reported}
-use Rattle.usb_host.specs.{ports_reported, HostState, HandledSo, claims, HasLost, IsOwned, Watches}
-use Rattle.usb_host.specs.{EndsAs, StandsAt, HostProgress, HostSteps, OnlyBusSteps, HostInvariant}
+use Rattle.usb_host.specs.{HostState, HandledSo, claims, HasLost, IsOwned, Watches, EndsAs}
+use Rattle.usb_host.specs.{StandsAt, HostProgress, HostSteps, OnlyBusSteps, HostInvariant}
 use Rattle.usb_host.specs.{DoneWhere, EndsAt, ForgetsOnWay, HandlesAt, LookedOnce, LookedOrLost}
 use Rattle.usb_host.specs.{LosesParent, Renews, ServedAt, ServedOrLost, StaysOrForgets, TidiesTold}
 use Rattle.usb_host.specs.{was_tidied, was_looked_at, was_lost, looked_once, lost_once, CutAt}
 use Rattle.usb_host.specs.{StaysWhere}
-use Rattle.std.specs.BTreeMap.{insert_entry}
 use Rattle.usb_port.proofs.Interface.{parent, rejoined}
 use Rattle.usb_tree.specs.{is_way}
 use Rattle.usb_world.proofs.Interface.{at_or_below_way, way_parent, way_trans, way_itself}
 use Rattle.usb_address.specs.{AddressMap, MapHolds, WhileBusWorks}
 use Rattle.usb_hub.specs.{HubPort, IsAt, CommandsPort, PortCallDone, PortStatusAt}
-use Rattle.usb_enum.specs.{EnumFault, ParentLost, Bus, Memory, Lost}
-use Rattle.usb_enum.specs.declared.finding.Finding.TheVariants.{Refused}
-use Rattle.usb_table.specs.{KnownPort, Entries, is_at_or_below, without}
+use Rattle.usb_enum.specs.{EnumFault, ParentLost, Bus, Memory}
+use Rattle.usb_table.specs.{KnownPort, Entries, without}
 use Rattle.usb_host.proofs.devices.Owners.{owned_rests}
 use Rattle.usb_host.proofs.StepSums.{host_rests_then, went_before}
 use Rattle.usb_host.proofs.knowledge.HandledPorts.{rests_stands}
@@ -49,9 +46,7 @@ bit_not bits n not = ne_eqb (bits / 2 ^ n % 2) 1 (λ is. not (and_mask (bits / 2
 -- a poll that failed took an attempt, where it was not the bus that failed
 pub failed_more : (old new : World) (fault : PipeFault) → ((told : _) → fault ≡ pipe.Bus told → ⊥)
     → FaultAfter 0 old fault new → old.attempts + 1 ≤ new.attempts
-failed_more old new pipe.Broken other x = absurd x
-failed_more old new (pipe.Bus told) other x = absurd (other told refl)
-failed_more old new _ other x = omega (arith, x.least)
+failed_more old new fault other x = grind arith
 
 -- What a hub reported is handled
 
@@ -64,8 +59,7 @@ own_reports hub bits (Err fault) old new is own = tt
 pub ports_report : (hub : List ℕ) (bits : ℕ) (result : Result (Unit {0}) HostFault)
     (old new : HostState) → bits ≢ 1 → OnOk result (BitsHandledSo hub bits 16 old new)
     → OnOk result (ReportHandled hub bits old new)
-ports_report hub bits (Ok done) old new other ports = ports_reported other ports
-ports_report hub bits (Err fault) old new other ports = tt
+ports_report hub bits result old new other ports = grind arith
 
 -- How the parts of a port's handling make up what was done at the port.
 
@@ -75,13 +69,7 @@ ports_report hub bits (Err fault) old new other ports = tt
 pub call_done : {port : HubPort} {c : PortCall} {old new : World} → (is_reset c ≡ true → ⊥)
     → CommandsPort port (Some c) old (Ok tt) new → (f : AddressMap) (p : List ℕ) → IsAt f port p
     → WhileBusWorks (MapHolds f) old → PortCallDone p c old new
-call_done {c = c} other calls f p at owned =
-    calls.done f p c (record {
-      at = at;
-      is = refl;
-      alone = λ resets. absurd (other resets);
-      owned = owned;
-    }) refl
+call_done other calls f p at owned = grind arith
 
 pub done_not : {b : Bool} (p : List ℕ) (c : PortCall) (old new : World) → b ≡ false → new ≡ old
     → DoneWhere b p c old new
@@ -94,36 +82,12 @@ pub without-way : (lost path : List ℕ) → is_way lost path ≡ true → (es :
     → without lost (without path es) ≡ without lost es
 without-way _ _ _ [] = refl
 without-way lost path way (e ∷ es) =
-    let rest = without-way lost path way es in
-    elim (decided (is_at_or_below e.0 path)) [
-      | inl at ↦
-          let goes : is_at_or_below e.0 lost ≡ true = at_or_below_way e.0 lost
-          ∙ way_trans lost path e.0 way (sym (at_or_below_way e.0 path) ∙ at) in
-          rw (at, goes) rest
-      | inr off ↦ rw off (elim (decided (is_at_or_below e.0 lost)) [
-        | inl on ↦ rw on rest
-        | inr away ↦ rw away (ap (λ (l : Entries). e ∷ l) rest)
-      ])
-    ]
+    let rest = without-way lost path way es in grind (arith, at_or_below_way, way_trans)
 
 -- a hub above the port is lost, whatever was forgotten at the port before
 pub loses_then : (path : List ℕ) (old : Entries) {mid new : Entries} → StaysOrForgets path old mid
     → LosesParent path mid new → LosesParent path old new
-loses_then path old {new = new} (inl same) x = rw same at x
-loses_then path old {mid = mid} (inr gone) x =
-    let way = way_trans x.loses.path x.hub path x.loses.above (way_parent path _ x.parent) in
-    let left : without x.loses.path mid ≡ without x.loses.path old =
-    ap (λ (es : Entries). without x.loses.path es) gone ∙ without-way x.loses.path path way old in
-    record {
-      hub = x.hub;
-      parent = x.parent;
-      loses = record {
-        path = x.loses.path;
-        above = x.loses.above;
-        entries = x.loses.entries ∙ ap
-            (λ (es : Entries). insert_entry path_cmp es x.loses.path (Refused Lost)) left;
-      };
-    }
+loses_then path old h x = grind (arith, way_parent, way_trans, without-way)
 
 pub renews_by : {b : Bool} (path : List ℕ) (old new : Entries) {c : Bool} → b ≡ c
     → Renews c path old new → Renews b path old new
@@ -154,16 +118,9 @@ module _ {path : List ℕ} {port : KnownPort} {a b : HostState} (s : StandsAt pa
     pub serves_tidied : status.connection_changed ≡ false
         → (result : Result (Unit {0}) EnumFault) (c : HostState) → OnlyBusSteps b c
         → TidiesTold port.port status b result c → ServedOrLost path a result c
-    serves_tidied off (Ok done) c q t = was_tidied (record {
-      status = status;
-      mid = b.world;
-      told = told_now;
-      steady = off;
-      clears = t.clears (claims b.entries) path (stands_at-claim (rests_stands s r went)) owned_now;
-      rests = host_rests_then a c r q;
-    })
-    serves_tidied off (Err fault) c q t =
-        inl (ap (λ (h : HostState). h.entries) (host_rests_then a c r q))
+    serves_tidied off (Ok done) c q t = was_tidied
+        (search (host_rests_then, owned_now, rests_stands, stands_at-claim, told_now, t.clears))
+    serves_tidied off (Err fault) c q t = grind arith
 
     -- one was
     pub serves_looked : status.connection_changed ≡ true
@@ -208,12 +165,7 @@ pub loses_parent : (path hub : List ℕ) (old new : Entries) (result : Result (U
     → parent_of path ≡ Some hub → OnOk result (HasLost hub old new)
     → OnErr result (ForgetsOnWay hub old new)
     → MatchResult result (λ _. LosesParent path old new) (λ _. ForgetsOnWay path old new)
-loses_parent path hub old new (Ok done) above x y = record { hub = hub; parent = above; loses = x }
-loses_parent path hub old new (Err fault) above x y = record {
-  on = y.on;
-  way = way_trans y.on hub path y.way (way_parent path _ above);
-  left = y.left;
-}
+loses_parent path hub old new result above x y = grind (arith, way_parent, way_trans)
 
 pub same_last : (q : List ℕ) {m n : ℕ} → q ++ m ∷ [] ≡ q ++ n ∷ [] → m ≡ n
 same_last [] e = cc e
@@ -225,16 +177,12 @@ pub pushed_part : (hub : List ℕ) (number : ℕ) → 1 ≤ length hub → IsPat
 pushed_part hub number least is =
     let long : length (hub ++ (number ∷ [])) ≡ length hub + 1 = length-append hub (number ∷ []) in
     let last = same_last hub {m = number} {n = port_on_hub (hub ++ (number ∷ []))}
-    (rejoined (hub ++ (number ∷ [])) _ (parent hub number least)) in (
-      rw last (port_number (hub ++ (number ∷ [])) is),
-      omega (arith, is.1),
-    )
+    (search (parent, rejoined)) in grind (arith, port_number)
 
 -- What is left at a port where the host stopped.
 
 pub on_errors : {A E : Type 0} (result : Result A E) (P : Type 0) → P → OnErr result P
-on_errors (Ok done) P p = tt
-on_errors (Err why) P p = p
+on_errors result P p = grind arith
 
 -- the host stopped after a part
 pub cut_after : (So : Type 0) {a b : HostState} (c : HostState)
@@ -249,41 +197,26 @@ cut_after So {a = a} {b = b} c (Err fault) first last =
 -- nothing is forgotten, or what stood at the path
 pub forgets_there : (path : List ℕ) {old new : Entries} → StaysOrForgets path old new
     → ForgetsOnWay path old new
-forgets_there path x = record { on = path; way = way_itself path; left = x }
+forgets_there path x = search way_itself
 
 -- what stood at a path, and then on its way
 forgets_then : (path : List ℕ) (old : Entries) {mid new : Entries} → StaysOrForgets path old mid
     → ForgetsOnWay path mid new → ForgetsOnWay path old new
-forgets_then path old (inl same) x = rw same at x
-forgets_then path old {mid = mid} {new = new} (inr gone) x = pick x.left
-  where
-    pick : StaysOrForgets x.on mid new → ForgetsOnWay path old new
-    pick (inl same) = forgets_there path (inr (same ∙ gone))
-    pick (inr went) = record {
-      on = x.on;
-      way = x.way;
-      left = inr (went ∙ ap (λ (es : Entries). without x.on es) gone ∙ without-way x.on path x.way
-          old);
-    }
+forgets_then path old h x = grind (arith, forgets_there, without-way)
 
 pub served_left : (path : List ℕ) (served : Result (Unit {0}) EnumFault) (a b : HostState)
     → ServedOrLost path a served b → OnErr served (StaysOrForgets path a.entries b.entries)
-served_left path (Ok done) a b x = tt
-served_left path (Err fault) a b x = x
+served_left path served a b x = grind arith
 
 pub looked_left : (path : List ℕ) (looked : Result (Unit {0}) EnumFault) (a b : HostState)
     → LookedOrLost path a looked b → OnErr looked (StaysOrForgets path a.entries b.entries)
-looked_left path (Ok done) a b x = tt
-looked_left path (Err fault) a b x = x
+looked_left path looked a b x = grind arith
 
 cut_entries : (path : List ℕ) (served : Result (Unit {0}) EnumFault) (fault : HostFault)
     (a b d : HostState) → EndsAs served (Err fault) → EndsAt path served b (Err fault) d
     → OnErr served (StaysOrForgets path a.entries b.entries)
     → ForgetsOnWay path a.entries d.entries
-cut_entries path (Ok done) fault a b d ends left x = absurd (cc ends)
-cut_entries path (Err ParentLost) fault a b d ends left x = forgets_then path a.entries x left
-cut_entries path (Err (Bus why)) fault a b d ends left x = rw left (forgets_there path x)
-cut_entries path (Err Memory) fault a b d ends left x = rw left (forgets_there path x)
+cut_entries path served fault a b d ends left x = grind (arith, forgets_then, forgets_there)
 
 -- Bulk pipes
 
@@ -292,8 +225,7 @@ cut_bulk : (n : ℕ) (served : Result (Unit {0}) EnumFault) (fault : HostFault) 
     → OnErr served (StaysWhere (b.world.fault ≡ None) a b)
     → StaysWhere (d.world.fault ≡ None) b d → StaysWhere (d.world.fault ≡ None) a d
 cut_bulk n (Ok done) fault a b d went ends x y = absurd (cc ends)
-cut_bulk n (Err why) fault a b d went ends x y =
-    where_joined a b d (λ still. went_before went still) x y
+cut_bulk n (Err why) fault a b d went ends x y = search (went_before, where_joined)
 
 -- A port was served, and its hub dropped where that was lost; one of them failed
 
@@ -306,6 +238,6 @@ pub port_cut : {n : ℕ} (path : List ℕ) (served : Result (Unit {0}) EnumFault
     → OnErr result (HostInvariant a → CutAt path a d)
 port_cut path served (Ok done) a b d went ends left entries first last = tt
 port_cut {n = n} path served (Err fault) a b d went ends left entries first last = λ i. record {
-  entries = cut_entries path served fault a b d ends left (entries i);
+  entries = grind (arith, cut_entries);
   bulk = cut_bulk n served fault a b d went ends (first i) (last i);
 }

@@ -2,22 +2,21 @@
 use Rattle.usb_tree.proofs.Interface.{decided}
 use Rattle.std.proofs.Common.{◌≡◌, ◌∙◌, ap, arith, refl, ℕ, ◌+◌, ◌<◌, List, [], ◌∷◌, length, map}
 use Rattle.std.proofs.Common.{get_or, set, ◌≢◌, ◌⊎◌, inl, inr, subst, sym, ◌≤◌, Ok, Bool, true}
-use Rattle.std.proofs.Common.{false, not, Option, Some, None, get_or-set_other, get_or-set_same}
+use Rattle.std.proofs.Common.{false, Option, Some, None, get_or-set_other, get_or-set_same}
 use Rattle.std.proofs.Common.{slice_index}
 use Rattle.std.specs.List.{range_with_len}
 use Rattle.std.proofs.lemmas.List.Edits.{fill_by_more}
 use Rattle.std.proofs.lemmas.List.FromFn.{fill_by_all}
 use Rattle.usb_host.specs.{AreNumbers, DeviceNumbers, first_numbers, Forgets, HostState, KeepsKnown}
-use Rattle.usb_host.specs.{KeepsNumbers, Known, KnownDevice, OnlyBusSteps, OnlyLeaves, device_in}
-use Rattle.usb_host.specs.{known_device, known_in, claims, with_number, NumbersFit}
+use Rattle.usb_host.specs.{KeepsNumbers, Known, KnownDevice, OnlyBusSteps, device_in, known_device}
+use Rattle.usb_host.specs.{known_in, claims, with_number, NumbersFit}
 use Rattle.std.specs.BTreeMap.{insert_entry, is_at}
 use Rattle.std.specs.Map.{lookup}
 use Rattle.usb_port.specs.{path_cmp}
-use Rattle.usb_resources.specs.{Addresses, IsTaken, HasAddresses}
+use Rattle.usb_resources.specs.{Addresses, HasAddresses}
 use Rattle.usb_enum.specs.{Accepted, Cause, Finding, TakesFor, HostOptions}
 use Rattle.usb_enum.specs.declared.finding.Finding.TheVariants.{Device, Refused}
-use Rattle.usb_table.specs.{Entries, accepted_device_at, accepted_device_of, address_in}
-use Rattle.usb_table.specs.{is_at_or_below, without}
+use Rattle.usb_table.specs.{Entries, accepted_device_at, accepted_device_of, address_in, without}
 use Rattle.usb_table.proofs.Interface.{path_tied}
 use Rattle.usb_host.specs.Accounts.{Accounts}
 use Rattle.usb_host.proofs.entries.Agreements.{lookup-insert_entry_elsewhere, lookup-without}
@@ -39,11 +38,7 @@ indexes_are of long each =
 
 pub are_indexes : (of : List ℕ) → length of ≡ 128 → ((k : ℕ) → k < 128 → get_or of k 0 ≡ k)
     → AreNumbers (record { of = of; next = 128 })
-are_indexes of long each = record {
-  long = long;
-  given = λ a lt. omega (arith, each a lt);
-  differ = λ a b la lb same. omega (arith, each a la, each b lb);
-}
+are_indexes of long each = grind arith
 
 -- one more index is written
 pub index_written : (of : List ℕ) (a i v : ℕ) → a < length of
@@ -54,12 +49,7 @@ index_written of a i v lt each x y = rw (x, y) (fill_by_more (λ k. k) of a 0 lt
 -- Kept
 
 pub keeps_none : (a : Known) → KeepsKnown a a
-keeps_none a = record {
-  rising = omega arith;
-  each = λ p d at. inl at;
-  reported = refl;
-  options = refl;
-}
+keeps_none a = grind arith
 
 pub keeps_same : {a b : Known} → b ≡ a → KeepsKnown a b
 keeps_same {a} e = subst (KeepsKnown a) (sym e) (keeps_none a)
@@ -67,10 +57,7 @@ keeps_same {a} e = subst (KeepsKnown a) (sym e) (keeps_none a)
 pub keeps_then : {a b c : Known} → KeepsKnown a b → KeepsKnown b c → KeepsKnown a c
 keeps_then {a} {b} {c} x y = record {
   rising = omega (arith, x.rising, y.rising);
-  each = λ p d at. elim (y.each p d at) [
-    | inl was ↦ x.each p d was
-    | inr new ↦ inr (omega (arith, x.rising, new))
-  ];
+  each = grind arith;
   reported = y.reported ∙ x.reported;
   options = y.options ∙ x.options;
 }
@@ -78,15 +65,7 @@ keeps_then {a} {b} {c} x y = record {
 -- what a driver may know does not change at first
 pub keeps_from : {a b c : Known} → KeepsKnown b c → b.entries ≡ a.entries
     → b.numbers ≡ a.numbers → b.reported ≡ a.reported → b.options ≡ a.options → KeepsKnown a c
-keeps_from {a} {b} {c} x e n r v = record {
-  rising = let next = ap (λ (m : DeviceNumbers). m.next) n in omega (arith, x.rising, next);
-  each = λ p d at. subst (λ (m : DeviceNumbers). (known_device (accepted_device_at p a.entries) m
-      ≡ Some d) ⊎ (m.next ≤ d.number)) n (subst (λ (es : Entries). (known_device
-      (accepted_device_at p es) b.numbers ≡ Some d) ⊎ (b.numbers.next ≤ d.number)) e
-      (x.each p d at));
-  reported = x.reported ∙ r;
-  options = x.options ∙ v;
-}
+keeps_from x e n r v = grind arith
 
 pub keeps_by : {a b : Known} → b.entries ≡ a.entries → b.numbers ≡ a.numbers
     → b.reported ≡ a.reported → b.options ≡ a.options → KeepsKnown a b
@@ -95,27 +74,20 @@ keeps_by {a} {b} e n r v = keeps_from (keeps_none b) e n r v
 pub keeps_rests : (a : HostState) {b : HostState} → OnlyBusSteps a b → KeepsNumbers a b
 keeps_rests a r = keeps_same (ap known_in r)
 
-pub keeps_leaves : {m : Bool} {a b : HostState} → OnlyLeaves m a b → KeepsNumbers a b
-keeps_leaves x = keeps_same (ap known_in x.only)
-
 -- Entries are forgotten
 
 left_device : (p path : List ℕ) (es : Entries) (numbers : DeviceNumbers) (d : KnownDevice)
     → known_device (accepted_device_at p (without path es)) numbers ≡ Some d
     → known_device (accepted_device_at p es) numbers ≡ Some d
-left_device p path es numbers d left = elim (decided (not (is_at_or_below p path))) [
-  | inl is ↦ rw (lookup-without p path es is) at left
-  | inr is ↦ absurd (cc (rw (lookup-without p path es is) at left))
-]
+left_device p path es numbers d left = grind (arith, lookup-without)
 
 pub keeps_forgets : {path : List ℕ} {a b : HostState} → Forgets path a b → KeepsNumbers a b
 keeps_forgets {path} {a} {b} f =
-    let numbers : b.numbers ≡ a.numbers = ap (λ (h : HostState). h.numbers) f.others in
     record {
-      rising = let next = ap (λ (m : DeviceNumbers). m.next) numbers in omega arith;
-      each = λ p d at. inl (left_device p path a.entries a.numbers d (rw (f.rest, numbers) at at));
-      reported = ap (λ (h : HostState). h.reported) f.others;
-      options = ap (λ (h : HostState). h.options) f.others;
+      rising = grind arith;
+      each = grind (arith, left_device);
+      reported = grind arith;
+      options = grind arith;
     }
 
 -- A finding is entered
@@ -127,20 +99,14 @@ module _ (path : List ℕ) (es : Entries) where
   refused_device cause numbers p d listed = elim (decided (is_at (path_cmp p) path)) [
     | inl tie ↦
         let same : p ≡ path = path_tied p path tie in
-        absurd (cc (rw (same, lookup-insert_entry_here path (Refused cause) es) at listed))
+        absurd (grind (arith, lookup-insert_entry_here))
     | inr apart ↦ rw (lookup-insert_entry_elsewhere p path (Refused cause) es apart) at listed
   ]
 
   pub keeps_refused : (cause : Cause) {a b : Known} → a.entries ≡ es
       → b.entries ≡ insert_entry path_cmp es path (Refused cause) → b.numbers ≡ a.numbers
       → b.reported ≡ a.reported → b.options ≡ a.options → KeepsKnown a b
-  keeps_refused cause {a} {b} before entered numbers reported options = record {
-    rising = let next = ap (λ (m : DeviceNumbers). m.next) numbers in omega arith;
-    each = λ p d at. inl (rw before (refused_device cause a.numbers p d
-        (rw (entered, numbers) at at)));
-    reported = reported;
-    options = options;
-  }
+  keeps_refused cause before entered numbers reported options = grind (arith, refused_device)
 
   -- a device that is listed elsewhere has another address
   other_device : (device : Accepted) (numbers : DeviceNumbers) (free : (p : List ℕ) (e : Accepted)
@@ -162,15 +128,13 @@ module _ (path : List ℕ) (es : Entries) where
   accepted_device device numbers lt free p d true tie at =
       let same : p ≡ path = path_tied p path tie in
       let is = rw (same, lookup-insert_entry_here path (Device device) es) at at in
-      let given = get_or-set_same numbers.of device.address numbers.next 0 lt in
-      inr (omega (arith, given, ap (λ (o : Option KnownDevice). number_of o) is))
+      let given = get_or-set_same numbers.of device.address numbers.next 0 lt in grind arith
     where
       number_of : Option KnownDevice → ℕ
       number_of None = 0
       number_of (Some k) = k.number
   accepted_device device numbers lt free p d false apart at =
-      inl (other_device device numbers free p _ refl d
-      (rw (lookup-insert_entry_elsewhere p path (Device device) es apart) at at))
+      grind (arith, lookup-insert_entry_elsewhere, other_device)
 
   pub keeps_entered : (finding : Finding) {pool : Addresses} (after : Addresses)
       (numbers : DeviceNumbers) {reported : List (List ℕ × ℕ)} {options : HostOptions}
@@ -204,16 +168,13 @@ module _ (path : List ℕ) (es : Entries) where
           → claims es p ≡ Some e.address
       taken p e None at is = absurd (cc is)
       taken p e (Some (Refused cause)) at is = absurd (cc is)
-      taken p e (Some (Device other)) at is =
-          let same : other ≡ e = cc is in
-          ap address_in at ∙ ap (λ (x : Accepted). Some x.address) same
+      taken p e (Some (Device other)) at is = grind arith
 
       free : (p : List ℕ) (e : Accepted) → accepted_device_at p es ≡ Some e
           → e.address ≢ device.address
       free p e at same =
           let is = claims_taken accounts p _
-          (taken p e _ refl at) in
-          absurd (cc (subst (IsTaken pool) same is, takes.free.1))
+          (taken p e _ refl at) in grind arith
 
 -- No two are the same
 
@@ -225,25 +186,13 @@ record IsAt (numbers : DeviceNumbers) (o : Option Finding) (d : KnownDevice) : T
 
 address_of : (numbers : DeviceNumbers) (o : Option Finding) (d : KnownDevice)
     → known_device (accepted_device_of o) numbers ≡ Some d → IsAt numbers o d
-address_of numbers None d is = absurd (cc is)
-address_of numbers (Some (Refused cause)) d is = absurd (cc is)
-address_of numbers (Some (Device device)) d is =
-    let known : KnownDevice = record {
-      accepted = device;
-      number = slice_index numbers.of device.address;
-    } in
-    let same : known ≡ d = cc is in
-    record {
-      address = device.address;
-      has = refl;
-      number = ap (λ (x : KnownDevice). x.number) (sym same);
-    }
+address_of numbers o d is = grind arith
 
 module _ (k : Known) (pool : Addresses) (are : AreNumbers k.numbers)
     (accounts : Accounts k.entries pool) (range : HasAddresses pool) where
   at_path : (path : List ℕ) (d : KnownDevice) → device_in path k ≡ Some d
       → IsAt k.numbers (lookup (is_at (path_cmp path)) k.entries) d
-  at_path path d at = address_of k.numbers (lookup (is_at (path_cmp path)) k.entries) d at
+  at_path path d at = grind arith
 
   within : (path : List ℕ) (a : ℕ) → claims k.entries path ≡ Some a → a < 128
   within path a has = (range a (claims_taken accounts path a has)).1
@@ -252,13 +201,10 @@ module _ (k : Known) (pool : Addresses) (are : AreNumbers k.numbers)
   numbers_fit = record {
     given = λ path d at.
         let x = at_path path d at in
-        rw x.number (are.given x.address (within path x.address x.has));
+        rw x.number (grind (arith, within));
     differ = λ path other d e at there same.
         let x = at_path path d at in
         let y = at_path other e there in
-        let one : x.address ≡ y.address = are.differ x.address y.address
-        (within path x.address x.has) (within other y.address y.has)
-        (sym x.number ∙ same ∙ y.number) in
-        sym (same_is path other (claims_distinct k.entries pool accounts path other x.address x.has
-        (y.has ∙ ap Some (sym one))));
+        let one : x.address ≡ y.address = grind (arith, within) in
+        sym (same_is path other (grind (arith, claims_distinct)));
   }

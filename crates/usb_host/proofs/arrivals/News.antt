@@ -1,22 +1,21 @@
 -- Where the devices are that were reported, which news comes next, and how few they are.
 use Rattle.usb_tree.proofs.Interface.{decided}
 use Rattle.std.proofs.Common.{◌≡◌, ◌≢◌, ◌∙◌, ap, arith, refl, subst, sym, ℕ, zero, suc, ◌+◌, ◌-◌}
-use Rattle.std.proofs.Common.{◌<◌, List, [], ◌∷◌, Bool, true, false, not, ◌||◌, Option, Some, None}
+use Rattle.std.proofs.Common.{◌<◌, List, [], ◌∷◌, Bool, true, false, ◌||◌, Option, Some, None}
 use Rattle.std.proofs.Common.{length, cond, inl, inr, is_some, nat_eq, eqb, map, unwrap_or}
-use Rattle.std.proofs.lemmas.Bool.{eq-eqb, eqb-true, ne_eqb, cases_order}
+use Rattle.std.proofs.lemmas.Bool.{eqb-true, ne_eqb, cases_order}
 use Rattle.std.specs.BTreeMap.{insert_entry, is_at}
 use Rattle.std.specs.List.{list_any, slice_get, AllByRecursion, insert, remove, IsDistinct}
-use Rattle.std.specs.Ordering.{match_ordering, is_eq, ordering_reverse}
+use Rattle.std.specs.Ordering.{match_ordering, is_eq}
 use Rattle.std.specs.declared.cmp.Ordering.{Ordering}
 use Rattle.std.specs.declared.cmp.Ordering.TheVariants.{Less, Equal, Greater}
 use Rattle.usb_port.specs.{path_cmp}
 use Rattle.usb_table.proofs.Interface.{path_tied, path_itself}
 use Rattle.usb_host.specs.{HasArrived, IsFirstLeft, IsLeast, NoneLeft, ReportsArrived, ReportsLeft}
-use Rattle.usb_host.specs.{is_there, news_left, number_in, some_left, HostState, Known}
-use Rattle.usb_host.specs.{ReportedDevices, known_in, Arrived, Left, KeepsNumbers, KnownDevice}
-use Rattle.usb_host.specs.{News, NoNews, NumbersFit, ReportsNews, device_in, path_of_news}
-use Rattle.usb_host.specs.{reported_at, IsPlaceOf, ReportedRise, Agrees, DeviceNumbers, claims}
-use Rattle.usb_host.specs.{HasLeft, IsNextUnreported, known_device}
+use Rattle.usb_host.specs.{news_left, number_in, HostState, Known, ReportedDevices, known_in}
+use Rattle.usb_host.specs.{KeepsNumbers, KnownDevice, News, NoNews, NumbersFit, ReportsNews}
+use Rattle.usb_host.specs.{device_in, path_of_news, reported_at, IsPlaceOf, ReportedRise, Agrees}
+use Rattle.usb_host.specs.{DeviceNumbers, claims, HasLeft, IsNextUnreported, known_device}
 use Rattle.std.specs.Map.{remove_entry, keys_of, lookup}
 use Rattle.std.specs.Option.{option_map}
 use Rattle.std.specs.List.Sorted.{IsStrictlySortedBy}
@@ -33,7 +32,6 @@ use Rattle.std.proofs.lemmas.Map.Steps.{length-le_from_distinct_below}
 use Rattle.usb_resources.specs.{Addresses, HasAddresses}
 use Rattle.usb_world.proofs.Interface.{same_is}
 use Rattle.usb_enum.specs.{Finding}
-use Rattle.usb_enum.specs.declared.finding.Finding.TheVariants.{Device, Refused}
 use Rattle.usb_table.specs.{Entries, address_in, ComesAfter, IsLast, IsNext, Stands}
 use Rattle.usb_table.specs.{accepted_device_of, is_accepted}
 use Rattle.usb_host.specs.Accounts.{Accounts}
@@ -44,10 +42,7 @@ use Rattle.usb_host.specs.Accounts.{Accounts}
 any_at : (test : List ℕ × ℕ → Bool) (rs : ReportedDevices) (i : ℕ) (d : List ℕ × ℕ)
     → slice_get rs i ≡ Some d → test d ≡ true → list_any test rs ≡ true
 any_at test [] i d at is = absurd (cc at)
-any_at test (r ∷ rs) zero d at is =
-    let same : r ≡ d = cc at in
-    let here : test r ≡ true = rw same is in
-    rw here refl
+any_at test (r ∷ rs) zero d at is = grind arith
 any_at test (r ∷ rs) (suc i) d at is = by (test r) (any_at test rs i d at is)
   where
     by : (b : Bool) → list_any test rs ≡ true → (b || list_any test rs) ≡ true
@@ -62,15 +57,6 @@ not_any test [] none = refl
 not_any test (r ∷ rs) none =
     let here : test r ≡ false = none zero r refl in
     rw here (not_any test rs (λ i d at. none (suc i) d at))
-
-there_or_gone : (o : Option ℕ) (n : ℕ) → o ≢ Some n → (b : Bool) → is_there o n ≡ b
-    → not b ≡ true
-there_or_gone None n gone true is = absurd (cc is)
-there_or_gone (Some m) n gone true is = absurd (gone (ap Some (eqb-true m n is)))
-there_or_gone o n gone false is = refl
-
-is_there_at : (o : Option ℕ) (n : ℕ) → o ≡ Some n → is_there o n ≡ true
-is_there_at o n there = rw there (eq-eqb n n refl)
 
 counted_step : (test : List ℕ × ℕ → Bool) (p : List ℕ) (n : ℕ) (r : List ℕ × ℕ)
     (rs : ReportedDevices) → test (p, n) ≡ false → (test r || list_any test rs) ≡ false
@@ -106,18 +92,7 @@ not_entered test p n (r ∷ rs) new none =
 pub fewer_left : {path : List ℕ} {old new : HostState} → ReportsLeft path old new → (place : ℕ)
     → IsFirstLeft (known_in old) place → length new.reported + 1 ≡ length old.reported
     → news_left new < news_left old
-fewer_left {old = old} {new = new} left place first less =
-    let k : Known = known_in old in
-    let gone : some_left k ≡ true =
-    any_at (λ d. not (is_there (number_in d.0 k) d.1)) old.reported place first.device first.at
-    (there_or_gone (number_in first.device.0 k) first.device.1 first.gone
-    (is_there (number_in first.device.0 k) first.device.1) refl) in
-    rw gone (by (some_left (known_in new)))
-  where
-    by : (b : Bool) → cond b (129 + length new.reported) (128 - length new.reported)
-        < 129 + length old.reported
-    by true = omega arith
-    by false = omega arith
+fewer_left left place first less = grind (arith, any_at)
 
 -- one that arrived comes in
 fewer_entered : (old : HostState) (reported : ReportedDevices) (path : List ℕ)
@@ -125,24 +100,12 @@ fewer_entered : (old : HostState) (reported : ReportedDevices) (path : List ℕ)
     → reported ≡ insert_entry path_cmp old.reported path arrived.is.number
     → length reported ≡ length old.reported + 1 → length old.reported < 128
     → news_left (record old { reported = reported }) < news_left old
-fewer_entered old reported path arrived none entered more room =
-    let k : Known = known_in old in
-    let test : List ℕ × ℕ → Bool = λ d. not (is_there (number_in d.0 k) d.1) in
-    let before : list_any test old.reported ≡ false = not_any test old.reported
-    (λ i d at. ap not (is_there_at (number_in d.0 k) d.1 (none i d at))) in
-    let new : test (path, arrived.is.number) ≡ false =
-    ap not (is_there_at (number_in path k) arrived.is.number arrived.is.there) in
-    let behind : list_any test reported ≡ false =
-    rw entered (not_entered test path arrived.is.number old.reported new before) in
-    rw (before, behind) (omega arith)
+fewer_entered old reported path arrived none entered more room = grind (arith, not_any, not_entered)
 
 pub fewer_arrived : {path : List ℕ} {old new : HostState} → ReportsArrived path old new
     → NoneLeft (known_in old) → length new.reported ≡ length old.reported + 1
     → length old.reported < 128 → news_left new < news_left old
-fewer_arrived {path} {old} {new} x none more room =
-    subst (λ (h : HostState). news_left h < news_left old) (sym x.rest)
-    (fewer_entered old (insert_entry path_cmp old.reported path x.arrived.is.number) path x.arrived
-    none refl (sym (ap (λ (h : HostState). length h.reported) x.rest) ∙ more) room)
+fewer_arrived x none more room = grind (arith, fewer_entered)
 
 -- A device stays
 
@@ -158,19 +121,8 @@ pub other_news : (path : List ℕ) (news : News) (old new : HostState)
     → ReportsNews old (Some news) new → path_of_news news ≢ path
     → (new ≡ record old { reported = new.reported })
     × (reported_at path new.reported ≡ reported_at path old.reported)
-other_news path (Left q) old new left other = (
-  left.rest ∙ ap (λ (rs : ReportedDevices). record old { reported = rs })
-      (sym (ap (λ (h : HostState). h.reported) left.rest)),
-  ap (λ (h : HostState). reported_at path h.reported) left.rest
-      ∙ lookup-removed path q old.reported (apart_at path q other),
-)
-other_news path (Arrived q) old new arrived other = (
-  arrived.rest ∙ ap (λ (rs : ReportedDevices). record old { reported = rs })
-      (sym (ap (λ (h : HostState). h.reported) arrived.rest)),
-  ap (λ (h : HostState). reported_at path h.reported) arrived.rest
-      ∙ lookup-insert_entry_elsewhere path q arrived.arrived.is.number old.reported
-      (apart_at path q other),
-)
+other_news path news old new left other =
+    grind (arith, apart_at, lookup-insert_entry_elsewhere, lookup-removed)
 
 -- A device that stays
 
@@ -178,10 +130,7 @@ other_news path (Arrived q) old new arrived other = (
 was_there : (path : List ℕ) (old new : HostState) → KeepsNumbers old new → (device : KnownDevice)
     → device_in path (known_in new) ≡ Some device → device.number < old.numbers.next
     → device_in path (known_in old) ≡ Some device
-was_there path old new keeps device at lt = elim (keeps.each path device at) [
-  | inl there ↦ there
-  | inr le ↦ absurd (omega arith)
-]
+was_there path old new keeps device at lt = grind arith
 
 pub stays_between : (path : List ℕ) (device : KnownDevice) (a m b c : HostState)
     → NumbersFit (known_in a) → NoNews a → device_in path (known_in a) ≡ Some device
@@ -192,13 +141,10 @@ stays_between path device a m b c fit none at before behind rest ended same =
     by (device_in path (known_in b)) refl
   where
     known : device_in path (known_in c) ≡ device_in path (known_in b)
-    known = ap (λ (h : HostState). device_in path (known_in h)) rest
+    known = grind arith
 
     numbers : number_in path (known_in b) ≡ Some device.number
-    numbers =
-        ap (λ (h : HostState). number_in path (known_in h)) (sym rest) ∙ sym (ended path) ∙ same
-        ∙ ap (λ (rs : ReportedDevices). reported_at path rs) (behind.reported ∙ before.reported)
-        ∙ none path ∙ ap (λ (o : Option KnownDevice). option_map (λ d. d.number) o) at
+    numbers = grind arith
 
     by : (o : Option KnownDevice) → device_in path (known_in b) ≡ o
         → (device_in path (known_in m) ≡ Some device)
@@ -222,28 +168,21 @@ rise_none = tt
 pub path_at : (P : List ℕ → Type 0) (rs : ReportedDevices) (i : ℕ) (d : List ℕ × ℕ)
     → AllByRecursion P (keys_of rs) → slice_get rs i ≡ Some d → P d.0
 path_at P [] i d h at = absurd cc
-path_at P (r ∷ rs) zero d h at =
-    let same : r ≡ d = cc at in subst (λ (x : List ℕ × ℕ). P x.0) same h.0
+path_at P (r ∷ rs) zero d h at = grind arith
 path_at P (r ∷ rs) (suc i) d h at = path_at P rs i d h.1 at
 
 -- a path before another is not at it
 apart_before : (p q : List ℕ) → path_cmp p q ≡ Less → is_at (path_cmp q) p ≡ false
-apart_before p q less =
-    let back : path_cmp q p ≡ Greater = nat_list_cmp_total.antisymm q p ∙ ap ordering_reverse less
-    in rw back refl
+apart_before p q less = grind (arith, nat_list_cmp_total)
 
 pub removed_at : (rs : ReportedDevices) (place : ℕ) (d : List ℕ × ℕ) → ReportedRise rs
     → slice_get rs place ≡ Some d → remove rs place ≡ remove_entry (is_at (path_cmp d.0)) rs
 removed_at [] place d rise at = absurd cc
-removed_at (r ∷ rs) zero d rise at =
-    let same : r ≡ d = cc at in
-    subst (λ (x : List ℕ × ℕ). rs ≡ remove_entry (is_at (path_cmp x.0)) (r ∷ rs)) same
-    (rw (path_itself r.0) refl)
+removed_at (r ∷ rs) zero d rise at = grind (arith, path_itself)
 removed_at (r ∷ rs) (suc i) d rise at =
-    let less = path_at (λ k. path_cmp r.0 k ≡ Less) rs i d (sorted_head path_cmp r.0 (keys_of rs)
-    rise) at in
+    let less = path_at (λ k. path_cmp r.0 k ≡ Less) rs i d (search sorted_head) at in
     rw (apart_before r.0 d.0 less)
-    (ap (λ xs. r ∷ xs) (removed_at rs i d (sorted_tail path_cmp r.0 (keys_of rs) rise) at))
+    (ap (λ xs. r ∷ xs) (removed_at rs i d (search sorted_tail) at))
 
 rise_step : (test : List ℕ → Bool) (r : List ℕ × ℕ) (rs : ReportedDevices)
     → ReportedRise (r ∷ rs) → ReportedRise (remove_entry test rs) → (b : Bool)
@@ -261,7 +200,7 @@ pub rise_removed : (test : List ℕ → Bool) (rs : ReportedDevices) → Reporte
     → ReportedRise (remove_entry test rs)
 rise_removed test [] rise = rise
 rise_removed test (r ∷ rs) rise =
-    rise_step test r rs rise (rise_removed test rs (sorted_tail path_cmp r.0 (keys_of rs) rise))
+    rise_step test r rs rise (rise_removed test rs (search sorted_tail))
     (test r.0)
 
 -- A device is entered
@@ -271,27 +210,20 @@ insert_step : (p : List ℕ) (n : ℕ) (r : List ℕ × ℕ) (rs : ReportedDevic
     → path_cmp p r.0 ≡ o
     → (p, n) ∷ r ∷ rs ≡ match_ordering o ((p, n) ∷ r ∷ rs) ((r.0, n) ∷ rs)
     (r ∷ insert_entry path_cmp rs p n)
-insert_step p n r rs none least Less is = refl
-insert_step p n r rs none least Equal is =
-    let here : is_at (path_cmp p) r.0 ≡ true = rw is refl in
-    absurd (cc (rw here at none))
-insert_step p n r rs none least Greater is =
-    absurd (least (nat_list_cmp_total.antisymm r.0 p ∙ ap ordering_reverse is))
+insert_step p n r rs none least o is = grind (arith, nat_list_cmp_total)
 
 -- at the place of its path
 pub inserted_at : (p : List ℕ) (n place : ℕ) (rs : ReportedDevices) → reported_at p rs ≡ None
     → IsPlaceOf p place rs → insert rs place (p, n) ≡ insert_entry path_cmp rs p n
 inserted_at p n zero [] none is = refl
-inserted_at p n (suc i) [] none is = absurd (let le = is.inside in omega arith)
-inserted_at p n zero (r ∷ rs) none is =
-    insert_step p n r rs none (is.after r refl) (path_cmp p r.0) refl
+inserted_at p n (suc i) [] none is = grind arith
+inserted_at p n zero (r ∷ rs) none is = grind (arith, insert_step)
 inserted_at p n (suc i) (r ∷ rs) none is =
     let less : path_cmp r.0 p ≡ Less = is.before 0 r (omega arith) refl in
-    let back : path_cmp p r.0 ≡ Greater = nat_list_cmp_total.antisymm p r.0
-    ∙ ap ordering_reverse less in
+    let back : path_cmp p r.0 ≡ Greater = grind (arith, nat_list_cmp_total) in
     let rest : reported_at p rs ≡ None = rw (apart_before r.0 p less) at none in
     rw back (ap (λ xs. r ∷ xs) (inserted_at p n i rs rest (record {
-      inside = let le = is.inside in omega arith;
+      inside = omega arith;
       before = λ k d lt at. is.before (suc k) d (omega arith) at;
       after = λ d at. is.after d at;
     })))
@@ -300,14 +232,11 @@ inserted_at p n (suc i) (r ∷ rs) none is =
 
 greater_at : {p : List ℕ} {place : ℕ} {rs : ReportedDevices} → IsPlaceOf p place rs → (i : ℕ)
     (d : List ℕ × ℕ) → i < place → slice_get rs i ≡ Some d → path_cmp p d.0 ≡ Greater
-greater_at {p} is i d lt at =
-    nat_list_cmp_total.antisymm p d.0 ∙ ap ordering_reverse (is.before i d lt at)
+greater_at is i d lt at = grind (arith, nat_list_cmp_total)
 
 less_at : (p q : List ℕ) → path_cmp q p ≢ Less → (o : Ordering) → path_cmp q p ≡ o
     → is_eq o ≡ false → path_cmp p q ≡ Less
-less_at p q least Less is apart = absurd (least is)
-less_at p q least Equal is apart = absurd (cc apart)
-less_at p q least Greater is apart = nat_list_cmp_total.antisymm p q ∙ ap ordering_reverse is
+less_at p q least o is apart = grind (arith, nat_list_cmp_total)
 
 pub unreported_past : (p : List ℕ) (place : ℕ) (rs : ReportedDevices) → ReportedRise rs
     → IsPlaceOf p place rs → slice_get rs place ≡ None → reported_at p rs ≡ None
@@ -319,10 +248,7 @@ unreported_at : (p : List ℕ) (place : ℕ) (d : List ℕ × ℕ) (rs : Reporte
     → ReportedRise rs → IsPlaceOf p place rs → slice_get rs place ≡ Some d
     → is_eq (path_cmp d.0 p) ≡ false → reported_at p rs ≡ None
 unreported_at p place d rs rise is here apart =
-    lookup_at_gap nat_list_cmp_total p rs place rise (greater_at is)
-    (λ e at. let same : d ≡ e = cc (sym here ∙ at) in
-    subst (λ (x : List ℕ × ℕ). path_cmp p x.0 ≡ Less) same
-    (less_at p d.0 (is.after d here) (path_cmp d.0 p) refl apart))
+    lookup_at_gap nat_list_cmp_total p rs place rise (greater_at is) (grind (arith, less_at))
 
 pub reported_here : (p : List ℕ) (place n : ℕ) (rs : ReportedDevices) → ReportedRise rs
     → slice_get rs place ≡ Some (p, n) → reported_at p rs ≡ Some n
@@ -335,9 +261,7 @@ pub has_at : (p : List ℕ) (place : ℕ) (q : List ℕ) (n : ℕ) (rs : Reporte
     → ReportedRise rs → IsPlaceOf p place rs → slice_get rs place ≡ Some (q, n) → (b : Bool)
     → b ≡ pointwise nat_eq q p → b ≡ is_some (reported_at p rs)
 has_at p place q n rs rise is here true same =
-    let path : q ≡ p = same_text q p same in
-    sym (ap is_some (reported_here p place n rs rise
-    (subst (λ (x : List ℕ). slice_get rs place ≡ Some (x, n)) path here)))
+    let path : q ≡ p = same_text q p same in grind (arith, reported_here)
 has_at p place q n rs rise is here false other =
     sym (ap is_some (unreported_at p place (q, n) rs rise is here (sym (other ∙ texts_ties q p))))
 
@@ -350,14 +274,11 @@ pub not_less : (p : List ℕ) → path_cmp p p ≡ Less → (b : Bool) → is_at
 not_less p less b is on = absurd (cc (rw less at is, on))
 
 not_both : (p q : List ℕ) → path_cmp p q ≡ Less → path_cmp q p ≡ Less → {P : Type 0} → P
-not_both p q less back =
-    absurd (cc (nat_list_cmp_total.antisymm q p ∙ ap ordering_reverse less, back))
+not_both p q less back = grind (arith, nat_list_cmp_total)
 
 less_by : (p q : List ℕ) → path_cmp q p ≢ Less → q ≢ p → (o : Ordering) → path_cmp q p ≡ o
     → path_cmp p q ≡ Less
-less_by p q least other Less is = absurd (least is)
-less_by p q least other Equal is = absurd (other (path_tied q p (rw is refl)))
-less_by p q least other Greater is = nat_list_cmp_total.antisymm p q ∙ ap ordering_reverse is
+less_by p q least other o is = grind (arith, nat_list_cmp_total, path_tied)
 
 -- The first that left
 
@@ -368,10 +289,10 @@ rising_at (r ∷ rs) zero zero a b rise lt at_i at_j = absurd (omega arith)
 rising_at (r ∷ rs) zero (suc j) a b rise lt at_i at_j =
     let same : r ≡ a = cc at_i in
     subst (λ (x : List ℕ × ℕ). path_cmp x.0 b.0 ≡ Less) same
-    (path_at (λ k. path_cmp r.0 k ≡ Less) rs j b (sorted_head path_cmp r.0 (keys_of rs) rise) at_j)
+    (path_at (λ k. path_cmp r.0 k ≡ Less) rs j b (search sorted_head) at_j)
 rising_at (r ∷ rs) (suc i) zero a b rise lt at_i at_j = absurd (omega arith)
 rising_at (r ∷ rs) (suc i) (suc j) a b rise lt at_i at_j =
-    rising_at rs i j a b (sorted_tail path_cmp r.0 (keys_of rs) rise) (omega arith) at_i at_j
+    rising_at rs i j a b (search sorted_tail) (omega arith) at_i at_j
 
 module _ (k : Known) (rise : ReportedRise k.reported) where
   -- the place of a device that left
@@ -379,11 +300,7 @@ module _ (k : Known) (rise : ReportedRise k.reported) where
       → (i : ℕ) × (slice_get k.reported i ≡ Some (q, left.number))
   place_of_left q left =
       let place = place_from_lookup (is_at (path_cmp q)) k.reported left.number left.reported in
-      let same : q ≡ place.1 = path_tied q place.1 place.3 in (
-        place.0,
-        subst (λ (x : List ℕ). slice_get k.reported place.0 ≡ Some (x, left.number))
-            (sym same) place.2,
-      )
+      let same : q ≡ place.1 = path_tied q place.1 place.3 in grind arith
 
   pub none_left : NoneLeft k → (q : List ℕ) → HasLeft k q → ⊥
   none_left none q left =
@@ -396,8 +313,7 @@ module _ (k : Known) (rise : ReportedRise k.reported) where
       let there = place_of_left q left in
       elim (cases_order there.0 place) [
         | inl same ↦
-            let here : slice_get k.reported place ≡ Some (q, left.number) =
-            subst (λ (i : ℕ). slice_get k.reported i ≡ Some (q, left.number)) same there.1 in
+            let here : slice_get k.reported place ≡ Some (q, left.number) = grind arith in
             let both : (q, left.number) ≡ (p, n) = cc (sym here ∙ at) in
             let path : q ≡ p = ap (λ (d : List ℕ × ℕ). d.0) both in
             not_less p (rw path at less) (is_at (path_cmp p) p) refl (path_itself p)
@@ -411,13 +327,8 @@ module _ (k : Known) (rise : ReportedRise k.reported) where
   pub left_first : (place : ℕ) → (first : IsFirstLeft k place) → (p : List ℕ) (n : ℕ)
       → slice_get k.reported place ≡ Some (p, n) → IsLeast (HasLeft k) p
   left_first place first p n at =
-      let same : first.device ≡ (p, n) = cc (sym first.at ∙ at) in
       record {
-        is = record {
-          number = n;
-          reported = reported_here p place n k.reported rise at;
-          gone = subst (λ (d : List ℕ × ℕ). number_in d.0 k ≢ Some d.1) same first.gone;
-        };
+        is = grind (arith, reported_here);
         least = least_by place p n at first.before;
       }
 
@@ -427,51 +338,29 @@ abbrev pub number_of : DeviceNumbers → Option Finding → Option ℕ
 number_of numbers o =
     option_map (λ (d : KnownDevice). d.number) (known_device (accepted_device_of o) numbers)
 
--- a path with a number has an accepted device
-numbered : (numbers : DeviceNumbers) (o : Option Finding) (n : ℕ) → number_of numbers o ≡ Some n
-    → (finding : Finding) × (o ≡ Some finding) × (is_accepted finding ≡ true)
-numbered numbers None n is = absurd (cc is)
-numbered numbers (Some (Device device)) n is = (Device device, refl, refl)
-numbered numbers (Some (Refused cause)) n is = absurd (cc is)
-
 module _ (k : Known) (last : Option (List ℕ))
     (passed : (q : List ℕ) → HasArrived k q → ComesAfter last q) where
   stands : (q : List ℕ) → HasArrived k q → Stands is_accepted last k.entries q
-  stands q arrived =
-      let x = numbered k.numbers (lookup (is_at (path_cmp q)) k.entries) arrived.number
-      arrived.there in
-      record { finding = x.0; found = x.1; fits = x.2; after = passed q arrived }
+  stands q arrived = grind arith
 
   pub none_arrived : IsLast is_accepted last k.entries → (q : List ℕ) → HasArrived k q → ⊥
   none_arrived none q arrived = none q (stands q arrived)
 
   module _ (p : List ℕ) (next : IsNext is_accepted last k.entries p) where
     unreported : (o : Option ℕ) → is_some o ≡ false → o ≡ None
-    unreported None off = refl
-    unreported (Some n) off = absurd (cc off)
+    unreported o off = grind arith
 
     pub next_arrived : (n : ℕ) → number_in p k ≡ Some n
         → is_some (reported_at p k.reported) ≡ false → IsNextUnreported k (p, n)
     next_arrived n there off = record {
-      arrived = record {
-        is = record {
-          number = n;
-          there = there;
-          unreported = unreported (reported_at p k.reported) off;
-        };
-        least = λ q arrived. next.least q (stands q arrived);
-      };
+      arrived = grind arith;
       number = refl;
     }
 
     -- one that was reported is passed
     pub passed_next : is_some (reported_at p k.reported) ≡ true → (q : List ℕ) → HasArrived k q
         → ComesAfter (Some p) q
-    passed_next on q arrived =
-        less_by p q (next.least q (stands q arrived)) (λ same. absurd (cc (
-          on,
-          ap (λ (o : Option ℕ). is_some o) (rw same at arrived.unreported),
-        ))) (path_cmp q p) refl
+    passed_next on q arrived = grind (arith, less_by)
 
 -- Each device that was reported is there, and they are those that are accepted
 
@@ -483,7 +372,7 @@ same_known k rise none all q = by (reported_at q k.reported) refl (number_in q k
     by : (r : Option ℕ) → reported_at q k.reported ≡ r → (n : Option ℕ) → number_in q k ≡ n → r ≡ n
     by None at None there = refl
     by None at (Some n) there =
-        absurd (all q (record { number = n; there = there; unreported = at }))
+        absurd (all q (search unreported))
     by (Some m) at n there =
         let place = place_from_lookup (is_at (path_cmp q)) k.reported m at in
         let same : q ≡ place.1 = path_tied q place.1 place.3 in
@@ -509,17 +398,14 @@ module _ (es : Entries) (pool : Addresses) (accounts : Accounts es pool)
   same_device : (p q : List ℕ) (a b : ℕ) → claims es p ≡ Some a → claims es q ≡ Some b
       → address p ≡ address q → q ≡ p
   unfolding address
-  same_device p q a b at_p at_q same =
-      let addresses : a ≡ b = rw (at_p, at_q) at same in
-      same_is p q (claims_distinct es pool accounts p q a at_p (rw addresses at_q))
+  same_device p q a b at_p at_q same = grind (arith, claims_distinct, same_is)
 
   apart : (p : List ℕ) (a : ℕ) → claims es p ≡ Some a → (qs : List (List ℕ)) → Listed qs
       → AllByRecursion (λ q. q ≢ p) qs
       → AllByRecursion (λ b. eqb (address p) b ≡ false) (map address qs)
   apart p a at [] listed other = tt
   apart p a at (q ∷ qs) listed other = (
-    ne_eqb (address p) (address q) (λ same.
-        other.0 (same_device p q a listed.0.0 at listed.0.1 same)),
+    ne_eqb (address p) (address q) (grind (arith, same_device)),
     apart p a at qs listed.1 other.1,
   )
 
@@ -567,9 +453,7 @@ module _ (es : Entries) (pool : Addresses) (accounts : Accounts es pool)
 
 claimed : (numbers : DeviceNumbers) (o : Option Finding) (n : ℕ) → number_of numbers o ≡ Some n
     → (a : ℕ) × (address_in o ≡ Some a)
-claimed numbers None n is = absurd (cc is)
-claimed numbers (Some (Device device)) n is = (device.address, refl)
-claimed numbers (Some (Refused cause)) n is = absurd (cc is)
+claimed numbers o n is = grind arith
 
 -- what is so of the device at each place is so of each
 all_keys : (P : List ℕ → Type 0) (rs : ReportedDevices)

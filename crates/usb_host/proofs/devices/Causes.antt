@@ -1,15 +1,13 @@
 -- Why devices are refused, as a port is handled where damage is fair.
-use Rattle.std.proofs.Common.{◌≡◌, ◌⊎◌, inl, inr, ◌≤◌, refl, sym, ap, subst, ◌∙◌, ℕ, true, false}
-use Rattle.std.proofs.Common.{List, [], ◌∷◌, ◌++◌, Option, None, Some, Result, Ok, Err, IsSomeAnd}
-use Rattle.std.proofs.Common.{IfErr}
-use Rattle.std.specs.Prelude.{⊤}
+use Rattle.std.proofs.Common.{arith, ◌≡◌, ◌⊎◌, inl, inr, ◌≤◌, refl, sym, ap, subst, ◌∙◌, ℕ, true}
+use Rattle.std.proofs.Common.{false, List, [], ◌∷◌, ◌++◌, Option, None, Some, Result, Ok, Err}
+use Rattle.std.proofs.Common.{IsSomeAnd, IfErr}
 use Rattle.std.proofs.lemmas.List.{same_from_push}
 use Rattle.std.specs.BTreeMap.{insert_entry}
 use Rattle.arrayvec.specs.ArrayVec.{ArrayVec}
 use Rattle.usb_port.specs.{path_cmp, parent_of, port_on_hub, PortStatus, ClearEnable, clear_call}
 use Rattle.usb_request.specs.{PORT_ENABLE}
 use Rattle.usb_port.proofs.Interface.{rejoined}
-use Rattle.usb_device.specs.{Spec}
 use Rattle.usb_tree.specs.{is_way, pending}
 use Rattle.usb_world.specs.{World}
 use Rattle.usb_world.proofs.Interface.{course_wider, way_apart, way_parent}
@@ -20,20 +18,17 @@ use Rattle.usb_pipe.specs.declared.fault.PipeFault.TheVariants as pipe
 use Rattle.usb_hub.specs.{NoHubFailed, HubPort, Root, External, IsAt, KeepsDevices, CommandsPort}
 use Rattle.usb_hub.specs.{PortCleared, TouchesNoPort}
 use Rattle.usb_transaction.specs.{Target}
-use Rattle.usb_resources.specs.{IsFull}
-use Rattle.usb_enum.specs.{Lost, EnumFault, ParentLost, Memory, Finding, IsRight, HasServer}
-use Rattle.usb_enum.specs.{ServesAt, IsFair, IsKnownAs, FaultAllowedAt, HostOptions}
+use Rattle.usb_enum.specs.{Lost, EnumFault, ParentLost, Memory, Finding, HasServer, ServesAt}
+use Rattle.usb_enum.specs.{IsFair, IsKnownAs, FaultAllowedAt, HostOptions}
 use Rattle.usb_enum.specs.declared.finding.Finding.TheVariants.{Refused}
 use Rattle.usb_enum.proofs.Interface.{pends_there}
 use Rattle.usb_table.specs.{KnownPort, Entries, has_at, Table, entered, IsAskable, finding_at}
-use Rattle.usb_table.specs.{tier_of}
 use Rattle.usb_host.specs.{Forgets, Agrees, RestElsewhere, IsLost, HoldsAt, Watches, Tidies}
 use Rattle.usb_host.specs.{ClearsChange, MovesNoBulk, by_control, IsOpen, PortCaused, FindsSound}
 use Rattle.usb_host.specs.{Disabled, Climbs, HostState, claims, KeepsPort, DropsHub, StandsAt}
 use Rattle.usb_host.specs.{HostSteps, OnlyBusSteps, table_in, RefusalsJustified, CausesBut}
 use Rattle.usb_host.specs.{IsJustifiedAt, IsFairTo, HostInvariant, IsSoundBut, IsDroppable}
 use Rattle.usb_host.specs.{DropsSound}
-use Rattle.usb_backlog.specs.{KeepsAll}
 use Rattle.usb_host.proofs.StepSums.{went_before, EnumerationAt}
 use Rattle.usb_host.proofs.devices.Pipes.{AllStay, bulk_stays, stay_forgotten, stay_joined}
 use Rattle.usb_host.proofs.devices.Pipes.{stay_refused, stay_rests}
@@ -46,20 +41,19 @@ use Rattle.usb_host.proofs.knowledge.HandledPorts.{but_of_sound, sound_rests, so
 use Rattle.usb_host.proofs.knowledge.HandledPorts.{rests_stands, stands_way}
 use Rattle.usb_host.proofs.devices.Plugs.{plugs_lost}
 use Rattle.usb_host.proofs.devices.Owners.{LostListed, lost_entries, lost_options, lost_world}
-use Rattle.usb_host.proofs.devices.Owners.{root_done}
 use Rattle.usb_host.proofs.knowledge.Places.{finding-none, causes_dropped, causes_found}
 use Rattle.usb_host.proofs.knowledge.Places.{causes_stay, causes_but_stay, cause_stays}
 use Rattle.usb_host.proofs.knowledge.Places.{cause_stands}
 use Rattle.usb_host.proofs.entries.Roots.{accounted}
 use Rattle.usb_host.proofs.knowledge.Servers.{hub_server}
 use Rattle.usb_host.proofs.knowledge.SettledListings.{listed_port}
-use Rattle.usb_host.proofs.PortLocations.{stands_at-claim, lost_above}
+use Rattle.usb_host.proofs.PortLocations.{stands_at-claim}
 
 -- Causes elsewhere
 
 causes_above : (options : HostOptions) (path below : List ℕ) (w : World) (es : Entries)
     → is_way path below ≡ true → CausesBut options below w es → CausesBut options path w es
-causes_above options path below w es on caused x away = caused x (way_apart path below x on away)
+causes_above options path below w es on caused = search way_apart
 
 causes_gone : (options : HostOptions) (path : List ℕ) (w : World) (es : Entries)
     → has_at path es ≡ false → CausesBut options path w es → RefusalsJustified options w es
@@ -74,7 +68,7 @@ joined_as : (path hub : List ℕ) {port : KnownPort} (h : HostState) (s : Stands
     {p : HubPort} → IsAt (claims h.entries) p path → parent_of path ≡ Some hub
     → (target : Target) (n : ℕ) → p ≡ External target n → path ≡ hub ++ n ∷ []
 joined_as path hub h s at above target n is =
-    by_port (subst (λ q. IsAt (claims h.entries) q path) is at)
+    by_port (grind arith)
   where
     by_port : IsAt (claims h.entries) (External target n) path → path ≡ hub ++ n ∷ []
     by_port x = x.path ∙ ap (λ l. l ++ n ∷ [])
@@ -114,12 +108,8 @@ module _ {path : List ℕ} {port : KnownPort} {h : HostState} (s : StandsAt path
       by_parent : (o : Option (List ℕ)) → parent_of path ≡ o
           → IsSomeAnd o (λ hub. (pending h.world.roots hub ≡ true)
           × CausesBut h.options hub h.world h.entries)
-      by_parent None above = absurd (cc (lost_above path h.entries h.world told None above
-          (rw above at s.known)))
-      by_parent (Some hub) above = (
-        hub_pends hub above told (lost refl),
-        causes_above h.options hub path h.world h.entries (way_parent path hub above) (caused refl),
-      )
+      by_parent None above = grind arith
+      by_parent (Some hub) above = search (causes_above, hub_pends, way_parent)
   lost_caused _ told lost caused = tt
 
 -- The world alone goes on
@@ -158,8 +148,7 @@ module _ {n : ℕ} (a : HostState) {b : HostState} (r : OnlyBusSteps a b) (went 
       each x cause s at there = pick (decided (is_way path x)) cause s at there
         where
           known : IsKnownAs a.world x (finding_at x a.entries)
-          known = i.known before x (listed_port a.world (accounted a agrees i.rooted) x
-              (Refused cause) at)
+          known = i.known before x (grind (arith, accounted, listed_port))
 
           pick : (is_way path x ≡ true) ⊎ (is_way path x ≡ false)
               → IsJustifiedAt a.options b.world a.entries x
@@ -182,9 +171,7 @@ module _ {n : ℕ} {path : List ℕ} {port : KnownPort} {a b : HostState} (s : S
   watched_caused ParentLost w told i fair caused =
       let known = i.known (went_before went fair.still) in
       let sound = sound_rests a r went w.addresses w.devices (w.rests tt) i in
-      lost_caused stands_then (but_of_sound path sound) fair.still ParentLost told
-      (λ e. w.lost path (stands_way a s known) fair.few fair.still sound.owned.single refl)
-      (λ e x away. causes_rests a r went s.agrees fair.still (w.rests tt) i caused x)
+      search (but_of_sound, causes_rests, lost_caused, stands_then, stands_way, w.lost, w.rests)
   watched_caused _ w told i fair caused = tt
 
   -- it was tidied, or was not
@@ -194,17 +181,13 @@ module _ {n : ℕ} {path : List ℕ} {port : KnownPort} {a b : HostState} (s : S
       → IsFairTo a.world b.world → RefusalsJustified a.options a.world a.entries
       → PortCaused path result b
   tidied_caused (Ok tt) t told i fair caused =
-      causes_tidied a r went s.agrees fair.still path
-      (t.others (claims a.entries) path (stands_at-claim s) i.owned tt)
-      (t.stays (claims a.entries) path (stands_at-claim s) i.owned refl) i caused
+      causes_tidied a r went s.agrees fair.still path (search (stands_at-claim, t.others))
+      (search (stands_at-claim, t.stays)) i caused
   tidied_caused (Err ParentLost) t told i fair caused =
       let rests = t.others (claims a.entries) path (stands_at-claim s) i.owned tt in
       let but = sound_rests_but a r went t.addresses t.devices (λ still. rests)
       (but_of_sound path i) in
-      lost_caused stands_then but fair.still ParentLost told
-      (λ e. t.lost path fair.few fair.still but.owned.single refl)
-      (λ e. causes_rests_but a r went s.agrees fair.still rests (but_of_sound path i)
-      (λ x away. caused x))
+      search (but_of_sound, causes_rests_but, lost_caused, stands_then, t.lost)
   tidied_caused _ t told i fair caused = tt
 
   -- its change was not cleared
@@ -233,15 +216,9 @@ module _ {n : ℕ} {path : List ℕ} {port : KnownPort} {a b : HostState} (s : S
       let there = causes_rests_but a r went s.agrees before rests (but_of_sound path i)
       (λ x away. caused x) in
       rw (ap (λ (h : HostState). h.options) f.others, ap (λ (h : HostState). h.world) f.others)
-      (rw f.rest (causes_dropped b.options path b.world b.entries there))
+      (rw f.rest (search causes_dropped))
 
 -- What is found there
-
-right_free : (full : Type 0) (spec : Spec) (options : HostOptions) (tier supply : ℕ) (f : Finding)
-    → IsRight full spec options tier supply f → IsRight ⊤ spec options tier supply f
-right_free full spec options tier supply f (inl x) = inl x
-right_free full spec options tier supply f (inr x) =
-    inr (record { none = tt; head = x.head; refused = x.refused })
 
 module _ {n : ℕ} {path : List ℕ} {port : KnownPort} {result : Result Finding EnumFault}
     {a b : HostState} (e : EnumerationAt n path port result a b) (o : IsOpen path a)
@@ -283,8 +260,7 @@ entered_caused {path = path} {port = port} {f = f} {a = a} {b = b} e o fair is c
         (ap Ok found) there) [
           | inl x ↦ inl x
           | inr x ↦ inr (rw (supply_found path f a.entries e.stands.known)
-              (right_free (IsFull a.addresses) t.spec b.options (tier_of path) port.supply
-              (Refused cause) x))
+              (grind arith))
         ]
 
 unfound_caused : {n : ℕ} {path : List ℕ} {port : KnownPort} {fault : EnumFault} {a b : HostState}
@@ -297,13 +273,11 @@ unfound_caused {path = path} {fault = ParentLost} {a = a} {b = b} e o fair same 
     by_parent : (p : Option (List ℕ)) → parent_of path ≡ p
         → IsSomeAnd p (λ hub. (pending b.world.roots hub ≡ true)
         × CausesBut b.options hub b.world b.entries)
-    by_parent None above = absurd (cc (lost_above path a.entries b.world told None above
-        (rw above at e.stands.known)))
+    by_parent None above = grind arith
     by_parent (Some hub) above = (
       rw above at (e.gives.warrants.parent (claims a.entries) path (found_fair e o fair) refl),
       subst (CausesBut b.options hub b.world) (sym same)
-          (causes_above b.options hub path b.world a.entries (way_parent path hub above)
-          (found_causes e o fair caused)),
+          (search (causes_above, found_causes, way_parent)),
     )
 unfound_caused {fault = _} e o fair same told caused = tt
 
@@ -313,8 +287,8 @@ module _ {n : ℕ} {path : List ℕ} {port : KnownPort} {a b : HostState} where
       → table_in b ≡ entered path f said (table_in a) → KeepsPort path a (Ok tt) b
       → FindsSound path a (Ok tt) b
   entered_finds e said table keeps = record {
-    sound = λ o. entered_sound e o said table keeps;
-    bulk = λ o on still. entered_bulk e o said table still;
+    sound = search entered_sound;
+    bulk = search entered_bulk;
     cut = λ o. tt;
     backlog = λ o still. (found_only e o still).backlog;
     few = λ o. found_few e o;
@@ -327,7 +301,7 @@ module _ {n : ℕ} {path : List ℕ} {port : KnownPort} {a b : HostState} where
   unentered_finds e same pipes_same = record {
     sound = λ o. tt;
     bulk = λ o on. absurd on;
-    cut = λ o. unfound_where e o same pipes_same;
+    cut = search unfound_where;
     backlog = λ o still. (found_only e o still).backlog;
     few = λ o. found_few e o;
     caused = λ o fair caused. tt;
@@ -338,12 +312,12 @@ module _ {n : ℕ} {path : List ℕ} {port : KnownPort} {a b : HostState} where
       → FaultAllowedAt port.port fault b.world → KeepsPort path a (Err fault) b
       → FindsSound path a (Err fault) b
   unfound_finds e same pipes_same pool_same told keeps = record {
-    sound = λ o. unfound_sound e o same pipes_same pool_same told keeps;
-    bulk = λ o on still. unfound_bulk e o same pipes_same still;
-    cut = λ o. unfound_where e o same pipes_same;
+    sound = search unfound_sound;
+    bulk = search unfound_bulk;
+    cut = search unfound_where;
     backlog = λ o still. (found_only e o still).backlog;
     few = λ o. found_few e o;
-    caused = λ o fair. unfound_caused e o fair same told;
+    caused = search unfound_caused;
   }
 
 -- A hub is dropped
@@ -356,8 +330,7 @@ module _ (n : ℕ) {path : List ℕ} {port : KnownPort} (a b : HostState) (s : S
       → CommandsPort port.port (clear_call PORT_ENABLE) a.world result b.world → IsNoBusFault result
       → RestElsewhere path a.world b.world
   told_rests calls sound =
-      calls.rests (claimed s r went addresses devices d).claims path ClearEnable
-      (is_call s r went addresses devices d)
+      calls.rests (claimed s r went addresses devices d).claims path ClearEnable (search is_call)
       sound
 
   pub told_caused : CommandsPort port.port (clear_call PORT_ENABLE) a.world (Ok tt) b.world
@@ -366,7 +339,7 @@ module _ (n : ℕ) {path : List ℕ} {port : KnownPort} (a b : HostState) (s : S
   told_caused calls pends caused = (
     pends_there path ClearEnable a.world b.world refl
         (calls.done (claimed s r went addresses devices d).claims path ClearEnable
-        (is_call s r went addresses devices d) refl) pends,
+        (search is_call) refl) pends,
     causes_rests_but a r went s.agrees fair.still (told_rests calls tt) d.but caused,
   )
 
@@ -378,15 +351,15 @@ module _ (n : ℕ) {path : List ℕ} {port : KnownPort} (a b : HostState) (s : S
   untold_caused {fault = fault} calls told cleared caused = by_parent (parent_of path) refl
     where
       rests : RestElsewhere path a.world b.world
-      rests = told_rests calls (fault_after-no_bus (Unit {0}) fault a.world b.world told fair.still)
+      rests = search (fault_after-no_bus, told_rests)
 
       but : IsSoundBut path b
       but = sound_rests_but a r went addresses devices (λ still. rests) d.but
 
       unserved : (hub : Target) (number : ℕ) → port.port ≡ External hub number → (f : PipeFault)
           → f ≡ fault → NoHubFailed {A = Unit {0}} (Err f) → ⊥
-      unserved hub number is (pipe.Bus g) e h = absurd (cc (fair.still, (rw (← e) at told).told))
-      unserved hub number is pipe.Memory e h = (rw is at cleared).room (ap Err (sym e))
+      unserved hub number is (pipe.Bus g) e h = grind arith
+      unserved hub number is pipe.Memory e h = grind arith
       unserved hub number is _ e h = h
 
       lost : IsLost port.port path b.world
@@ -402,8 +375,7 @@ module _ (n : ℕ) {path : List ℕ} {port : KnownPort} (a b : HostState) (s : S
       by_parent : (o : Option (List ℕ)) → parent_of path ≡ o
           → IsSomeAnd o (λ hub. (pending b.world.roots hub ≡ true)
           × CausesBut b.options hub b.world b.entries)
-      by_parent None above = absurd (root_done path a.entries PORT_ENABLE a.world b.world fault None
-          above refl (rw above at s.known) cleared)
+      by_parent None above = grind arith
       by_parent (Some hub) above = (
         hub_pends (rests_stands s r went) but fair.still hub above (by_port port.port cleared) lost,
         causes_above b.options hub path b.world b.entries (way_parent path hub above)
@@ -416,8 +388,7 @@ module _ {lost : List ℕ} {b d : HostState} (l : LostListed lost b d) where
   lost_causes pends caused =
       rw (lost_options l, lost_world l) (rw (lost_entries l) (causes_found lost (Refused Lost)
       l.left.entries l.path.0 l.forgot.gone b.options b.world
-      (subst (RefusalsJustified b.options b.world) (sym l.forgot.rest)
-      (causes_dropped b.options lost b.world b.entries caused))
+      (subst (RefusalsJustified b.options b.world) (sym l.forgot.rest) (search causes_dropped))
       (λ cause s at there. inl pends)))
 
   -- no pipe to a function but those of what is dropped has changed
@@ -425,26 +396,23 @@ module _ {lost : List ℕ} {b d : HostState} (l : LostListed lost b d) where
       → d.world.shared ≡ false → AllStay a d
   lost_stay a r devices single =
       stay_joined a l.left d
-      (stay_joined a b l.left (stay_rests a b r devices
-      (ap (λ (w : World). w.shared) (sym (lost_world l)) ∙ single)) (stay_forgotten l.forgot))
-      (stay_refused lost Lost l.said l.left d l.table (ap (λ (h : HostState). h.world) l.others))
+      (stay_joined a b l.left (grind (arith, stay_rests)) (stay_forgotten l.forgot))
+      (stay_refused lost Lost l.said l.left d l.table (grind arith))
 
   -- it is listed as lost
   pub lost_drops : {hub : List ℕ} {a : HostState} → OnlyBusSteps a b
       → a.world.taken ≤ b.world.taken → Climbs hub a (Ok lost) b → DropsHub hub a (Ok tt) d
       → DropsSound hub a (Ok tt) d
   lost_drops {a = a} r onward climbs drops =
-      let back : d.world.fault ≡ None → b.world.fault ≡ None = λ still.
-      ap (λ (w : World). w.fault) (sym (lost_world l)) ∙ still in
+      let back : d.world.fault ≡ None → b.world.fault ≡ None = λ still. grind arith in
       record {
         sound = λ p. lost_sound_there l (climbs.sound p) p drops;
         bulk = λ p still.
-            bulk_stays a d (lost_stay a r climbs.devices (drops.ends p.but.owned).single)
+            bulk_stays a d (grind (arith, lost_stay))
             (subst (MovesNoBulk a.world) (sym (lost_world l))
             (by_control (climbs.control (back still))));
         plugs = plugs_lost a d (rw (lost_world l) onward) drops.lost;
-        backlog = λ p still. subst (KeepsAll a.world) (sym (lost_world l))
-            (climbs.backlog p (back still));
+        backlog = grind arith;
         caused = λ p fair pends caused.
             let x = climbs.caused p (rw (lost_world l) at fair) pends caused in
             lost_causes x.0 x.1;

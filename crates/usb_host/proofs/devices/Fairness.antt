@@ -18,8 +18,4 @@ module _ {n : ℕ} {old mid new : World} {t s : Option (List ℕ)} where
 
   -- from there on
   pub fair_after : StepRun n old t mid s → IsFairTo old new → IsFairTo mid new
-  fair_after went f = record {
-    still = f.still;
-    few = went_three n _ _ went f.few;
-    kept = f.kept;
-  }
+  fair_after went f = search went_three

@@ -1,14 +1,14 @@
 -- The pipes to functions and the endpoints at their other ends, over what a host does at a port.
-use Rattle.std.proofs.Common.{◌≡◌, ◌⊎◌, inl, inr, refl, sym, ap, subst, ◌∙◌, ℕ, Bool, true, false}
-use Rattle.std.proofs.Common.{List, Option, None, Some, option_map, Result, not}
+use Rattle.std.proofs.Common.{arith, ◌≡◌, ◌⊎◌, inl, inr, refl, sym, ap, subst, ◌∙◌, ℕ, Bool, true}
+use Rattle.std.proofs.Common.{false, List, Option, None, Some, Result}
 use Rattle.std.specs.BTreeMap.{is_at}
 use Rattle.arrayvec.specs.ArrayVec.{ArrayVec}
 use Rattle.usb_port.specs.{path_cmp}
-use Rattle.usb_device.specs.{in_end, out_end, State, reach, state_there}
+use Rattle.usb_device.specs.{State, reach, state_there}
 use Rattle.usb_world.specs.{Was, EachWas, AnyStep, Course, after, event, here, World, Consistent}
-use Rattle.usb_tree.specs.{address_of, is_way}
+use Rattle.usb_tree.specs.{is_way}
 use Rattle.usb_world.proofs.Interface.{course_joined, each_wider, way_itself, at_or_below_way}
-use Rattle.usb_tree.proofs.Interface.{decided, false_true}
+use Rattle.usb_tree.proofs.Interface.{decided}
 use Rattle.usb_address.specs.{MapHolds}
 use Rattle.usb_pipe.specs.{PipeFault}
 use Rattle.usb_hub.specs.{ControlCourse, StaysAs, EachElsewhere, EachNamedElsewhere, KeepsDevices}
@@ -16,13 +16,12 @@ use Rattle.usb_hub.specs.{TouchesNoPort}
 use Rattle.usb_enum.specs.{Cause, Accepted, Finding, IsOwn, HostOptions, usual_options}
 use Rattle.usb_enum.specs.declared.finding.Finding.TheVariants.{Device, Refused}
 use Rattle.usb_enum.proofs.Interface.{went_course, ruled_there}
-use Rattle.usb_table.specs.{Pipes, Hub, function_of, Entries, has_at, accepted_device_of}
-use Rattle.usb_table.specs.{accepted_device_at, address_in, is_below_hub, SparesBulk, finding_at}
-use Rattle.usb_table.specs.{new_pipes, Table, GoesThrough, entered, pipes_at, PipesPolled, no_pipes}
-use Rattle.usb_table.specs.{is_at_or_below, AllInSync, PipesInSync, InSyncAt, TakesOut}
-use Rattle.usb_table.proofs.Interface.{path_tied, pipes_at-entered, pipes_at-entered_elsewhere}
-use Rattle.usb_table.proofs.Interface.{spares-same, spares-stage, spares-then, level_beside}
-use Rattle.usb_table.proofs.Interface.{level_elsewhere, level_entered, level_stays}
+use Rattle.usb_table.specs.{Pipes, function_of, Entries, has_at, accepted_device_of}
+use Rattle.usb_table.specs.{accepted_device_at, is_below_hub, SparesBulk, finding_at, new_pipes}
+use Rattle.usb_table.specs.{Table, GoesThrough, entered, pipes_at, PipesPolled, is_at_or_below}
+use Rattle.usb_table.specs.{AllInSync, InSyncAt, TakesOut}
+use Rattle.usb_table.proofs.Interface.{path_tied, pipes_at-entered, spares-same, spares-stage}
+use Rattle.usb_table.proofs.Interface.{level_beside, level_elsewhere, level_entered, level_stays}
 use Rattle.usb_host.specs.{Forgets, SameFunction, EndpointsStayed, EndpointsBegan, StayedAt}
 use Rattle.usb_host.specs.{RenewedAt, MovesNoBulk, NamedEndpointsStayed, StaysWhere, by_both}
 use Rattle.usb_host.specs.{by_control, by_rest, KeepsBulk, HostState, claims, HostSteps}
@@ -34,7 +33,6 @@ use Rattle.usb_host.proofs.entries.Agreements.{lookup-removed}
 use Rattle.usb_host.proofs.parts.Events.{event_same}
 use Rattle.usb_host.proofs.knowledge.Places.{finding-kept, finding-none}
 use Rattle.usb_host.proofs.knowledge.SettledListings.{reached_there}
-use Rattle.std.specs.Prelude.{unwrap_or}
 
 -- The pipes to functions and the endpoints at their other ends stay as they were over what a host
 -- does at its ports.
@@ -51,8 +49,7 @@ function_joined x y = record { same = y.same ∙ x.same }
 polled_function : (pipes : Pipes) {left : Pipes} (old new : World)
     (result : Result (Option (ArrayVec ℕ)) PipeFault) → PipesPolled pipes old result left new
     → SameFunction pipes left
-polled_function (Hub pipe) old new result x = record { same = ap function_of x.1 }
-polled_function _ old new result x = same_function x.1
+polled_function pipes old new result x = grind arith
 
 -- The endpoints of a path
 
@@ -61,67 +58,32 @@ began_on : (path : List ℕ) (w v : World) → EndpointsBegan path w → Endpoin
 began_on path w v began stayed x s is on stands =
     let was : Was SparesBulk w x s = stayed x s is on stands in
     λ e.
-    let fresh = began x was.before is was.on was.stands e in (
-      ap (λ (t : State). (out_end t e).state) was.so ∙ fresh.0,
-      ap (λ (t : State). (in_end t e).state) was.so ∙ fresh.1,
-    )
+    let fresh = began x was.before is was.on was.stands e in grind arith
 
 stayed_none : (path : List ℕ) (w : World) {v : World} → v ≡ w → EndpointsStayed path w v
-stayed_none path w same = subst (EndpointsStayed path w) (sym same)
-    (λ x s is on stands. record {
-      before = s;
-      on = on;
-      stands = stands;
-      so = spares-same x s s refl;
-    })
+stayed_none path w same = subst (EndpointsStayed path w) (sym same) (grind arith)
 
 stayed_joined : (path : List ℕ) (w u v : World) → EndpointsStayed path w u
     → EndpointsStayed path u v → EndpointsStayed path w v
 stayed_joined path w u v first second x s is on stands =
     let late : Was SparesBulk u x s = second x s is on stands in
-    let early : Was SparesBulk w x late.before = first x late.before is late.on late.stands in
-    record {
-      before = early.before;
-      on = early.on;
-      stands = early.stands;
-      so = spares-then x early.before late.before s early.so late.so;
-    }
+    let early : Was SparesBulk w x late.before = grind arith in grind arith
 
 named_joined : (path : List ℕ) (w u v : World) → NamedEndpointsStayed path w u
     → NamedEndpointsStayed path u v → NamedEndpointsStayed path w v
 named_joined path w u v first second x s is on stands has =
     let late : Was SparesBulk u x s = second x s is on stands has in
-    let same : address_of s ≡ address_of late.before = ap address_of late.so in
-    let early : Was SparesBulk w x late.before =
-    first x late.before is late.on late.stands (λ none. has (same ∙ none)) in
-    record {
-      before = early.before;
-      on = early.on;
-      stands = early.stands;
-      so = spares-then x early.before late.before s early.so late.so;
-    }
+    let early : Was SparesBulk w x late.before = grind arith in grind arith
 
 named_elsewhere : (first path : List ℕ) (w v : World) → EachNamedElsewhere first StaysAs w v
     → is_way first path ≡ false → NamedEndpointsStayed path w v
 named_elsewhere first path w v each away x s is on stands has =
-    let was : Was StaysAs w x s = each x s (ap (is_way first) (sym is) ∙ away) on stands has in
-    record {
-      before = was.before;
-      on = was.on;
-      stands = was.stands;
-      so = spares-stage x was.before s was.so;
-    }
+    let was : Was StaysAs w x s = grind arith in grind arith
 
 stayed_elsewhere : (first path : List ℕ) (w v : World) → EachElsewhere first StaysAs w v
     → is_way first path ≡ false → EndpointsStayed path w v
 stayed_elsewhere first path w v each away x s is on stands =
-    let was : Was StaysAs w x s = each x s (ap (is_way first) (sym is) ∙ away) on stands in
-    record {
-      before = was.before;
-      on = was.on;
-      stands = was.stands;
-      so = spares-stage x was.before s was.so;
-    }
+    let was : Was StaysAs w x s = grind arith in grind arith
 
 -- Steps that move nothing
 
@@ -143,52 +105,32 @@ pub record AllStay (old new : HostState) : Type 0 where
       → StayedAt path device old new
 
 pub stay_none : (h : HostState) → AllStay h h
-stay_none h = record {
-  each = λ path device at. record {
-    listed = at;
-    pipes = same_function refl;
-    endpoints = stayed_none path h.world {v = h.world} refl;
-  };
-}
+stay_none h = grind arith
 
 pub stay_joined : (a b c : HostState) → AllStay a b → AllStay b c → AllStay a c
 stay_joined a b c x y = record {
   each = λ path device at.
       let late : StayedAt path device b c = y.each path device at in
-      let early : StayedAt path device a b = x.each path device late.listed in
+      let early : StayedAt path device a b = search x.each in
       record {
         listed = early.listed;
-        pipes = function_joined early.pipes late.pipes;
-        endpoints = stayed_joined path a.world b.world c.world early.endpoints late.endpoints;
+        pipes = search function_joined;
+        endpoints = search (stayed_joined, a.world, b.world, c.world);
       };
 }
 
 pub bulk_stays : (a b : HostState) → AllStay a b → MovesNoBulk a.world b.world → KeepsBulk a b
-bulk_stays a b x unmoved = record {
-  each = λ path device at. inl (x.each path device at);
-  unmoved = unmoved;
-}
+bulk_stays a b x unmoved = grind arith
 
 pub where_stays : {So : Type 0} (a b : HostState) → So → StaysWhere So a b → AllStay a b
-where_stays a b so x = record {
-  each = λ path device at. let y = x.each path device at in record {
-    listed = y.listed;
-    pipes = y.pipes;
-    endpoints = y.endpoints so;
-  };
-}
+where_stays a b so x = grind arith
 
 -- entries and the pipes to functions are as they were
 where_same : {So : Type 0} {a b : HostState} → b.entries ≡ a.entries
     → ((path : List ℕ) → SameFunction (pipes_at path (table_in a)) (pipes_at path (table_in b)))
     → EachWas SparesBulk a.world b.world → StaysWhere So a b
 where_same same pipes each = record {
-  each = λ path device at. record {
-    listed = ap (λ (es : Entries). accepted_device_at path es) (sym same) ∙ at;
-    pipes = pipes path;
-    endpoints = λ so x s is on stands. each x s on stands;
-    named = λ x s is on stands has. each x s on stands;
-  };
+  each = grind arith;
 }
 
 stay_same : {a b : HostState} → b.entries ≡ a.entries
@@ -201,8 +143,7 @@ stay_same {a} {b} same pipes each =
 pub stay_rests : (a b : HostState) → OnlyBusSteps a b → KeepsDevices a.world b.world
     → b.world.shared ≡ false → AllStay a b
 stay_rests a b r devices single =
-    stay_same (ap (λ (h : HostState). h.entries) r)
-    (λ path. same_function (ap (λ (h : HostState). pipes_at path (table_in h)) r))
+    stay_same (ap (λ (h : HostState). h.entries) r) (grind arith)
     (each_wider StaysAs SparesBulk (λ j s v x. spares-stage j s v x) a.world b.world
     (devices.stays single))
 
@@ -222,8 +163,7 @@ where_polled hub a b result goes polled each =
 pub stay_event : (a b : HostState) → b.entries ≡ a.entries → b.pipes ≡ a.pipes
     → b.world ≡ after event a.world → AllStay a b
 stay_event a b same pipes_same is =
-    let table : table_in b ≡ table_in a = ap (λ es. record { entries = es; pipes = b.pipes }) same
-    ∙ ap (λ ps. record { entries = a.entries; pipes = ps }) pipes_same in
+    let table : table_in b ≡ table_in a = grind arith in
     stay_same same (λ path. same_function (ap (pipes_at path) table))
     (rw is (each_wider (λ x s v. v ≡ s) SparesBulk spares-same a.world (after event a.world)
     (event_same a.world)))
@@ -231,35 +171,17 @@ stay_event a b same pipes_same is =
 -- what is listed after what stood at a path is forgotten stands elsewhere
 listed_away : (first path : List ℕ) (es : Entries) {device : Accepted} → has_at first es ≡ false
     → accepted_device_at path es ≡ Some device → is_way first path ≡ false
-listed_away first path es gone at = elim (decided (is_way first path)) [
-  | inl way ↦ absurd (cc (ap accepted_device_of (finding-none first path es gone way), at))
-  | inr away ↦ away
-]
+listed_away first path es gone at = grind (arith, finding-none)
 
 pub stay_forgotten : {first : List ℕ} {a b : HostState} → Forgets first a b → AllStay a b
 stay_forgotten {first = first} {a = a} {b = b} f = record {
-  each = λ path device at.
-      let away : is_way first path ≡ false = listed_away first path b.entries {device = device}
-      f.gone at in
-      record {
-        listed = sym (ap accepted_device_of (ap (λ (es : Entries). finding_at path es) f.rest
-            ∙ finding-kept first path a.entries away)) ∙ at;
-        pipes = same_function (f.pipes path away);
-        endpoints = stayed_none path a.world (ap (λ (h : HostState). h.world) f.others);
-      };
+  each = grind (arith, finding-kept, listed_away, stayed_none);
 }
 
 -- Where the host stopped
 
 pub stays_where : {So : Type 0} (a b : HostState) → AllStay a b → StaysWhere So a b
-stays_where a b x = record {
-  each = λ path device at. let y = x.each path device at in record {
-    listed = y.listed;
-    pipes = y.pipes;
-    endpoints = λ so. y.endpoints;
-    named = λ x s is on stands has. y.endpoints x s is on stands;
-  };
-}
+stays_where a b x = grind arith
 
 pub where_joined : {So Then : Type 0} (a b c : HostState) → (Then → So) → StaysWhere So a b
     → StaysWhere Then b c → StaysWhere Then a c
@@ -269,11 +191,11 @@ where_joined a b c back x y = record {
       let early = x.each path device late.listed in
       record {
         listed = early.listed;
-        pipes = function_joined early.pipes late.pipes;
+        pipes = search function_joined;
         endpoints = λ so.
             stayed_joined path a.world b.world c.world (early.endpoints (back so))
             (late.endpoints so);
-        named = named_joined path a.world b.world c.world early.named late.named;
+        named = search (named_joined, a.world, b.world, c.world);
       };
 }
 
@@ -284,17 +206,13 @@ pub where_unfound : {So : Type 0} (first : List ℕ) (a b : HostState) → b.ent
     → EachNamedElsewhere first StaysAs a.world b.world → StaysWhere So a b
 where_unfound first a b same pipes_same gone each named = record {
   each = λ path device at.
-      let listed : accepted_device_at path a.entries ≡ Some device =
-      ap (λ (es : Entries). accepted_device_at path es) (sym same) ∙ at in
-      let table : table_in b ≡ table_in a = ap (λ es. record { entries = es; pipes = b.pipes }) same
-      ∙ ap (λ ps. record { entries = a.entries; pipes = ps }) pipes_same in
+      let listed : accepted_device_at path a.entries ≡ Some device = grind arith in
       record {
         listed = listed;
-        pipes = same_function (ap (pipes_at path) table);
+        pipes = search same_function;
         endpoints = λ so. stayed_elsewhere first path a.world b.world (each so)
             (listed_away first path a.entries gone listed);
-        named = named_elsewhere first path a.world b.world named
-            (listed_away first path a.entries gone listed);
+        named = search (listed_away, named_elsewhere, a.world, b.world);
       };
 }
 
@@ -308,33 +226,19 @@ beside : (first path : List ℕ) (f : Finding) (said : ArrayVec ℕ) (a b : Host
     → (accepted_device_at path a.entries ≡ Some device → EndpointsStayed path a.world b.world)
     → StayedAt path device a b
 beside first path f said a b device table apart at endpoints =
-    let listed : accepted_device_at path a.entries ≡ Some device =
-    sym (ap (λ (t : Table). accepted_device_at path t.entries) table ∙ ap accepted_device_of
-    (lookup-insert_entry_elsewhere path first f a.entries apart)) ∙ at in
-    record {
-      listed = listed;
-      pipes = same_function
-          (ap (pipes_at path) table ∙ pipes_at-entered_elsewhere first f said (table_in a) path
-          apart);
-      endpoints = endpoints listed;
-    }
+    grind (arith, lookup-insert_entry_elsewhere)
 
 -- the accepted device of a finding is what was found
 pub accepted_device_of-some : (f : Finding) {device : Accepted}
     → accepted_device_of (Some f) ≡ Some device → f ≡ Device device
-accepted_device_of-some (Device d) e = ap Device (cc e)
-accepted_device_of-some (Refused cause) e = absurd (cc e)
+accepted_device_of-some f e = grind arith
 
 -- at the path itself
 entered_there : (first : List ℕ) {path : List ℕ} (f : Finding) (said : ArrayVec ℕ) (a b : HostState)
     (device : Accepted) → table_in b ≡ entered first f said (table_in a) → path ≡ first
     → accepted_device_at path b.entries
     ≡ Some device → f ≡ Device device
-entered_there first f said a b device table is at =
-    let there : accepted_device_at first b.entries ≡ Some device =
-    subst (λ (p : List ℕ). accepted_device_at p b.entries ≡ Some device) is at in
-    accepted_device_of-some f (sym (ap (λ (t : Table). accepted_device_at first t.entries) table
-    ∙ ap accepted_device_of (lookup-insert_entry_here first f a.entries)) ∙ there)
+entered_there first f said a b device table is at = grind (arith, lookup-insert_entry_here)
 
 -- a device that is refused has no pipes
 pub stay_refused : (first : List ℕ) (cause : Cause) (said : ArrayVec ℕ) (a b : HostState)
@@ -352,15 +256,7 @@ stay_refused first cause said a b table same =
 -- whoever is reached holds the address of its entry
 unreached : (w : World) (path : List ℕ) (es : Entries) → MapHolds (claims es) w
     → finding_at path es ≡ None → reach w.roots path ≡ false
-unreached w path es held none = elim (decided (reach w.roots path)) [
-  | inl on ↦
-      let there : (s : State) × (state_there w.roots path ≡ Some s) =
-      reached_there w.roots path on in
-      let some_is : Some (address_of there.0) ≡ None = sym (ap (option_map address_of) there.1)
-      ∙ held.own path on ∙ ap address_in none in
-      absurd (cc some_is)
-  | inr off ↦ off
-]
+unreached w path es held none = grind (arith, reached_there)
 
 -- a device that is found where none was listed was not reached before
 module _ (first : List ℕ) (f : Finding) (said : ArrayVec ℕ) (a b : HostState)
@@ -372,11 +268,9 @@ module _ (first : List ℕ) (f : Finding) (said : ArrayVec ℕ) (a b : HostState
     each = λ path device at. elim (decided (is_at (path_cmp path) first)) [
       | inl tie ↦
           let is : path ≡ first = path_tied path first tie in
-          inr (rw is (found device (entered_there first f said a b device table is at)))
+          inr (rw is (found device (search entered_there)))
       | inr apart ↦
-          inl (beside first path f said a b device table apart at
-          (λ listed. stayed_elsewhere first path a.world b.world each
-          (listed_away first path a.entries gone listed)))
+          inl (search (beside, listed_away, stayed_elsewhere))
     ];
     unmoved = by_control control;
   }
@@ -385,13 +279,12 @@ module _ (first : List ℕ) (f : Finding) (said : ArrayVec ℕ) (a b : HostState
       found device is = record {
         moment = a.world;
         before = here a.world;
-        unmoved = unmoved_none a.world {v = a.world} refl;
-        none = unreached a.world first a.entries held
-            (finding-none first first a.entries gone (way_itself first));
+        unmoved = search unmoved_none;
+        none = grind (arith, finding-none, unreached, way_itself);
         found = b.world;
         control = control;
         behind = here b.world;
-        since = stayed_none first b.world {v = b.world} refl;
+        since = search stayed_none;
         pipes = same_function (ap (pipes_at first) table
             ∙ pipes_at-entered first f said (table_in a)
             ∙ ap (λ g. new_pipes g (is_below_hub first) said) is);
@@ -408,11 +301,7 @@ module _ (a b c : HostState) (first : Course AnyStep a.world b.world)
   stayed_then : (path : List ℕ) {device : Accepted} → StayedAt path device a b
       ⊎ RenewedAt path device a b → StayedAt path device b c → StayedAt path device a c
       ⊎ RenewedAt path device a c
-  stayed_then path (inl x) y = inl (record {
-    listed = x.listed;
-    pipes = function_joined x.pipes y.pipes;
-    endpoints = stayed_joined path a.world b.world c.world x.endpoints y.endpoints;
-  })
+  stayed_then path (inl x) y = inl (search stayed_joined)
   stayed_then path (inr x) y = inr (record {
     moment = x.moment;
     before = x.before;
@@ -445,16 +334,15 @@ module _ (a b c : HostState) (first : Course AnyStep a.world b.world)
 
   bulk_joins : KeepsBulk a b → KeepsBulk b c → KeepsBulk a c
   bulk_joins x y = record {
-    each = λ path device at. part_then x path device (y.each path device at);
+    each = grind (arith, part_then);
     unmoved = by_both x.unmoved y.unmoved;
   }
 
 -- as long as the bus is at work
 pub bulk_then : (m n : ℕ) (a b c : HostState) → HostSteps m a b → HostSteps n b c
     → c.world.fault ≡ None → KeepsBulk a b → KeepsBulk b c → KeepsBulk a c
-bulk_then m n a b c first second still =
-    bulk_joins a b c (went_course m a.world b.world first
-    (went_before second still)) (went_course n b.world c.world second still)
+bulk_then m n a b c first second still h h1 =
+    search (bulk_joins, went_before, went_course, a.world, b.world, c.world)
 
 -- only the host's own stop is new
 pub bulk_stopped : (a b : HostState) (stopped : Bool) → KeepsBulk a b
@@ -467,23 +355,8 @@ bulk_stopped a b stopped x = record {
     pick : (path : List ℕ) (device : Accepted) → StayedAt path device a b
         ⊎ RenewedAt path device a b → StayedAt path device a (record b { stopped = stopped })
         ⊎ RenewedAt path device a (record b { stopped = stopped })
-    pick path device (inl y) = inl (record {
-      listed = y.listed;
-      pipes = y.pipes;
-      endpoints = y.endpoints;
-    })
-    pick path device (inr y) = inr (record {
-      moment = y.moment;
-      before = y.before;
-      unmoved = y.unmoved;
-      none = y.none;
-      found = y.found;
-      control = y.control;
-      behind = y.behind;
-      since = y.since;
-      pipes = y.pipes;
-      endpoints = y.endpoints;
-    })
+    pick path device (inl y) = grind arith
+    pick path device (inr y) = grind arith
 
 -- Pipes stay as far as the endpoints at their other ends over what a host does at a port.
 
@@ -492,34 +365,25 @@ bulk_stopped a b stopped x = record {
 pub level_rests : (a b : HostState) → OnlyBusSteps a b → KeepsDevices a.world b.world
     → b.world.shared ≡ false → (path : List ℕ) → InSyncAt path (table_in a) a.world
     → InSyncAt path (table_in b) b.world
-level_rests a b r devices single path l =
-    rw (ap (λ (h : HostState). table_in h) r) (level_stays _ _ b.world
-    (devices.stays single) _ l)
+level_rests a b r devices single path l = grind (arith, level_stays)
 
 -- What is taken out
 
 -- a path that is neither at another nor below it is not one that is
 is_at-not_below : (q path first : List ℕ) → is_at_or_below first path ≡ true
     → is_at_or_below q path ≡ false → is_at (path_cmp q) first ≡ false
-is_at-not_below q path first on away = elim (decided (is_at (path_cmp q) first)) [
-  | inl tie ↦ false_true (sym (rw (path_tied q first tie) at away) ∙ on)
-  | inr apart ↦ apart
-]
+is_at-not_below q path first on away = grind (arith, path_tied)
 
 pub pipes_apart : (q path : List ℕ) {finding : Finding} (old new : Table)
     → TakesOut path finding old new → is_at_or_below q path ≡ false
     → pipes_at q new ≡ pipes_at q old
-pipes_apart q path old _ t away =
-    ap (λ (x : Table). pipes_at q x) t.rest ∙ ap (λ (o : Option Pipes). unwrap_or o no_pipes)
-    (lookup-removed q t.first old.pipes (is_at-not_below q path t.first t.at away))
+pipes_apart q path old new t away = grind (arith, is_at-not_below, lookup-removed)
 
 -- Of what is not listed nothing is to be level
 
 none_level : {path : List ℕ} {t : Table} {w : World} → finding_at path t.entries ≡ None
     → InSyncAt path t w
-none_level none = record {
-  level = λ device s at on stands. absurd (cc (ap accepted_device_of none, at));
-}
+none_level none = grind arith
 
 -- what stood at a path is forgotten
 pub level_forgotten : {first : List ℕ} {b c : HostState} → Forgets first b c
@@ -529,13 +393,8 @@ level_forgotten {first = first} {b = b} {c = c} f level x = elim (decided (is_wa
   | inl way ↦ none_level (finding-none first x c.entries f.gone way)
   | inr away ↦
       let found : finding_at x c.entries ≡ finding_at x b.entries =
-      ap (λ (es : Entries). finding_at x es) f.rest ∙ lookup-without x first b.entries
-      (ap not (at_or_below_way x first ∙ away)) in
-      subst (InSyncAt x (table_in c)) (ap (λ (h : HostState). h.world) (sym f.others)) (record {
-        level = λ device s at on stands. subst (λ (p : Pipes). PipesInSync device p s)
-            (sym (f.pipes x away)) ((level x away).level device s
-            (sym (ap accepted_device_of found) ∙ at) on stands);
-      })
+      grind (arith, at_or_below_way, lookup-without) in
+      subst (InSyncAt x (table_in c)) (ap (λ (h : HostState). h.world) (sym f.others)) (grind arith)
 ]
 
 -- What is entered
@@ -567,22 +426,16 @@ pub level_found : (path : List ℕ) (f : Finding) (said : ArrayVec ℕ) (options
     → AllInSync u w
 level_found path f said options tier supply t w is sane own others =
     level_came _ f said t w is (level_entered path f said t w options tier supply
-    (λ device s found on stands. (
-      ruled_there w.roots path s sane stands,
-      own device s found on stands,
-    ))) others
+    (search ruled_there)) others
 
 -- Elsewhere
 
 pub level_but : (path : List ℕ) (t : Table) (w v : World) → EachElsewhere path StaysAs w v
     → ((x : List ℕ) → is_way path x ≡ false → InSyncAt x t w) → (x : List ℕ) → is_way path x ≡ false
     → InSyncAt x t v
-level_but path t w v each level x away = level_elsewhere t w v path each x away (level x away)
+level_but path t w v each level x away = search level_elsewhere
 
 -- of what stands at a path and below it nothing is listed
 pub level_gone : (path : List ℕ) (t : Table) (w : World) → has_at path t.entries ≡ false
     → ((x : List ℕ) → is_way path x ≡ false → InSyncAt x t w) → AllInSync t w
-level_gone path t w gone level x = elim (decided (is_way path x)) [
-  | inl way ↦ none_level (finding-none path x t.entries gone way)
-  | inr away ↦ level x away
-]
+level_gone path t w gone level = grind (arith, finding-none, none_level)

@@ -1,26 +1,24 @@
 -- Devices stand where some were plugged, and where few were, none waits for an address.
 use Rattle.std.proofs.Common.{◌≡◌, ◌≤◌, ◌<◌, ◌⊎◌, inl, inr, refl, sym, ap, subst, ◌∙◌, arith, ℕ}
-use Rattle.std.proofs.Common.{zero, suc, ◌+◌, Bool, true, false, cond, not, List, [], ◌∷◌, length}
-use Rattle.std.proofs.Common.{take, Option, None, Some, is_some, option_map, slice_index_or, eqb}
-use Rattle.std.proofs.Common.{Ordering, Less, Equal, Greater, Any, nat_eq}
+use Rattle.std.proofs.Common.{zero, suc, ◌+◌, Bool, true, false, cond, List, [], ◌∷◌, length, take}
+use Rattle.std.proofs.Common.{Option, None, Some, is_some, option_map, eqb, Ordering, Less, Equal}
+use Rattle.std.proofs.Common.{Greater, Any}
 use Rattle.std.specs.Prelude.{⊤, unwrap_or}
-use Rattle.std.specs.List.{filter, list_any, starts_with}
+use Rattle.std.specs.List.{filter, list_any}
 use Rattle.std.specs.BTreeMap.{insert_entry, is_at}
 use Rattle.std.specs.Ordering.{match_ordering}
-use Rattle.std.proofs.lemmas.Bool.{eq-eqb}
 use Rattle.std.proofs.lemmas.List.Sums.{sum_by-cons}
 use Rattle.std.proofs.lemmas.Map.Steps.{le-length_from_below}
-use Rattle.usb_port.specs.{path_cmp, is_attached, PortCall, ClearEnable, PortStatus}
+use Rattle.usb_port.specs.{path_cmp, PortCall, ClearEnable, PortStatus}
 use Rattle.usb_resources.specs.{IsFull}
 use Rattle.usb_device.specs.{State, state_there}
 use Rattle.usb_world.specs.{Action, Plug, Unplug, Event, AtPorts, spec_of, PlanData, IsPlan}
 use Rattle.usb_world.specs.{PluggedMap, device_indexed, index_at, plugged_after, plugged_by}
 use Rattle.usb_world.specs.{plugged_without, AnyStep, Course, opening, World}
 use Rattle.usb_world.specs.declared.event.Action.TheVariants.{Change, Ask}
-use Rattle.usb_tree.specs.{is_way}
-use Rattle.usb_world.proofs.Interface.{course_joined, course_taken, course_then, course_wider}
-use Rattle.usb_world.proofs.Interface.{devices_left, way_itself}
-use Rattle.usb_tree.proofs.Interface.{both, decided, or_left, or_right}
+use Rattle.usb_world.proofs.Interface.{course_joined, course_taken, course_wider, devices_left}
+use Rattle.usb_world.proofs.Interface.{way_itself}
+use Rattle.usb_tree.proofs.Interface.{decided}
 use Rattle.usb_address.proofs.Interface.{attached_there}
 use Rattle.usb_hub.specs.{PortCallDone, PortStatusAt}
 use Rattle.usb_enum.specs.{Lost, NoAddress, Accepted, Finding, IsOrderly}
@@ -48,12 +46,7 @@ module _ {X : Type 0} (P : X → Type 0) where
   any_later x xs a = (suc a.0, a.1, omega (arith, a.2), a.3, a.4)
 
   pub any_cases : (x : X) (xs : List X) → Any P (x ∷ xs) → P x ⊎ Any P xs
-  any_cases x xs a = pick a.0 a.1 a.2 a.3 a.4
-    where
-      pick : (k : ℕ) (y : X) → k < length (x ∷ xs) → slice_index_or (x ∷ xs) k y ≡ y → P y → P x
-          ⊎ Any P xs
-      pick zero y less is so = inl (rw is so)
-      pick (suc k) y less is so = inr (k, y, omega arith, is, so)
+  any_cases x xs a = grind arith
 
   pub any_none : Any P [] → ⊥
   any_none a = absurd (omega (arith, a.2))
@@ -79,7 +72,7 @@ AtPath path e = PlugsAt path e.action
 -- what was plugged was so ever since
 was_later : (events : List Event) (m n : ℕ) (path : List ℕ) → m ≤ n → WasPlugged events m path
     → WasPlugged events n path
-was_later events m n path le = any_taken (AtPath path) m n events le
+was_later events m n path le h = search any_taken
 
 -- What stands at a path was plugged there
 
@@ -126,10 +119,8 @@ module _ (P : List ℕ → Type 0) where
       → ((path : List ℕ) → PlugsAt path action → P path) → EachPath P tree
       → EachPath P (plugged_after action tree)
   unfolding plugged_without
-  path_after (Change (Plug path device)) tree so each =
-      path_inserted tree path device (so path refl) each
-  path_after (Change (Unplug path)) tree so each =
-      path_filtered (λ place. not (starts_with nat_eq place.0 path)) tree each
+  path_after (Change (Plug path device)) tree so each = search path_inserted
+  path_after (Change (Unplug path)) tree so each = grind (arith, path_filtered)
   path_after (Ask ask) tree so each = each
 
   path_by : (events : List Event) (tree : PluggedMap)
@@ -138,15 +129,12 @@ module _ (P : List ℕ → Type 0) where
   unfolding plugged_by
   path_by [] tree so each = each
   path_by (e ∷ events) tree so each =
-      path_by events (plugged_after e.action tree)
-      (λ path later. so path (any_later (AtPath path) e events later))
-      (path_after e.action tree (λ path at. so path (any_first (AtPath path) e events at)) each)
+      path_by events (plugged_after e.action tree) (search any_later)
+      (grind (arith, path_after))
 
 index_some : (o : Option ℕ) (s : Option State) (plan : PlanData) → is_some s ≡ true
     → option_map spec_of s ≡ device_indexed plan.devices o → (i : ℕ) × (o ≡ Some i)
-index_some None (Some s) plan there is = absurd (cc is)
-index_some None None plan there is = absurd (cc there)
-index_some (Some i) s plan there is = (i, refl)
+index_some o s plan there is = grind arith
 
 pub there_was_plugged : (plan : PlanData) → IsPlan plan → AtPorts plan.events → {w : World}
     → Course AnyStep (opening plan) w → (path : List ℕ) → is_some (state_there w.roots path) ≡ true
@@ -155,9 +143,9 @@ there_was_plugged plan is paths {w = w} course path there =
     let came : List Event = take w.taken plan.events in
     let index : (i : ℕ) × (index_at (plugged_by [] came) path ≡ Some i) =
     index_some (index_at (plugged_by [] came) path) (state_there w.roots path) plan there
-    (devices_left _ is paths w course path) in
+    (search devices_left) in
     path_found (λ p. Any (AtPath p) came) (plugged_by [] came) path _
-    (path_by (λ p. Any (AtPath p) came) came [] (λ p at. at) tt) index.1
+    (grind (arith, path_by)) index.1
 
 -- Where all addresses are taken, at least 128 devices were plugged
 
@@ -178,7 +166,7 @@ plug_addresses es (e ∷ events) = cond (is_plug e.action)
 plug_events-cons : (e : Event) (events : List Event)
     → plug_events (e ∷ events) ≡ one_when (is_plug e.action) + plug_events events
 unfolding one_when
-plug_events-cons e events = sum_by-cons (λ x. cond (is_plug x.action) 1 0) e events
+plug_events-cons e events = search sum_by-cons
 
 plug_step : (es : Entries) (e : Event) (events : List Event) → length (plug_addresses es events)
     ≡ plug_events events → (b : Bool) → is_plug e.action ≡ b
@@ -187,8 +175,7 @@ plug_step : (es : Entries) (e : Event) (events : List Event) → length (plug_ad
 unfolding one_when
 plug_step es e events same true is = let counted : one_when (is_plug e.action) ≡ 1 =
     ap one_when is in omega (arith, plug_events-cons e events)
-plug_step es e events same false is = let counted : one_when (is_plug e.action) ≡ 0 =
-    ap one_when is in omega (arith, plug_events-cons e events)
+plug_step es e events same false is = grind arith
 
 length-plug_addresses : (es : Entries) (events : List Event) → length (plug_addresses es events)
     ≡ plug_events events
@@ -198,19 +185,15 @@ length-plug_addresses es (e ∷ events) = plug_step es e events (length-plug_add
 
 plug_here : (es : Entries) (path : List ℕ) (a : Action) (more : List ℕ) → PlugsAt path a
     → list_any (eqb (address_or es path)) (cond (is_plug a) (plug_address es a ∷ more) more) ≡ true
-plug_here es path (Change (Plug at device)) more is =
-    or_left _ (list_any (eqb (address_or es path)) more)
-    (eq-eqb (address_or es path) (address_or es at) (ap (address_or es) (sym is)))
-plug_here es path _ more is = absurd is
+plug_here es path a more is = grind arith
 
 plug_later : (q a : ℕ) (more : List ℕ) (b : Bool) → list_any (eqb q) more ≡ true
     → list_any (eqb q) (cond b (a ∷ more) more) ≡ true
-plug_later q a more true has = or_right (eqb q a) _ has
-plug_later q a more false has = has
+plug_later q a more b has = grind arith
 
 plug_among : (es : Entries) (path : List ℕ) (events : List Event) → Any (AtPath path) events
     → list_any (eqb (address_or es path)) (plug_addresses es events) ≡ true
-plug_among es path [] a = absurd (any_none (AtPath path) a)
+plug_among es path [] a = search any_none
 plug_among es path (e ∷ events) a = elim (any_cases (AtPath path) e events a) [
   | inl is ↦ plug_here es path e.action (plug_addresses es events) is
   | inr more ↦ plug_later (address_or es path) (plug_address es e.action)
@@ -236,25 +219,19 @@ full_plugged events path h plugs agrees full none was =
         rw is at (plug_among h.entries p events (any_all (AtPath p) h.world.taken events at))
 
     found : (q : ℕ) → q < 128 → list_any (eqb q) (plug_addresses h.entries events) ≡ true
-    found zero less = among path 0 (ap (λ o. unwrap_or (address_in o) 0) none) was
+    found zero less = among path 0 (grind arith) was
     found (suc q) less =
         let at : (p : List ℕ) × (entry_address p h.entries ≡ Some (suc q)) =
         accounts_listed agrees.rises agrees.accounts (suc q) (full (suc q) (omega arith, less)) in
         let there : (device : Accepted) × (accepted_device_at at.0 h.entries ≡ Some device) =
         device_there (finding_at at.0 h.entries) at.1 in
-        among at.0 (suc q) (ap (λ o. unwrap_or o 0) at.1) (plugs.each at.0 there.0 there.1)
+        among at.0 (suc q) (ap (λ o. unwrap_or o 0) at.1) (search plugs.each)
 
 -- From one moment to the next
 
-pub plugs_none : (h : HostState) → KeepsPlugs h h
-plugs_none h plan is paths course plugs = plugs
-
 pub plugs_then : (m n : ℕ) (a b c : HostState) → HostSteps m a b → HostSteps n b c
     → c.world.fault ≡ None → KeepsPlugs a b → KeepsPlugs b c → KeepsPlugs a c
-plugs_then m n a b c first second still x y plan is paths course plugs =
-    y plan is paths (course_joined course
-    (went_course m _ _ first (went_before second still)))
-    (x plan is paths course plugs)
+plugs_then m n a b c first second still x y = search (course_joined, went_before, went_course)
 
 -- what is listed was so before, or is lost
 plugs_fewer : {events : List Event} (a b : HostState) → a.world.taken ≤ b.world.taken
@@ -262,12 +239,8 @@ plugs_fewer : {events : List Event} (a b : HostState) → a.world.taken ≤ b.wo
     → (finding_at path a.entries ≡ Some f) ⊎ (f ≡ Refused Lost)) → HasPlugs events a
     → HasPlugs events b
 plugs_fewer {events = events} a b onward was plugs = record {
-  each = λ path device at. was_later events a.world.taken b.world.taken path onward
-      (pick path device (finding_at path b.entries) refl at);
-  none_waits = λ few path at. elim (was path (Refused NoAddress) at) [
-    | inl waits ↦ plugs.none_waits few path waits
-    | inr lost ↦ cc lost
-  ];
+  each = λ path device at. was_later events a.world.taken b.world.taken path onward (grind arith);
+  none_waits = grind arith;
 }
   where
     pick : (path : List ℕ) (device : Accepted) (o : Option Finding) → finding_at path b.entries ≡ o
@@ -282,31 +255,24 @@ plugs_fewer {events = events} a b onward was plugs = record {
 -- the same is listed
 pub plugs_same : (events : List Event) (a b : HostState) → a.world.taken ≤ b.world.taken
     → b.entries ≡ a.entries → HasPlugs events a → HasPlugs events b
-plugs_same events a b onward same = plugs_fewer a b onward
-    (λ path f at. inl (ap (finding_at path) (sym same) ∙ at))
+plugs_same events a b onward same h = grind (arith, plugs_fewer)
 
 pub plugs_kept : (a b : HostState) → a.world.taken ≤ b.world.taken → b.entries ≡ a.entries
     → KeepsPlugs a b
-plugs_kept a b onward same plan is paths course = plugs_same _ a b onward same
+plugs_kept a b onward same = search plugs_same
 
 pub plugs_rests : {n : ℕ} (a b : HostState) → HostSteps n a b → OnlyBusSteps a b → KeepsPlugs a b
-plugs_rests a b went r = plugs_kept a b went.spends.onward (ap (λ (h : HostState). h.entries) r)
+plugs_rests a b went r = grind (arith, plugs_kept)
 
 was_listed : (first path : List ℕ) (es : Entries) (f : Finding) → finding_at path (without first es)
     ≡ Some f → finding_at path es ≡ Some f
-was_listed first path es f at = elim (decided (is_way first path)) [
-  | inl way ↦ absurd (cc (finding-dropped first path es way, at))
-  | inr away ↦ sym (finding-kept first path es away) ∙ at
-]
+was_listed first path es f at = grind (arith, finding-dropped, finding-kept)
 
 -- what was found at a port and below it is forgotten
 pub plugs_forgot : {n : ℕ} {path : List ℕ} {a b c : HostState} → HostSteps n a c
     → OnlyBusSteps a b → Forgets path b c → KeepsPlugs a c
 plugs_forgot {path = path} {a = a} {c = c} went r f plan is paths course =
-    let left : c.entries ≡ without path a.entries = f.rest ∙ ap
-    (λ (h : HostState). without path h.entries) r in
-    plugs_fewer a c went.spends.onward
-    (λ p g at. inl (was_listed path p a.entries g (ap (finding_at p) (sym left) ∙ at)))
+    plugs_fewer a c went.spends.onward (grind (arith, was_listed))
 
 abbrev with_lost : List ℕ → Entries → Entries
 with_lost path es = insert_entry path_cmp (without path es) path (Refused Lost)
@@ -322,12 +288,8 @@ plugs_lost a b onward lost plan is paths course =
           let here : finding_at lost.path (with_lost lost.path a.entries) ≡ Some f =
           subst (λ (q : List ℕ). finding_at q (with_lost lost.path a.entries) ≡ Some f)
           (path_tied p lost.path tie) listed in
-          inr (cc (
-            here,
-            lookup-insert_entry_here lost.path (Refused Lost) (without lost.path a.entries),
-          ))
-      | inr apart ↦ inl (was_listed lost.path p a.entries f (sym (lookup-insert_entry_elsewhere p
-          lost.path (Refused Lost) (without lost.path a.entries) apart) ∙ listed))
+          inr (grind (arith, lookup-insert_entry_here))
+      | inr apart ↦ inl (grind (arith, lookup-insert_entry_elsewhere, was_listed))
     ])
 
 -- one finding is entered at a path at which a device was plugged
@@ -338,18 +300,13 @@ plugs_entered : (events : List Event) (path : List ℕ) (a b : HostState)
 plugs_entered events path a b agrees gone enters onward was plugs = record {
   each = λ p device at. was_later events a.world.taken b.world.taken p onward
       (each p device (is_at (path_cmp p) path) refl at);
-  none_waits = λ few p at. waits few p (is_at (path_cmp p) path) refl
-      (ap (finding_at p) (sym enters.entries) ∙ at);
+  none_waits = λ few p at. waits few p (is_at (path_cmp p) path) refl (grind arith);
 }
   where
     each : (p : List ℕ) (device : Accepted) (tied : Bool) → is_at (path_cmp p) path ≡ tied
         → accepted_device_at p b.entries ≡ Some device → WasPlugged events a.world.taken p
     each p device true tie at = rw (path_tied p path tie) was
-    each p device false apart at =
-        let same : accepted_device_at p b.entries ≡ accepted_device_at p a.entries =
-        ap (λ (es : Entries). accepted_device_at p es) enters.entries ∙ ap accepted_device_of
-        (lookup-insert_entry_elsewhere p path enters.finding a.entries apart) in
-        plugs.each p device (sym same ∙ at)
+    each p device false apart at = grind (arith, lookup-insert_entry_elsewhere)
 
     waits : plug_events events ≤ 127 → (p : List ℕ) (tied : Bool) → is_at (path_cmp p) path ≡ tied
         → finding_at p (insert_entry path_cmp a.entries path enters.finding)
@@ -358,35 +315,25 @@ plugs_entered events path a b agrees gone enters onward was plugs = record {
         let there : List ℕ → Type 0 = λ q. finding_at q
         (insert_entry path_cmp a.entries path enters.finding) ≡ Some (Refused NoAddress) in
         let here : there path = subst there (path_tied p path tie) at in
-        let is : enters.finding ≡ Refused NoAddress =
-        cc (here, lookup-insert_entry_here path enters.finding a.entries) in
+        let is : enters.finding ≡ Refused NoAddress = grind (arith, lookup-insert_entry_here) in
         let many : 128 ≤ plug_events events =
-        full_plugged _ path a plugs agrees (enters.waits is)
-        (finding-none path path a.entries gone (way_itself path)) was in
+        search (finding-none, full_plugged, way_itself, enters.waits) in
         absurd (omega arith)
-    waits few p false apart at = plugs.none_waits few p
-        (sym (lookup-insert_entry_elsewhere p path enters.finding a.entries apart) ∙ at)
+    waits few p false apart at = grind (arith, lookup-insert_entry_elsewhere)
 
 -- A look at a port
 
 call_course : (p : List ℕ) {c : PortCall} {w v : World} → PortCallDone p c w v → Course AnyStep w v
-call_course p d = course_joined (course_wider (λ s u k. tt) (course_then d.last d.repeats d.acts))
-    (course_wider (λ s u k. tt) (d.since p))
+call_course p d = grind (arith, course_wider)
 
 disabled_taken : (b : Bool) (p : List ℕ) (w v : World) → DoneWhere b p ClearEnable w v
     → w.taken ≤ v.taken
-disabled_taken true p w v d = course_taken (call_course p d)
-disabled_taken false p w v same = let taken : v.taken ≡ w.taken =
-    ap (λ (u : World). u.taken) same in omega arith
+disabled_taken b p w v d = grind (arith, course_taken)
 
 -- a device stood where a status showed one
 told_there : (p : List ℕ) {status : PortStatus} {w v : World} (t : PortStatusAt p status w v)
     → IsOrderly t.now → status.connected ≡ true → is_some (state_there t.now.roots p) ≡ true
-told_there p t order on =
-    let attached : is_attached t.port.attached ≡ true =
-    (both t.port.power (is_attached t.port.attached)
-    (ap (λ (x : PortStatus). x.connected) (sym t.is) ∙ on)).1 in
-    sym (attached_there t.now.roots p t.port order.sane t.stood) ∙ attached
+told_there p t order on = grind (arith, attached_there)
 
 -- it was plugged there
 seen_plugged : (path : List ℕ) (status : PortStatus) (old new : World)
@@ -399,34 +346,24 @@ seen_plugged path status old new x order on plan is paths course =
     let there : is_some (state_there x.told.now.roots path) ≡ true =
     told_there _ x.told (orderly_on order first) on in
     let onward : x.told.now.taken ≤ x.now.taken = course_taken (x.told.since path) in
-    let last : x.now.taken ≤ new.taken = disabled_taken status.enabled path x.now new x.disabled in
-    was_later plan.events x.told.now.taken new.taken path (omega arith)
-    (there_was_plugged _ is paths (course_joined course first) path there)
+    let last : x.now.taken ≤ new.taken = grind (arith, disabled_taken) in
+    search (course_joined, there_was_plugged, was_later)
 
 -- what a status showed is found and entered
 pub plugs_found : {m n : ℕ} {path : List ℕ} {status : PortStatus} {a b c d : HostState}
     → HostSteps m a c → HostSteps n c d → OnlyBusSteps a b → Forgets path b c
     → ClearsAndReads path status a.world b.world → IsOrderly a.world → status.connected ≡ true
     → EntersOne path c d → KeepsPlugs a d
-plugs_found {path = path} {c = c} {d = d} first second r f x order on enters plan is paths course
-    plugs =
-    let was : WasPlugged plan.events c.world.taken path =
-    rw (ap (λ (h : HostState). h.world) f.others) (seen_plugged _ _ _ _ x order on
-    _ is paths course) in
-    plugs_entered _ _ c d f.agrees f.gone enters second.spends.onward was
-    (plugs_forgot first r f plan is paths course plugs)
+plugs_found first second r f x order on enters =
+    search (plugs_entered, plugs_forgot, seen_plugged, f.others, f.agrees)
 
 -- A host that knows of no device
 
 pub plugs_opening : (events : List Event) (h : HostState) → h.entries ≡ [] → HasPlugs events h
-plugs_opening events h none = record {
-  each = λ path device at. absurd (cc (none, at));
-  none_waits = λ few path at. absurd (cc (none, at));
-}
+plugs_opening events h none = grind arith
 
 -- only the host's own stop is new
 pub plugs_stopped : (a b : HostState) (stopped : Bool) → KeepsPlugs a b
     → KeepsPlugs a (record b { stopped = stopped })
 plugs_stopped a b stopped x plan is paths course plugs =
-    let kept : HasPlugs plan.events b = x plan is paths course plugs in
-    record { each = kept.each; none_waits = kept.none_waits }
+    let kept : HasPlugs plan.events b = x plan is paths course plugs in grind arith

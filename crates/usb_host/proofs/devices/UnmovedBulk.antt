@@ -1,5 +1,5 @@
 -- Requests to a port move nothing through an endpoint of a function.
-use Rattle.std.proofs.Common.{◌≡◌, ap, inl, inr, refl, subst, Bool, ℕ, Some, Result, Ok}
+use Rattle.std.proofs.Common.{arith, ◌≡◌, inl, inr, refl, subst, Bool, ℕ, Some, Result, Ok}
 use Rattle.usb_request.specs.{PORT_ENABLE}
 use Rattle.usb_port.specs.{ClearConnectionChange, ClearEnable, PortCall, PortStatus, clear_call}
 use Rattle.usb_tree.proofs.Interface.{decided}
@@ -9,8 +9,7 @@ use Rattle.usb_enum.specs.{EnumFault}
 use Rattle.usb_host.specs.{ClearsAndAsks, ClearsFeature, ClearsInTurn, ClearsPort, ClearsWhere}
 use Rattle.usb_host.specs.{DisablesAfter, HostState, InOrder, LetsGoOn, MovesNoBulk, ShowsPort}
 use Rattle.usb_host.specs.{TidiesPort, by_both, by_control, first_failed, is_stuck, next_done}
-use Rattle.usb_host.proofs.PortRequests.{goes_as, shows_watches, clears_enable_change}
-use Rattle.usb_host.proofs.PortRequests.{clears_reset_change, sound_by}
+use Rattle.usb_host.proofs.PortRequests.{shows_watches, clears_enable_change, clears_reset_change}
 use Rattle.usb_host.proofs.devices.Pipes.{unmoved_none, unmoved_rests}
 
 module _ {port : HubPort} {feature : ℕ} {call : PortCall} (is : clear_call feature ≡ Some call)
@@ -18,14 +17,11 @@ module _ {port : HubPort} {feature : ℕ} {call : PortCall} (is : clear_call fea
   feature_unmoved : ClearsFeature port feature a result b → LetsGoOn result
       → MovesNoBulk a.world b.world
   feature_unmoved x goes =
-      by_control (x.calls.control call is (sound_by x.answer (subst LetsGoOn x.is goes)))
+      by_control (grind arith)
 
   where_unmoved : {asked : Bool} → ClearsWhere asked port feature a result b → LetsGoOn result
       → MovesNoBulk a.world b.world
-  where_unmoved {asked = asked} x goes = elim (decided asked) [
-    | inl e ↦ feature_unmoved (x.so e) goes
-    | inr e ↦ unmoved_none a.world (ap (λ (h : HostState). h.world) (x.not e).1)
-  ]
+  where_unmoved x goes = grind (arith, feature_unmoved, unmoved_none)
 
 -- changes of enable and of reset are cleared
 module _ {port : HubPort} {a b : HostState} {result : Result (Unit {0}) EnumFault} where
@@ -38,7 +34,7 @@ module _ {port : HubPort} {a b : HostState} {result : Result (Unit {0}) EnumFaul
 
   pub tidied_unmoved : {status : PortStatus} → TidiesPort port status a result b → LetsGoOn result
       → MovesNoBulk a.world b.world
-  tidied_unmoved {status = status} x goes = in_turn status x.order goes
+  tidied_unmoved x goes = search in_turn
 
 -- a status is asked for
 pub shown_unmoved : {port : HubPort} {f : AddressMap} {a b : HostState}
@@ -55,16 +51,14 @@ module _ {port : HubPort} {b : HostState} {result : Result PortStatus EnumFault}
       → InOrder (ClearsWhere status.enabled port PORT_ENABLE)
       (λ done h answer k. (answer ≡ Ok status) × (k ≡ h)) a result b → MovesNoBulk a.world b.world
   disabled_after (first_failed fault y e) =
-      where_unmoved {call = ClearEnable} refl y
-      (goes_as PortStatus (Unit {0}) fault (subst LetsGoOn e goes))
+      where_unmoved {call = ClearEnable} refl y (grind arith)
   disabled_after (next_done done h y w) =
-      by_both (where_unmoved {call = ClearEnable} refl y tt)
-      (unmoved_none h.world (ap (λ (k : HostState). k.world) w.1))
+      by_both (where_unmoved {call = ClearEnable} refl y tt) (grind (arith, unmoved_none))
 
   behind_status : {status : PortStatus} {a : HostState} → DisablesAfter port status a result b
       → MovesNoBulk a.world b.world
   behind_status {status = status} {a = a} z = elim (decided (is_stuck port status)) [
-    | inl stuck ↦ unmoved_none a.world (ap (λ (k : HostState). k.world) (z.stuck stuck).1)
+    | inl stuck ↦ unmoved_none a.world (grind arith)
     | inr calm ↦ disabled_after (z.steady calm)
   ]
 
@@ -77,8 +71,7 @@ module _ {port : HubPort} {b : HostState} {result : Result PortStatus EnumFault}
   in_order : {f : AddressMap} {a : HostState} → WhileBusWorks (MapHolds f) a.world
       → ClearsAndAsks port a result b → MovesNoBulk a.world b.world
   in_order owned (first_failed fault y e) =
-      feature_unmoved {call = ClearConnectionChange} refl y
-      (goes_as PortStatus (Unit {0}) fault (subst LetsGoOn e goes))
+      feature_unmoved {call = ClearConnectionChange} refl y (grind arith)
   in_order {f = f} owned (next_done done mid y rest) =
       by_both (feature_unmoved {call = ClearConnectionChange} refl y tt)
       (asked_behind {f = f} (y.keeps.keeps.kept f owned) rest)

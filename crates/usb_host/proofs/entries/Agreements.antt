@@ -1,8 +1,8 @@
 -- Entries rise and stand at ports that are known, and agree with the addresses that are taken.
 use Rattle.std.proofs.Common.{◌≡◌, ◌∙◌, refl, ap, Bool, true, false, ℕ, cond, List, [], ◌∷◌, not}
 use Rattle.std.proofs.Common.{sym, subst, arith, append-nil, append_assoc, length-append, ◌+◌, ◌++◌}
-use Rattle.std.proofs.Common.{length, Option, Some, None, ◌||◌, nat_eq, IsSome, if◌then◌else◌, ◌≢◌}
-use Rattle.std.proofs.Common.{inl, inr, ◌≤◌, Ok}
+use Rattle.std.proofs.Common.{length, Option, Some, None, ◌||◌, nat_eq, IsSome, if◌then◌else◌, inl}
+use Rattle.std.proofs.Common.{inr, ◌≤◌, Ok}
 use Rattle.std.specs.List.{filter, AllByRecursion, sum_by}
 use Rattle.std.specs.List.Sorted.{IsStrictlySortedBy}
 use Rattle.std.specs.Map.{keys_of, lookup, remove_entry}
@@ -17,14 +17,13 @@ use Rattle.std.proofs.lemmas.Map.Views.{All-keys-insert_entry}
 use Rattle.usb_port.specs.{path_cmp, is_below, parent_of, port_on_hub, IsPath}
 use Rattle.usb_enum.specs.{Finding, Cause, Accepted, TakesFor}
 use Rattle.usb_table.specs.{Entries, Rises, is_at_or_below, without, has_at, known_port, port_below}
-use Rattle.usb_table.specs.{port_found, is_below_hub, address_found, has_address, address_in}
-use Rattle.usb_table.specs.{entry_address, Table, TakesOut}
+use Rattle.usb_table.specs.{address_found, has_address, address_in, entry_address, Table, TakesOut}
 use Rattle.std.proofs.lemmas.Map.Entries.{lookup-filter-keys}
 use Rattle.usb_port.proofs.Interface.{is_below-extension, rejoined}
 use Rattle.usb_table.proofs.Interface.{path_tied, has_its, path_itself}
 use Rattle.usb_tree.proofs.Interface.{neither, self_path, decided}
 use Rattle.usb_host.specs.{Nested, claims, Frees}
-use Rattle.usb_resources.specs.{Addresses, IsTaken, IsAddress, IsFull, HasAddresses}
+use Rattle.usb_resources.specs.{Addresses, IsTaken, IsFull, HasAddresses}
 use Rattle.usb_world.specs.{after_taking, Injective}
 use Rattle.usb_tree.specs.{is_way, same_path}
 use Rattle.usb_world.proofs.Interface.{at_or_below_way, same_is, way_itself}
@@ -32,7 +31,6 @@ use Rattle.usb_address.specs.{Free, map_without}
 use Rattle.usb_enum.specs.declared.finding.Finding.TheVariants.{Device, Refused}
 use Rattle.usb_host.specs.Accounts.{Accounts}
 use Rattle.std.specs.FinSet.{empty, contains, contains-empty}
-use Rattle.std.proofs.lemmas.Bool.{eq-eqb, ne_eqb, eqb-true, eqb-false, cases_order}
 use Rattle.std.proofs.lemmas.List.Sums.{sum_by-cons}
 
 -- Entries rise, and stand at ports that are known.
@@ -51,7 +49,7 @@ above_all path first (k ∷ ks) less h =
 
 pub path_cmp-greater : (path first : List ℕ) → path_cmp path first ≡ Greater
     → path_cmp first path ≡ Less
-path_cmp-greater path first is = nat_list_cmp_total.antisymm first path ∙ ap ordering_reverse is
+path_cmp-greater path first is = grind (arith, nat_list_cmp_total)
 
 -- the paths of a map rise
 abbrev PathsRise : {X : Type 0} → List (List ℕ × X) → Type 0
@@ -111,48 +109,37 @@ hub_away_by : (q hub path : List ℕ) → parent_of q ≡ Some hub → is_at_or_
     → (same || on) ≡ false
 hub_away_by q hub path is away true on same is_on =
     let goes_on = under q _ path [] is (same_text hub path (sym same) ∙ sym (append-nil path)) in
-    absurd (cc (goes_on, (neither (pointwise nat_eq q path) (is_below q path) away).1))
-hub_away_by q hub path is away false true same is_on =
-    let rest = (is_below-extension hub path).0 is_on in
-    absurd (cc (
-      under q _ path rest.0 is rest.1,
-      (neither (pointwise nat_eq q path) (is_below q path) away).1,
-    ))
+    grind arith
+hub_away_by q hub path is away false true same is_on = grind (arith, is_below-extension, under)
 hub_away_by q _ _ _ _ false false _ _ = refl
 
 -- the hub of a path that stands elsewhere stands elsewhere
 pub hub_away : (q hub path : List ℕ) → parent_of q ≡ Some hub → is_at_or_below q path ≡ false
     → is_at_or_below hub path ≡ false
-hub_away q hub path is away = hub_away_by q _ path is away _
-    _ refl refl
+hub_away q hub path is away = grind (arith, hub_away_by)
 
 pub lookup-without : (q path : List ℕ) {b : Bool} (es : Entries) → not (is_at_or_below q path) ≡ b
     → lookup (is_at (path_cmp q)) (without path es) ≡ cond b (lookup (is_at (path_cmp q)) es) None
 lookup-without q path {b = b} es is =
     lookup-filter-keys (is_at (path_cmp q)) (λ k. not (is_at_or_below k path)) b
-    (λ k tie. subst (λ (r : List ℕ). not (is_at_or_below r path) ≡ b) (path_tied q k tie) is) es
+    (grind (arith, path_tied)) es
 
 -- a port is known as before where what is listed at its hub is
 known_by : (q : List ℕ) (es fs : Entries) (hub : Option (List ℕ)) → ((h : List ℕ) → hub ≡ Some h
     → lookup (is_at (path_cmp h)) fs ≡ lookup (is_at (path_cmp h)) es)
     → port_below hub (port_on_hub q) fs ≡ port_below hub (port_on_hub q) es
-known_by q es fs None same = refl
-known_by q es fs (Some hub) same =
-    ap (λ found. port_found found (is_below_hub hub) (port_on_hub q)) (same hub refl)
+known_by q es fs hub same = grind arith
 
 pub known_away : (q path : List ℕ) (es : Entries) → is_at_or_below q path ≡ false
     → known_port q (without path es) ≡ known_port q es
 known_away q path es away = known_by q es (without path es) (parent_of q)
-    (λ hub is. lookup-without hub path es (ap not (hub_away q hub path is away)))
+    (grind (arith, hub_away, lookup-without))
 
 -- what is left stands elsewhere, and stood there before
 left_away : (q path : List ℕ) (es : Entries) {f : Finding}
     → lookup (is_at (path_cmp q)) (without path es) ≡ Some f
     → (is_at_or_below q path ≡ false) × (lookup (is_at (path_cmp q)) es ≡ Some f)
-left_away q path es found = elim (decided (is_at_or_below q path)) [
-  | inl is ↦ absurd (cc (lookup-without q path es (ap not is), found))
-  | inr is ↦ (is, sym (lookup-without q path es (ap not is)) ∙ found)
-]
+left_away q path es found = grind (arith, lookup-without)
 
 pub nested_without : (path : List ℕ) (es : Entries) → Nested es → Nested (without path es)
 nested_without path es n = record {
@@ -174,8 +161,7 @@ elsewhere_step q path f e _ apart _ Equal is =
     let other : is_at (path_cmp q) e.0 ≡ false =
     rw (path_tied path e.0 tie) at apart in
     rw other refl
-elsewhere_step q _ f e _ _ more Greater _ =
-    ap (λ found. cond (is_at (path_cmp q) e.0) (Some e.1) found) more
+elsewhere_step q _ f e _ _ more Greater _ = grind arith
 
 pub lookup-insert_entry_elsewhere : {X : Type 0} (q path : List ℕ) (f : X)
     (es : List (List ℕ × X)) → is_at (path_cmp q) path ≡ false → lookup (is_at (path_cmp q))
@@ -210,16 +196,13 @@ found_away q path f (e ∷ es) away found =
 
 pub is_at-outside : (hub path : List ℕ) → is_at_or_below hub path ≡ false
     → is_at (path_cmp hub) path ≡ false
-is_at-outside hub path away =
-    sym (texts_ties hub path)
-    ∙ (neither (pointwise nat_eq hub path) (is_below hub path) away).0
+is_at-outside hub path away = grind (arith, texts_ties)
 
 -- a port of a hub that stands elsewhere is known as before
 pub known_entered : (q path : List ℕ) (f : Finding) (es : Entries)
     → ((hub : List ℕ) → parent_of q ≡ Some hub → is_at (path_cmp hub) path ≡ false)
     → known_port q (insert_entry path_cmp es path f) ≡ known_port q es
-known_entered q path f es apart = known_by q es (insert_entry path_cmp es path f) (parent_of q)
-    (λ hub is. lookup-insert_entry_elsewhere hub path f es (apart hub is))
+known_entered q path f es apart = grind (arith, lookup-insert_entry_elsewhere)
 
 pub shorter_apart : (path hub : List ℕ) → parent_of path ≡ Some hub
     → is_at (path_cmp hub) path ≡ false
@@ -241,16 +224,15 @@ nested_entered path f {es = es} is away known n = record {
   ];
   each = λ q g found. elim (decided (is_at (path_cmp q) path)) [
     | inl tie ↦
-        rw (path_tied q path tie) (rw (known_entered path path f es (shorter_apart path)) known)
+        rw (path_tied q path tie) (search (known_entered, shorter_apart))
     | inr off ↦
         let there = sym (lookup-insert_entry_elsewhere q path f es off) ∙ found in
-        rw (known_entered q path f es (λ hub is. is_at-outside hub path
-        (hub_away q _ path is (found_away q path g es away there)))) (n.each q g there)
+        rw (known_entered q path f es (grind (arith, found_away, is_at-outside))) (n.each q g there)
   ];
 }
 
 pub nested_none : Nested []
-nested_none = record { path = λ path f found. absurd cc; each = λ path f found. absurd cc }
+nested_none = grind arith
 
 -- Which path claims which address, and how the entries and the taken addresses change together.
 
@@ -263,32 +245,19 @@ address_count a es = sum_by (λ e. cond (has_address a e.1) 1 0) es
 count-cons : (a : ℕ) (e : List ℕ × Finding) (es : Entries)
     → address_count a (e ∷ es) ≡ one_when (has_address a e.1) + address_count a es
 unfolding address_count one_when
-count-cons a e es = sum_by-cons (λ d. cond (has_address a d.1) 1 0) e es
-
-tied_back : (o : Ordering) → ordering_reverse o ≡ Equal → is_eq o ≡ true
-tied_back Equal h = refl
-tied_back _ h = cc
+count-cons a e es = search sum_by-cons
 
 -- a path that stands nowhere is no entry's
 path_cmp-not_equal : (path first : List ℕ) → is_at_or_below first path ≡ false
     → path_cmp path first ≡ Equal → ⊥
-path_cmp-not_equal path first h e =
-    let tie : is_eq (path_cmp first path) ≡ true =
-    tied_back (path_cmp first path) (sym (nat_list_cmp_total.antisymm path first) ∙ e) in
-    let no : pointwise nat_eq first path ≡ false = (neither _ _ h).0 in
-    let yes : pointwise nat_eq first path ≡ true = texts_ties first path ∙ tie in
-    cc
+path_cmp-not_equal path first h e = grind (arith, nat_list_cmp_total, texts_ties)
 
 address_count-insert_by : (a : ℕ) (path : List ℕ) (f : Finding) (e : List ℕ × Finding)
     (es : Entries) (o : Ordering) → path_cmp path e.0 ≡ o → is_at_or_below e.0 path ≡ false
     → address_count a (insert_entry path_cmp es path f) ≡ one_when (has_address a f) + address_count
     a es → address_count a (match_ordering o ((path, f) ∷ e ∷ es) ((e.0, f) ∷ es)
     (e ∷ insert_entry path_cmp es path f)) ≡ one_when (has_address a f) + address_count a (e ∷ es)
-address_count-insert_by a path f e es Less _ _ _ = count-cons a (path, f) (e ∷ es)
-address_count-insert_by a path f e _ Equal is away _ =
-    absurd (path_cmp-not_equal path e.0 away is)
-address_count-insert_by a path f e es Greater is away more =
-    omega (arith, count-cons a e es, count-cons a e (insert_entry path_cmp es path f))
+address_count-insert_by a path f e es o is away more = grind (arith, count-cons, path_cmp-not_equal)
 
 count-insert : (a : ℕ) (path : List ℕ) (f : Finding) (es : Entries) → has_at path es ≡ false
     → address_count a (insert_entry path_cmp es path f) ≡ one_when (has_address a f) + address_count
@@ -304,56 +273,21 @@ count-remove : (a : ℕ) (test : List ℕ → Bool) (f : Finding) (es : Entries)
 count-remove a test f [] h = absurd cc
 count-remove a test f (e ∷ es) h = elim (decided (test e.0)) [
   | inl on ↦
-      let same : e.1 ≡ f = cc (rw on at h) in
-      rw on (subst (λ g. address_count a (e ∷ es) ≡ one_when (has_address a g) + address_count a es)
-      same (count-cons a e es))
+      rw on (grind (arith, count-cons))
   | inr off ↦
       let rest = count-remove a test f es (rw off at h) in
-      rw off (omega (arith, rest, count-cons a e es, count-cons a e (remove_entry test es)))
+      rw off (grind (arith, count-cons))
 ]
-
-eq_yes : (a : ℕ) {b : ℕ} → a ≡ b → nat_eq b a ≡ true
-eq_yes a {b = b} e = eq-eqb b a (sym e)
-
-eq_no : (a b : ℕ) → a ≢ b → nat_eq b a ≡ false
-eq_no a b ne = ne_eqb b a (λ e. ne (sym e))
 
 freed : (f : Finding) (old new : Addresses) (a r : ℕ) → Frees f old new
     → one_when (has_address a f) + r ≡ one_when (contains old a) → r ≡ one_when (contains new a)
 unfolding has_address one_when
-freed (Refused cause) old new a r same h = rw same (omega arith)
-freed (Device device) old new a r gone h =
-    elim (cases_order a device.address) [
-      | inl same ↦
-          rw (ap (contains new) same ∙ gone.free.1) (none_left (contains old a)
-          (rw (eq_yes a same) at h))
-      | inr other ↦
-          let ne : a ≢ device.address = λ e. elim other [
-            | inl less ↦ omega arith
-            | inr more ↦ omega arith
-          ] in
-          rw (gone.others a ne) (let k = rw (eq_no a device.address ne) at h in omega arith)
-    ]
-  where
-    none_left : (b : Bool) → 1 + r ≡ cond b 1 0 → r ≡ 0
-    none_left true e = omega arith
-    none_left false e = omega arith
+freed f old new a r same h = grind arith
 
 claimed : (f : Finding) (old new : Addresses) (a : ℕ) → TakesFor (Ok f) old new
     → one_when (contains new a) ≡ one_when (has_address a f) + one_when (contains old a)
 unfolding has_address one_when
-claimed (Refused cause) old new a h = let e : one_when (contains new a)
-    ≡ one_when (contains old a) = ap (λ pool. one_when (contains pool a)) h in omega arith
-claimed (Device device) old new a h =
-    elim (cases_order a device.address) [
-      | inl same ↦ rw (eq_yes a same, same, h.taken, h.free.1) (omega arith)
-      | inr other ↦
-          let ne : a ≢ device.address = λ e. elim other [
-            | inl less ↦ omega arith
-            | inr more ↦ omega arith
-          ] in
-          rw (eq_no a device.address ne, h.others a ne) (omega arith)
-    ]
+claimed f old new a h = grind arith
 
 -- One entry alone has an address that is taken
 
@@ -369,10 +303,7 @@ address_count-twice : (a : ℕ) (test : List ℕ → Bool) (f g : Finding) (e : 
     → Some e.1 ≡ Some f → lookup test es ≡ Some g → ⊥
 unfolding one_when
 address_count-twice a test f g e es has also most is found =
-    let same : e.1 ≡ f = cc is in
-    let here : one_when (has_address a e.1) ≡ 1 = ap (λ d. one_when (has_address a d)) same ∙ ap
-    one_when has in
-    omega (arith, count-cons a e es, address_count-some a test g es also found)
+    grind (arith, address_count-some, count-cons)
 
 address_count-once : (a : ℕ) (p q : List ℕ) (f g : Finding) (es : Entries) → has_address a f ≡ true
     → has_address a g ≡ true → address_count a es ≤ 1 → lookup (is_at (path_cmp p)) es ≡ Some f
@@ -382,12 +313,10 @@ address_count-once a p q f g (e ∷ es) has also most is_f is_g =
     elim (decided (is_at (path_cmp p) e.0)) [
       | inl at_p ↦ elim (decided (is_at (path_cmp q) e.0)) [
         | inl at_q ↦ path_tied p e.0 at_p ∙ sym (path_tied q e.0 at_q)
-        | inr off_q ↦ absurd (address_count-twice a (is_at (path_cmp q)) f g e es has also most
-            (rw at_p at is_f) (rw off_q at is_g))
+        | inr off_q ↦ absurd (grind (arith, address_count-twice))
       ]
       | inr off_p ↦ elim (decided (is_at (path_cmp q) e.0)) [
-        | inl at_q ↦ absurd (address_count-twice a (is_at (path_cmp p)) g f e es also has most
-            (rw at_q at is_g) (rw off_p at is_f))
+        | inl at_q ↦ absurd (grind (arith, address_count-twice))
         | inr off_q ↦ address_count-once a p q f g es has also (omega (arith, count-cons a e es))
             (rw off_p at is_f) (rw off_q at is_g)
       ]
@@ -395,8 +324,7 @@ address_count-once a p q f g (e ∷ es) has also most is_f is_g =
 
 pub one_when-most : (b : Bool) → one_when b ≤ 1
 unfolding one_when
-one_when-most true = omega arith
-one_when-most false = omega arith
+one_when-most b = grind arith
 
 -- two entries with one address are the same
 pub accounts_once : (a : ℕ) (p q : List ℕ) (f g : Finding) (es : Entries) (addresses : Addresses)
@@ -404,13 +332,12 @@ pub accounts_once : (a : ℕ) (p q : List ℕ) (f g : Finding) (es : Entries) (a
     → lookup (is_at (path_cmp p)) es ≡ Some f → lookup (is_at (path_cmp q)) es ≡ Some g → p ≡ q
 unfolding address_count one_when
 accounts_once a p q f g es addresses h has also is_f is_g =
-    let most : address_count a es ≤ 1 = rw (h.each a) (one_when-most (contains addresses a)) in
-    address_count-once a p q f g es has also most is_f is_g
+    let most : address_count a es ≤ 1 = rw (h.each a) (search one_when-most) in
+    search address_count-once
 
 some_one : (b : Bool) → 1 ≤ one_when b → b ≡ true
 unfolding one_when
-some_one true h = refl
-some_one false h = absurd (omega arith)
+some_one b h = grind arith
 
 -- the address of an entry is taken
 pub accounts_taken : (a : ℕ) (p : List ℕ) (f : Finding) (es : Entries) (addresses : Addresses)
@@ -461,16 +388,14 @@ lists_by a (e ∷ es) rises some = elim (decided (has_address a e.1)) [
 
 address_has : (a : ℕ) (f : Finding) → has_address a f ≡ true → address_found f ≡ Some a
 unfolding has_address
-address_has a (Device device) h = ap (λ n. Some n) (eqb-true device.address a h)
-address_has a (Refused cause) h = absurd (cc h)
+address_has a f h = grind arith
 
 pub accounts_listed : {es : Entries} {addresses : Addresses} → Rises es → Accounts es addresses
     → (a : ℕ) → IsTaken addresses a → (path : List ℕ) × (entry_address path es ≡ Some a)
 unfolding address_count one_when
 accounts_listed {es = es} rises h a taken =
     let some : 1 ≤ address_count a es = rw (h.each a) (rw taken (omega arith)) in
-    let x = lists_by a es rises some in
-    (x.path, ap address_in x.found ∙ address_has a x.finding x.has)
+    let x = lists_by a es rises some in grind (arith, address_has)
 
 pub accounts_none : Accounts [] empty
 accounts_none = record { each = λ a. rw (contains-empty nat_cmp a) refl }
@@ -498,35 +423,20 @@ accounts_entered path f {es = es} {old = old} {new = new} h away c = record {
 
 -- no address is free that was not, where one more is
 pub full_before : (f : Finding) (old new : Addresses) → Frees f old new → IsFull new → IsFull old
-full_before (Device device) old new gone full =
-    absurd (cc (full device.address gone.free.0, gone.free.1))
-full_before (Refused cause) old new same full = rw same at full
+full_before f old new gone full = grind arith
 
 -- Nothing but addresses is taken
 
 pub range_none : HasAddresses empty
 range_none = λ a taken. absurd (cc (contains-empty nat_cmp a, taken))
 
-moved_address : (b a : ℕ) (old new : Addresses) → IsAddress a
-    → ((b : ℕ) → b ≢ a → contains new b ≡ contains old b) → HasAddresses old → (same : Bool)
-    → nat_eq b a ≡ same → IsTaken new b → IsAddress b
-moved_address b a _ _ is _ _ true same _ = rw (eqb-true b a same) is
-moved_address b a _ _ _ others range false same taken =
-    range b (sym (others b (eqb-false b a same)) ∙ taken)
-
 pub range_claimed : (f : Finding) (old new : Addresses) → TakesFor (Ok f) old new → HasAddresses old
     → HasAddresses new
-range_claimed (Device device) old new c range =
-    λ b taken. moved_address b device.address old new c.free.0 c.others range
-    _ refl taken
-range_claimed (Refused _) _ _ same range = rw same range
+range_claimed f old new c range = grind arith
 
 pub range_freed : (f : Finding) (old new : Addresses) → Frees f old new → HasAddresses old
     → HasAddresses new
-range_freed (Device device) old new gone range =
-    λ b taken. moved_address b device.address old new gone.free.0 gone.others range
-    _ refl taken
-range_freed (Refused _) _ _ same range = rw same range
+range_freed f old new gone range = grind arith
 
 -- Claims
 
@@ -538,32 +448,25 @@ record IsClaim (o : Option Finding) (a : ℕ) : Type 0 where
   has : has_address a finding ≡ true
 
 claim_of : (o : Option Finding) (a : ℕ) → address_in o ≡ Some a → IsClaim o a
-claim_of None a h = absurd cc
-claim_of (Some f) a h = record { finding = f; found = refl; has = has_its f a h }
+claim_of o a h = grind (arith, has_its)
 
 pub claims_distinct : (es : Entries) (addresses : Addresses) → Accounts es addresses
     → Injective (claims es)
 claims_distinct es _ h p q a at_p at_q =
     let x = claim_of (lookup (is_at (path_cmp p)) es) a at_p in
     let y = claim_of (lookup (is_at (path_cmp q)) es) a at_q in
-    subst (λ (r : List ℕ). same_path p r ≡ true)
-    (accounts_once a p q _ _ _ _ h x.has y.has x.found y.found)
-    (self_path p)
+    grind (arith, accounts_once, self_path)
 
 pub claims_taken : {es : Entries} {addresses : Addresses} → Accounts es addresses
     → (p : List ℕ) (a : ℕ) → claims es p ≡ Some a → IsTaken addresses a
 claims_taken {es = es} h p a at =
-    let x = claim_of (lookup (is_at (path_cmp p)) es) a at in
-    accounts_taken a p _ _ _ h x.has x.found
+    let x = claim_of (lookup (is_at (path_cmp p)) es) a at in search accounts_taken
 
 -- Entries are forgotten
 
 claims-without_by : (path : List ℕ) (es : Entries) (x : List ℕ) (b : Bool) → is_way path x ≡ b
     → claims (without path es) x ≡ (if b then None else claims es x)
-claims-without_by path es x true way =
-    ap address_in (lookup-without x path es (ap not (at_or_below_way x path ∙ way)))
-claims-without_by path es x false way =
-    ap address_in (lookup-without x path es (ap not (at_or_below_way x path ∙ way)))
+claims-without_by path es x b way = grind (arith, at_or_below_way, lookup-without)
 
 pub claims-without : (path : List ℕ) (es : Entries) (x : List ℕ)
     → claims (without path es) x ≡ map_without (claims es) path x
@@ -576,20 +479,7 @@ lookup-none_below : (path x : List ℕ) (e : List ℕ × Finding) (es : Entries)
     → (has_at path es ≡ false → lookup (is_at (path_cmp x)) es ≡ None) → (b : Bool)
     → is_at (path_cmp x) e.0 ≡ b → cond b (Some e.1) (lookup (is_at (path_cmp x)) es)
     ≡ None
-lookup-none_below path x e es away below more true tie =
-    let there : is_at_or_below e.0 path ≡ true =
-    rw (path_tied x e.0 tie) at below in
-    absurd (cc (there, first_false (is_at_or_below e.0 path) (has_at path es) away))
-  where
-    first_false : (a b : Bool) → (a || b) ≡ false → a ≡ false
-    first_false true b h = absurd cc
-    first_false false b h = refl
-lookup-none_below path x e es away below more false tie =
-    more (second_false (is_at_or_below e.0 path) (has_at path es) away)
-  where
-    second_false : (a b : Bool) → (a || b) ≡ false → b ≡ false
-    second_false true b h = absurd cc
-    second_false false b h = h
+lookup-none_below path x e es away below more b tie = grind (arith, path_tied)
 
 pub lookup-none_there : (path x : List ℕ) (es : Entries) → has_at path es ≡ false
     → is_at_or_below x path ≡ true → lookup (is_at (path_cmp x)) es ≡ None
@@ -599,8 +489,7 @@ lookup-none_there path x (e ∷ es) away below =
     _ refl
 
 pub claims_free : (path : List ℕ) (es : Entries) → has_at path es ≡ false → Free (claims es) path
-claims_free path es away x way = ap address_in
-    (lookup-none_there path x es away (at_or_below_way x path ∙ way))
+claims_free path es away = grind (arith, at_or_below_way, lookup-none_there)
 
 -- An entry comes
 
@@ -609,9 +498,7 @@ here_step : (path : List ℕ) {f : Finding} (e : List ℕ × Finding) (es : Entr
     → path_cmp path e.0 ≡ o
     → lookup (is_at (path_cmp path)) (match_ordering o ((path, f) ∷ e ∷ es) ((e.0, f) ∷ es)
     (e ∷ insert_entry path_cmp es path f)) ≡ Some f
-here_step path e es more Less is = rw (path_itself path) refl
-here_step path e es more Equal is = rw is refl
-here_step path e es more Greater is = rw is more
+here_step path e es more o is = grind (arith, path_itself)
 
 pub lookup-insert_entry_here : (path : List ℕ) (f : Finding) (es : Entries)
     → lookup (is_at (path_cmp path)) (insert_entry path_cmp es path f) ≡ Some f
@@ -631,10 +518,8 @@ is_at-same_path path x other = elim (decided (is_at (path_cmp x) path)) [
 entered_by : (path : List ℕ) (f : Finding) (es : Entries) (x : List ℕ) (b : Bool)
     → same_path path x ≡ b → claims (insert_entry path_cmp es path f) x
     ≡ (if b then address_found f else claims es x)
-entered_by path f es x true same = rw (same_is path x same)
-    (ap address_in (lookup-insert_entry_here path f es))
-entered_by path f es x false other =
-    ap address_in (lookup-insert_entry_elsewhere x path f es (is_at-same_path path x other))
+entered_by path f es x true same = rw (same_is path x same) (search lookup-insert_entry_here)
+entered_by path f es x false other = search (is_at-same_path, lookup-insert_entry_elsewhere)
 
 pub claims-device : (path : List ℕ) (device : Accepted) (es : Entries) (x : List ℕ)
     → claims (insert_entry path_cmp es path (Device device)) x ≡ after_taking (claims es) path

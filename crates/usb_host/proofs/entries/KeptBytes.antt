@@ -1,12 +1,11 @@
 -- Each entry is what an enumeration at its port gives, and a host keeps few bytes of each device.
 use Rattle.std.proofs.Common.{◌≡◌, ◌∙◌, refl, sym, ap, subst, true, false, Bool, List, ℕ, [], not}
-use Rattle.std.proofs.Common.{Some, ◌≤◌, ◌<◌, ◌*◌, ◌||◌, ◌∷◌, Option, None, eqb, if◌then◌else◌}
-use Rattle.std.proofs.Common.{length, arith, slice_index_or, IsSome}
-use Rattle.std.proofs.lemmas.Option.{same_Some}
+use Rattle.std.proofs.Common.{Some, ◌≤◌, ◌<◌, ◌*◌, ◌||◌, ◌∷◌, eqb, if◌then◌else◌, length, arith}
+use Rattle.std.proofs.Common.{slice_index_or}
 use Rattle.std.specs.Map.{lookup, keys_of}
 use Rattle.std.specs.BTreeMap.{is_at, insert_entry}
 use Rattle.usb_port.specs.{path_cmp}
-use Rattle.usb_enum.specs.{Finding, HostOptions, is_over, texts_length}
+use Rattle.usb_enum.specs.{Finding, HostOptions}
 use Rattle.usb_table.specs.{Entries, KnownPort, has_at, is_at_or_below, known_port, without}
 use Rattle.usb_table.specs.{finding_at, has_address}
 use Rattle.usb_table.proofs.Interface.{path_tied}
@@ -16,7 +15,7 @@ use Rattle.usb_host.proofs.entries.Agreements.{known_entered, lookup-insert_entr
 use Rattle.usb_host.proofs.entries.Agreements.{lookup-without, shorter_apart}
 use Rattle.usb_host.proofs.entries.Agreements.{lookup-insert_entry_here, one_when}
 use Rattle.std.proofs.Math.Nat.{mul-le-mul_right, suc-mul}
-use Rattle.std.proofs.lemmas.Bool.{eq-eqb, eqb-true, ltb-false, ne_eqb, or_right}
+use Rattle.std.proofs.lemmas.Bool.{eq-eqb, eqb-true, ne_eqb}
 use Rattle.std.proofs.lemmas.List.Elements.{Contains-get_or, recursion_from_All}
 use Rattle.std.proofs.lemmas.List.Sums.{sum_by-cons}
 use Rattle.std.proofs.lemmas.Map.Keys.{IsDistinct-from_sorted}
@@ -34,7 +33,7 @@ use Rattle.usb_host.proofs.entries.KindCounts.{of_kind, of_kind-cons}
 -- Each entry is what an enumeration at its port gives.
 
 pub found_none : {options : HostOptions} → AreFound options []
-found_none = record { each = λ path finding port is at. absurd cc }
+found_none = grind arith
 
 kept : {options : HostOptions} (path : List ℕ) (es : Entries) (q : List ℕ) (g : Finding)
     (port : KnownPort) → AreFound options es
@@ -62,17 +61,13 @@ module _ {options : HostOptions} (path : List ℕ) (f : Finding) {es : Entries}
       → known_port q (insert_entry path_cmp es path f) ≡ Some port → IsFoundAt options q port g
   entered q g port true tie found at =
       let same : q ≡ path = path_tied q path tie in
-      let is : f ≡ g = same_Some f g (sym (lookup-insert_entry_here path f es) ∙ subst (λ r.
-      lookup (is_at (path_cmp r)) (insert_entry path_cmp es path f) ≡ Some g) same found) in
-      let there : known_port path es ≡ Some port = sym (known_entered path path f es
-      (shorter_apart path)) ∙ subst (λ r. known_port r
-      (insert_entry path_cmp es path f) ≡ Some port) same at in
+      let is : f ≡ g = grind (arith, lookup-insert_entry_here) in
+      let there : known_port path es ≡ Some port = grind (arith, known_entered, shorter_apart) in
       subst (λ r. IsFoundAt options r port g) (sym same)
       (subst (λ h. IsFoundAt options path port h) is (own port there))
   entered q g port false tie found at =
       let there = sym (lookup-insert_entry_elsewhere q path f es tie) ∙ found in
-      w.each q g port there (sym (known_entered q path f es (λ hub above. is_at-outside hub
-      path (hub_away q hub path above (found_away q path g es away there)))) ∙ at)
+      w.each q g port there (sym (search (found_away, hub_away, is_at-outside, known_entered)) ∙ at)
 
   pub found_entered : AreFound options (insert_entry path_cmp es path f)
   found_entered = record {
@@ -83,20 +78,11 @@ module _ {options : HostOptions} (path : List ℕ) (f : Finding) {es : Entries}
 
 -- Of each device
 
-has_value : {A : Type 0} (o : Option A) → IsSome o → (x : A) × (o ≡ Some x)
-has_value None some = absurd cc
-has_value (Some x) some = (x, refl)
-
 module _ (options : HostOptions) (es : Entries) (pool : Addresses) (agrees : Agrees options es pool)
     (most : ℕ) (is : options.device_bytes ≡ Some most) where
   pub kept_each : (path : List ℕ) (finding : Finding) → finding_at path es ≡ Some finding
       → kept_bytes finding ≤ most
-  kept_each path (Refused cause) at = omega arith
-  kept_each path (Device device) at =
-      let port = has_value (known_port path es) (agrees.nested.each path (Device device) at) in
-      let found = agrees.found.each path (Device device) port.0 at port.1 in
-      ltb-false most (texts_length device.configs)
-      (subst (λ o. is_over o (texts_length device.configs) ≡ false) is found.1.within)
+  kept_each path finding at = grind arith
 
   -- each entry is found at its path
   kept_entries : AllByRecursion (λ e. kept_bytes e.1 ≤ most) es
@@ -159,8 +145,7 @@ counted ((path, Device device) ∷ es) a is = by (counted es a) (eqb a device.ad
           of_kind-cons (has_address a) (path, Device device) es,
           one_of device.address a equal,
         )
-    by rest false other found =
-        omega (arith, of_kind-cons (has_address a) (path, Device device) es, rest found)
+    by rest false other found = grind arith
 
 -- where each address is one entry's at most, they differ
 apart : (es : Entries) (a : ℕ) → of_kind (has_address a) es ≡ 0
@@ -168,7 +153,7 @@ apart : (es : Entries) (a : ℕ) → of_kind (has_address a) es ≡ 0
 unfolding addresses_in has_address one_when
 apart [] a none = tt
 apart ((path, Refused cause) ∷ es) a none =
-    apart es a (omega (arith, none, of_kind-cons (has_address a) (path, Refused cause) es))
+    apart es a (grind arith)
 apart ((path, Device device) ∷ es) a none = (
   ne_eqb a device.address (λ same. absurd (omega (
     arith,
@@ -184,7 +169,7 @@ distinct : (es : Entries) → ((a : ℕ) → of_kind (has_address a) es ≤ 1)
 unfolding addresses_in has_address one_when IsDistinct
 distinct [] once = tt
 distinct ((path, Refused cause) ∷ es) once =
-    distinct es (λ a. omega (arith, once a, of_kind-cons (has_address a) (path, Refused cause) es))
+    distinct es (grind arith)
 distinct ((path, Device device) ∷ es) once =
     let a = device.address in (
       apart es a (omega (
@@ -205,9 +190,9 @@ not_zero (x ∷ xs) least = (
   ne_eqb 0 x (λ same. absurd (omega (
     arith,
     same,
-    least x (ap (λ h. h || list_any (eqb x) xs) (eq-eqb x x refl)),
+    least x (search eq-eqb),
   ))),
-  not_zero xs (λ b is. least b (or_right (eqb b x) (list_any (eqb b) xs) is)),
+  not_zero xs (grind arith),
 )
 
 module _ (es : Entries) (pool : Addresses) (accounts : Accounts es pool)
@@ -230,15 +215,13 @@ module _ (es : Entries) (pool : Addresses) (accounts : Accounts es pool)
 
   low : (q : ℕ) (zero : Bool) → eqb q 0 ≡ zero
       → (zero || list_any (eqb q) (addresses_in es)) ≡ true → q < 128
-  low q true same found = omega (arith, eqb-true q 0 same)
-  low q false other found = (address q found).1
+  low q zero same found = grind (arith, address)
 
   few_addresses : length (addresses_in es) ≤ 127
   unfolding IsDistinct
   few_addresses =
       let most = length-le_from_distinct_below (0 ∷ addresses_in es) 128
-      (not_zero (addresses_in es) (λ b is. (address b is).0), distinct es once)
-      (λ q found. low q (eqb q 0) refl found) in
+      (not_zero (addresses_in es) (λ b is. (address b is).0), distinct es once) (search low) in
       omega (arith, most)
 
 -- Of all
@@ -246,7 +229,7 @@ module _ (es : Entries) (pool : Addresses) (accounts : Accounts es pool)
 pub keeps_few : (options : HostOptions) (es : Entries) (pool : Addresses) → Agrees options es pool
     → KeepsFew options es
 keeps_few options es pool agrees = record {
-  each = λ most is. kept_each options es pool agrees most is;
+  each = search kept_each;
   all = λ most is.
       let sum = sum_most es most (kept_entries options es pool agrees most is) in
       let few = mul-le-mul_right most (few_addresses es pool agrees.accounts agrees.range) in

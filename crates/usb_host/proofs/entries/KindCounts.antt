@@ -1,7 +1,7 @@
 -- How many entries are of a kind, hubs and devices that wait, as entries go and come.
 use Rattle.usb_tree.proofs.Interface.{decided}
-use Rattle.std.proofs.Common.{◌≡◌, ◌∙◌, refl, ap, arith, true, false, Bool, ℕ, ◌+◌, ◌≤◌, cond, List}
-use Rattle.std.proofs.Common.{[], ◌∷◌, not, Some, Option, None, IsSome, inl, inr}
+use Rattle.std.proofs.Common.{◌≡◌, refl, ap, arith, true, false, Bool, ℕ, ◌+◌, ◌≤◌, cond, List, []}
+use Rattle.std.proofs.Common.{◌∷◌, not, Some, Option, IsSome, inl, inr}
 use Rattle.std.specs.Map.{lookup}
 use Rattle.std.specs.List.{count_by}
 use Rattle.std.specs.BTreeMap.{is_at, insert_entry}
@@ -11,13 +11,13 @@ use Rattle.std.specs.declared.cmp.Ordering.TheVariants.{Less, Equal, Greater}
 use Rattle.std.proofs.lemmas.List.Sums.{sum_by-cons}
 use Rattle.usb_port.specs.{path_cmp}
 use Rattle.usb_tree.specs.{is_way}
-use Rattle.usb_enum.specs.{Finding, Lost, HubFacts}
+use Rattle.usb_enum.specs.{Finding, Lost}
 use Rattle.usb_table.specs.{Entries, is_at_or_below, without, is_hub, finding_at, hub_facts_at}
 use Rattle.usb_table.specs.{hub_facts_in, is_waiting}
 use Rattle.usb_host.proofs.entries.Agreements.{one_when-most, one_when}
 use Rattle.usb_world.proofs.Interface.{at_or_below_way}
 use Rattle.usb_table.proofs.Interface.{path_tied}
-use Rattle.usb_enum.specs.declared.finding.Finding.TheVariants.{Device, Refused}
+use Rattle.usb_enum.specs.declared.finding.Finding.TheVariants.{Refused}
 use Rattle.usb_host.specs.{FindsNone, hubs, HostState, EntersOne, HostSteps, OnlyBusSteps, waiting}
 
 abbrev pub of_kind : (Finding → Bool) → Entries → ℕ
@@ -28,7 +28,7 @@ module _ (kind : Finding → Bool) where
       → of_kind kind (e ∷ es) ≡ one_when (kind e.1)
       + of_kind kind es
   unfolding one_when
-  of_kind-cons e es = sum_by-cons (λ d. cond (kind d.1) 1 0) e es
+  of_kind-cons e es = search sum_by-cons
 
   of_kind-without_less : (e : List ℕ × Finding) (es rest : Entries) (b : Bool)
       → of_kind kind rest ≤ of_kind kind es
@@ -58,11 +58,8 @@ module _ (kind : Finding → Bool) where
   of_kind-without_one path hub f (e ∷ es) way is_kind found =
       elim (decided (is_at (path_cmp hub) e.0)) [
         | inl tie ↦
-            let same : e.1 ≡ f = cc (rw tie at found) in
-            let here : one_when (kind e.1) ≡ 1 =
-            ap (λ g. one_when (kind g)) same ∙ ap one_when is_kind in
-            let gone : is_at_or_below e.0 path ≡ true = rw (path_tied hub e.0 tie) at
-            (at_or_below_way hub path ∙ way) in
+            let here : one_when (kind e.1) ≡ 1 = grind arith in
+            let gone : is_at_or_below e.0 path ≡ true = grind (arith, at_or_below_way, path_tied) in
             rw gone (omega (arith, of_kind-cons e es, of_kind-without path es))
         | inr off ↦ of_kind-without_fewer path e es (not (is_at_or_below e.0 path))
             (of_kind-without_one path hub f es way is_kind (rw off at found))
@@ -98,13 +95,7 @@ module _ (kind : Finding → Bool) where
 
 hub_at : (o : Option Finding) → IsSome (hub_facts_in o) → (f : Finding) × (o ≡ Some f)
     × (is_hub f ≡ true)
-hub_at (Some (Device device)) some = pick device.hub refl
-  where
-    pick : (o : Option HubFacts) → device.hub ≡ o → (f : Finding) × (Some (Device device) ≡ Some f)
-        × (is_hub f ≡ true)
-    pick None e = absurd (cc (e, some))
-    pick (Some facts) e = (Device device, refl, rw e refl)
-hub_at _ some = absurd (cc some)
+hub_at o some = grind arith
 
 pub hubs-dropped : (lost hub : List ℕ) (old left : Entries) {new : Entries} → is_way lost hub ≡ true
     → left ≡ without lost old → new ≡ insert_entry path_cmp left lost (Refused Lost)

@@ -20,19 +20,15 @@ rank_most path is = omega (arith, bound path is, sixteen)
 
 pub rank_rises : (last : Option (List ℕ)) (path : List ℕ) → IfSome last IsPath → IsPath path
     → ComesAfter last path → rank_after last < rank_after (Some path)
-rank_rises None path before is after = omega arith
-rank_rises (Some last) path before is after = omega (arith, rank_of-less last path before is after)
+rank_rises last path before is after = grind (arith, rank_of-less)
 
 pub rank_after_most : (last : Option (List ℕ)) → IfSome last IsPath → rank_after last ≤ 268435456
-rank_after_most None is = omega arith
-rank_after_most (Some path) is = rank_most path is
+rank_after_most last is = grind (arith, rank_most)
 
 -- so what is done at each of them adds up
 pub rank_more : (k : ℕ) (last : Option (List ℕ)) (path : List ℕ) → IfSome last IsPath → IsPath path
     → ComesAfter last path → rank_after last * k + k ≤ rank_after (Some path) * k
-rank_more k last path before is after =
-    row_fits (rank_after last) k (rank_after (Some path)) k (rank_rises last path before is after)
-    (omega arith)
+rank_more k last path before is after = grind (arith, rank_rises, row_fits)
 
 pub rank_within : (k r : ℕ) → r ≤ 268435456 → r * k ≤ 268435456 * k
 rank_within k r le = mul-le-mul_right k le

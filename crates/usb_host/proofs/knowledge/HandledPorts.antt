@@ -1,27 +1,26 @@
 -- What a host knows as a port is handled: as it is tidied, as its change is cleared, as what is
 -- found there is entered, and as a hub that is lost is dropped.
-use Rattle.usb_device.specs.{Location, Registers, State, reach, state_there}
+use Rattle.usb_device.specs.{Location, State, reach, state_there}
 use Rattle.std.proofs.Common.{◌≡◌, inl, inr, refl, sym, ap, subst, ◌∙◌, arith, length-append, ℕ}
 use Rattle.std.proofs.Common.{Bool, true, false, List, [], ◌∷◌, length, Option, None, Some, Err}
-use Rattle.std.proofs.Common.{IsSome, IsSomeAnd, ◌≤◌, ◌⊎◌, Result, Ok, IfErr, ◌+◌, ◌*◌, option_map}
+use Rattle.std.proofs.Common.{IsSome, IsSomeAnd, ◌≤◌, ◌⊎◌, Result, Ok, IfErr, ◌+◌, ◌*◌}
 use Rattle.usb_port.specs.{parent_of, port_on_hub, PortStatus, path_cmp, ClearEnable, clear_call}
 use Rattle.usb_port.proofs.Interface.{rejoined}
 use Rattle.usb_world.specs.{Was, World, roots_of, WorldInvariant}
 use Rattle.usb_tree.specs.{is_way, pending}
 use Rattle.usb_world.proofs.Interface.{way_apart, way_parent, way_shorter}
 use Rattle.usb_address.specs.{KeepsAddresses}
-use Rattle.usb_hub.specs.{StaysAs, EachElsewhere, KeepsDevices, TouchesNoPort, Root, IsPort}
-use Rattle.usb_hub.specs.{CommandsPort, IsCall, PortCleared}
-use Rattle.usb_hub.proofs.Interface.{stays-registers, stays-spec, is_port-spends}
-use Rattle.usb_enum.specs.{EnumFault, ParentLost, Bus, Memory, Finding, IsKnownAs, IsOccupied}
-use Rattle.usb_enum.specs.{FaultAllowedAt, IsOrderly, Accepted, HubFacts, Begins, IsOwn, OnlyAt}
-use Rattle.usb_enum.specs.{IsPlaced, HasPlanWithin, HostOptions, Lost}
+use Rattle.usb_hub.specs.{StaysAs, EachElsewhere, KeepsDevices, TouchesNoPort, CommandsPort, IsCall}
+use Rattle.usb_hub.specs.{PortCleared}
+use Rattle.usb_hub.proofs.Interface.{is_port-spends}
+use Rattle.usb_enum.specs.{EnumFault, ParentLost, Finding, IsKnownAs, IsOccupied, FaultAllowedAt}
+use Rattle.usb_enum.specs.{IsOrderly, Accepted, HubFacts, Begins, IsOwn, OnlyAt, IsPlaced}
+use Rattle.usb_enum.specs.{HasPlanWithin, HostOptions, Lost}
 use Rattle.usb_enum.specs.declared.finding.Finding.TheVariants.{Device, Refused}
 use Rattle.usb_enum.proofs.Interface.{went_in_order, regular_order, disabled_known}
-use Rattle.usb_table.specs.{KnownPort, known_port, port_found, is_below_hub, finding_at, SameDevice}
-use Rattle.usb_table.specs.{without, root_port, port_below, IsListedPort, AllInSync, Entries}
-use Rattle.usb_table.specs.{has_at, accepted_device_of, hub_facts_in, tier_of, InSyncAt, Table}
-use Rattle.usb_table.specs.{entered}
+use Rattle.usb_table.specs.{KnownPort, known_port, finding_at, SameDevice, without, IsListedPort}
+use Rattle.usb_table.specs.{AllInSync, Entries, has_at, accepted_device_of, hub_facts_in, tier_of}
+use Rattle.usb_table.specs.{InSyncAt, Table, entered}
 use Rattle.usb_host.specs.{Agrees, LetsGoOn, RestElsewhere, InvariantAfterPort, HostState, StandsAt}
 use Rattle.usb_host.specs.{HostSteps, OnlyBusSteps, PortsListed, KnownBut, DevicesAccurate}
 use Rattle.usb_host.specs.{TruthfulBut, HostInvariant, IsSoundBut, IsDroppable, EachStill}
@@ -29,27 +28,24 @@ use Rattle.usb_host.specs.{EachStillBut, HasWay, Watches, Tidies, ClearsChange, 
 use Rattle.usb_host.specs.{claims, StaysOwned, Forgets, table_in, KeepsPort, IsAccurateAt}
 use Rattle.usb_host.specs.{known_supply, KeepsBulk, StaysWhere, by_control, ServesSound, DropsLost}
 use Rattle.usb_host.specs.{EndsAs, PartKeepsInvariant, HostFault, IsDroppedAt, Disabled}
-use Rattle.usb_host.specs.{DisablesOnWay, DropsHub, root_of, StandsNowhere, IsFairTo, CausesBut}
-use Rattle.usb_host.proofs.StepSums.{went_before, EnumerationAt, askable_wide}
+use Rattle.usb_host.specs.{DisablesOnWay, DropsHub, StandsNowhere, IsFairTo, CausesBut}
+use Rattle.usb_host.proofs.StepSums.{went_before, EnumerationAt}
 use Rattle.usb_host.proofs.devices.Owners.{owned_rests, but_rests, stays_bare, but_all, but_above}
 use Rattle.usb_host.proofs.devices.Owners.{LostListed, lost_entries, lost_options, lost_world}
-use Rattle.usb_host.proofs.devices.Owners.{root_done, Opened, opened_if_owned, at_others}
+use Rattle.usb_host.proofs.devices.Owners.{Opened, opened_if_owned, at_others}
 use Rattle.usb_host.proofs.devices.Pipes.{level_rests, level_forgotten, AllStay, stay_forgotten}
 use Rattle.usb_host.proofs.devices.Pipes.{stay_joined, stay_rests, bulk_entered, bulk_stays}
-use Rattle.usb_host.proofs.devices.Pipes.{accepted_device_of-some, where_stays, where_unfound}
-use Rattle.usb_host.proofs.devices.Pipes.{level_found, level_gone, level_but, bulk_then}
-use Rattle.usb_host.proofs.devices.Pipes.{level_refused}
+use Rattle.usb_host.proofs.devices.Pipes.{where_stays, where_unfound, level_found, level_gone}
+use Rattle.usb_host.proofs.devices.Pipes.{level_but, bulk_then, level_refused}
 use Rattle.usb_host.proofs.entries.Roots.{rooted_kept, accounted}
-use Rattle.usb_host.proofs.knowledge.SettledListings.{listed_port, reached_there, port_number}
-use Rattle.usb_host.proofs.knowledge.SettledListings.{port_below_hub}
-use Rattle.usb_host.proofs.PortLocations.{lost_above, stands_at-claim, root_alone}
+use Rattle.usb_host.proofs.knowledge.SettledListings.{listed_port, reached_there}
+use Rattle.usb_host.proofs.PortLocations.{stands_at-claim, root_alone}
 use Rattle.usb_host.proofs.knowledge.Places.{known_each, known_but_each, truthful_stays}
 use Rattle.usb_host.proofs.knowledge.Places.{truthful_but_stays, known_stays, known_dropped}
 use Rattle.usb_host.proofs.knowledge.Places.{known_vacant, truthful_dropped, finding-none}
 use Rattle.usb_host.proofs.knowledge.Places.{known_found, truthful_found}
 use Rattle.usb_tree.proofs.Interface.{decided}
 use Rattle.usb_host.proofs.rests.ClearedPorts.{known_way}
-use Rattle.std.specs.Prelude.{unwrap_or}
 use Rattle.std.specs.BTreeMap.{insert_entry}
 use Rattle.arrayvec.specs.ArrayVec.{ArrayVec}
 use Rattle.usb_host.proofs.entries.Agreements.{known_entered, shorter_apart, claims_free}
@@ -73,11 +69,7 @@ still_was s x = record {
   before = x.before;
   on = x.on;
   stands = x.stands;
-  so = record {
-    spec = stays-spec x.before s x.so;
-    address = ap (λ (g : Registers). g.address) (stays-registers x.before s x.so);
-    configuration = ap (λ (g : Registers). g.configuration) (stays-registers x.before s x.so);
-  };
+  so = grind arith;
 }
 
 pub kept_each_still : {w v : World} → KeepsDevices w v → v.shared ≡ false → EachStill w v
@@ -89,30 +81,16 @@ each_still_but _ k single j s _ on at = still_was s (k.stays single j s on at)
 
 pub elsewhere_still : (path : List ℕ) (w v : World) → EachElsewhere path StaysAs w v
     → EachStillBut path w v
-elsewhere_still _ w v each j s away on at = still_was s (each j s away on at)
+elsewhere_still path w v each = search still_was
 
 -- What is known everywhere is known elsewhere, and less is known further above
 
 pub but_of_sound : (path : List ℕ) {h : HostState} → HostInvariant h → IsSoundBut path h
-but_of_sound path s = record {
-  owned = but_all s.owned;
-  rooted = s.rooted;
-  order = s.order;
-  known = λ still x _. s.known still x;
-  truthful = λ still x _. s.truthful still x;
-  level = λ still x _. s.level still x;
-}
+but_of_sound path s = search (but_all, s.known, s.truthful, s.level)
 
 pub but_of_above : (path below : List ℕ) (h : HostState) → is_way path below ≡ true
     → IsSoundBut below h → IsSoundBut path h
-but_of_above path below h on s = record {
-  owned = but_above path on s.owned;
-  rooted = s.rooted;
-  order = s.order;
-  known = λ still x away. s.known still x (way_apart path below x on away);
-  truthful = λ still x away. s.truthful still x (way_apart path below x on away);
-  level = λ still x away. s.level still x (way_apart path below x on away);
-}
+but_of_above path below h on s = search (but_above, way_apart, s.known, s.truthful, s.level)
 
 -- The world alone goes on
 
@@ -133,14 +111,12 @@ module _ {n : ℕ} (a : HostState) {b : HostState} (r : OnlyBusSteps a b) (went 
         rooted = rooted_kept a b same_entries went.spends.roots s.rooted;
         order = went_in_order n a.world b.world went s.order;
         known = λ still. subst (PortsListed b.world) (sym same_entries)
-            (known_each a.world b.world a.entries went.spends.roots (λ path _. rests path)
-            (s.known (went_before went still)));
+            (search (known_each, went_before, s.known));
         truthful =
             λ still. rw same_wide (subst (DevicesAccurate a.options b.world) (sym same_entries)
-            (truthful_stays a.world b.world a.entries (kept_each_still devices owned.single)
+            (truthful_stays a.world b.world a.entries (search kept_each_still)
             (s.truthful (went_before went still))));
-        level = λ still x. level_rests a b r devices owned.single x
-            (s.level (went_before went still) x);
+        level = search (level_rests, went_before, s.level);
       }
 
   pub sound_rests_but : {path : List ℕ} → KeepsDevices a.world b.world
@@ -153,30 +129,19 @@ module _ {n : ℕ} (a : HostState) {b : HostState} (r : OnlyBusSteps a b) (went 
         rooted = rooted_kept a b same_entries went.spends.roots s.rooted;
         order = went_in_order n a.world b.world went s.order;
         known = λ still. subst (KnownBut path b.world) (sym same_entries)
-            (known_but_each path a.world b.world a.entries went.spends.roots (rests still)
-            (s.known (went_before went still)));
+            (search (known_but_each, went_before, s.known));
         truthful = λ still. rw same_wide
             (subst (TruthfulBut a.options path b.world) (sym same_entries)
-            (truthful_but_stays path a.world b.world a.entries
-            (each_still_but path devices owned.single)
+            (truthful_but_stays path a.world b.world a.entries (search each_still_but)
             (s.truthful (went_before went still))));
-        level = λ still x away. level_rests a b r devices owned.single x
-            (s.level (went_before went still) x away);
+        level = search (level_rests, went_before, s.level);
       }
 
 -- A hub that is lost
 
-port_found-finding : (o : Option Finding) (below : Bool) (n : ℕ) → IsSome (port_found o below n)
-    → (f : Finding) × (o ≡ Some f)
-port_found-finding None below n h = absurd (cc h)
-port_found-finding (Some f) below n h = (f, refl)
-
 pub occupied_by : (w : World) (path : List ℕ) (f : Finding) → IsKnownAs w path (Some f)
     → IsOccupied w path
-occupied_by w _ f (inl x) = inl x
-occupied_by w path (Device _) (inr x) = let s : _ = reached_there w.roots path x.1 in
-    inr (x.0, subst IsSome (sym s.1) refl)
-occupied_by w _ (Refused _) (inr x) = inr (x.0, x.1.0)
+occupied_by w path f h = grind (arith, reached_there)
 
 -- the hub of a port that is known may be dropped, where what is known elsewhere than at the port is
 -- so
@@ -190,8 +155,7 @@ droppable_above path hub h above known agrees s = record {
 }
   where
     found : (f : Finding) × (finding_at hub h.entries ≡ Some f)
-    found = port_found-finding (finding_at hub h.entries) (is_below_hub hub) (port_on_hub path)
-        (rw above at known)
+    found = grind arith
 
     away : is_way path hub ≡ false
     away = way_shorter path hub (omega (
@@ -212,39 +176,15 @@ pub lost_sound : {path : List ℕ} {port : KnownPort} {a : HostState} (b : HostS
     → IsSome (known_port path b.entries) → Agrees b.options b.entries b.addresses
     → (LetsGoOn {A = Unit {0}} (Err fault) → IsSoundBut path b)
     → InvariantAfterPort path (Err fault) b
-lost_sound {path = path} {a = a} b ParentLost s told known agrees but = by_parent _
-    refl
-  where
-    by_parent : (o : Option (List ℕ)) → parent_of path ≡ o → IsSomeAnd o (λ hub. IsDroppable hub b)
-    by_parent None above = absurd (cc (lost_above path a.entries b.world told None above
-        (rw above at s.known)))
-    by_parent (Some _) above = droppable_above _ _ b above known agrees (but tt)
-lost_sound b (Bus fault) s told known agrees but = tt
-lost_sound b Memory s told known agrees but = tt
+lost_sound b fault s told known agrees but = grind (arith, droppable_above)
 
 -- Ports
 
 -- A port that stands is listed
 
-root_most : (path : List ℕ) (port : KnownPort) (h : HostState) → StandsAt path port h
-    → (above : Option (List ℕ)) → parent_of path ≡ above
-    → port_below above (port_on_hub path) h.entries ≡ Some port → above ≡ None
-    → port_on_hub path ≤ roots_of h.world
-root_most path port h s None above e none =
-    let same : root_port (port_on_hub path) ≡ port = cc e in
-    let there : IsPort h.world (Root (port_on_hub path)) =
-    subst (λ (p : KnownPort). IsPort h.world p.port) (sym same) s.there in
-    there.1
-root_most path port h s (Some hub) above e none = absurd (cc none)
-
 pub stands_listed : (path : List ℕ) (port : KnownPort) (h : HostState) → StandsAt path port h
     → IsListedPort (roots_of h.world) h.entries path
-stands_listed path port h s = record {
-  some = s.is.0;
-  port = port_below_hub (roots_of h.world) h.entries (port_on_hub path) (parent_of path)
-      (port_number path s.is).0 (root_most _ _ h s _ refl s.known)
-      (rw s.known refl);
-}
+stands_listed path port h s = grind arith
 
 pub stands_way : {path : List ℕ} {port : KnownPort} (h : HostState) → StandsAt path port h
     → PortsListed h.world h.entries → HasWay h.world path
@@ -255,8 +195,7 @@ stands_way {path = path} {port = port} h s known = known_way path h.world
 
 pub rests_known : {path : List ℕ} {port : KnownPort} {a b : HostState} → OnlyBusSteps a b
     → StandsAt path port a → IsSome (known_port path b.entries)
-rests_known {path = path} r s = rw (ap (λ (h : HostState). known_port path h.entries) r ∙ s.known)
-    refl
+rests_known r s = grind arith
 
 pub rests_agrees : {path : List ℕ} {port : KnownPort} {a b : HostState} → OnlyBusSteps a b
     → StandsAt path port a → Agrees b.options b.entries b.addresses
@@ -281,7 +220,7 @@ module _ {n : ℕ} {path : List ℕ} {port : KnownPort} {a b : HostState} (s : S
           pick was (inl way) = (t.stays (claims a.entries) path (stands_at-claim s) i.owned refl x
               way).known (finding_at x a.entries) was
           pick was (inr away) = known_stays x (finding_at x a.entries) a.world b.world
-              (t.others (claims a.entries) path (stands_at-claim s) i.owned tt x away)
+              (search (stands_at-claim, t.others))
               was
 
   pub tidied_sound : Tidies port.port a.world (Ok tt) b.world → HostInvariant a → HostInvariant b
@@ -290,15 +229,14 @@ module _ {n : ℕ} {path : List ℕ} {port : KnownPort} {a b : HostState} (s : S
       let same = ap (λ (h : HostState). h.entries) r in
       record {
         owned = owned;
-        rooted = rooted_kept a b same went.spends.roots i.rooted;
+        rooted = search rooted_kept;
         order = went_in_order n a.world b.world went i.order;
         known = tidied_known t i;
         truthful = λ still. rw (ap (λ (h : HostState). h.options) r)
             (subst (DevicesAccurate a.options b.world) (sym same)
             (truthful_stays a.world b.world a.entries (kept_each_still t.devices owned.single)
             (i.truthful (went_before went still))));
-        level = λ still x. level_rests a b r t.devices owned.single x
-            (i.level (went_before went still) x);
+        level = search (level_rests, went_before, i.level);
       }
 
   pub tidied_lost : (fault : EnumFault) → Tidies port.port a.world (Err fault) b.world
@@ -325,8 +263,7 @@ module _ {n : ℕ} {path : List ℕ} {port : KnownPort} {a b : HostState} (s : S
       → FaultAllowedAt port.port fault b.world → HostInvariant a
       → InvariantAfterPort path (Err fault) b
   watched_lost fault w told i =
-      lost_sound b fault s told (rests_known r s) (rests_agrees r s)
-      (λ goes. but_of_sound path (sound_rests a r went w.addresses w.devices (w.rests goes) i))
+      search (but_of_sound, lost_sound, rests_agrees, rests_known, sound_rests, w.rests)
 
   pub watched_stay : {result : Result PortStatus EnumFault}
       → Watches port.port a.world result b.world → HostInvariant a → AllStay a b
@@ -340,8 +277,8 @@ module _ {n : ℕ} {path : List ℕ} {port : KnownPort} {a b : HostState} (s : S
   pub rests_stands : StandsAt path port b
   rests_stands = record {
     is = s.is;
-    known = ap (λ (h : HostState). known_port path h.entries) r ∙ s.known;
-    there = is_port-spends n port.port _ _ went.spends s.there;
+    known = grind arith;
+    there = search is_port-spends;
     askable = s.askable;
     agrees = rests_agrees r s;
   }
@@ -370,45 +307,42 @@ module _ {n : ℕ} {path : List ℕ} {port : KnownPort} {a b c : HostState} {sta
   world_is = ap (λ (h : HostState). h.world) f.others
 
   width : c.options ≡ a.options
-  width = ap (λ (h : HostState). h.options) f.others ∙ ap (λ (h : HostState). h.options) r
+  width = grind arith
 
   left : c.entries ≡ without path a.entries
-  left = f.rest ∙ ap (λ (h : HostState). without path h.entries) r
+  left = grind arith
 
   stays : StaysOwned a c
-  stays = stays_bare s r went.spends.roots x.bares f
+  stays = search stays_bare
 
   still_before : c.world.fault ≡ None → a.world.fault ≡ None
-  still_before still = went_before went (ap (λ (w : World). w.fault) (sym world_is)
-      ∙ still)
+  still_before still = went_before went (grind arith)
 
   forgot_known : c.world.fault ≡ None → KnownBut path c.world c.entries
   forgot_known still =
       let rests = x.others (claims a.entries) path (stands_at-claim s) i.owned tt in
       let known = known_but_each path a.world b.world a.entries went.spends.roots rests
       (λ y away. i.known (still_before still) y) in
-      rw world_is (rw left (known_dropped path b.world a.entries known))
+      rw world_is (rw left (search known_dropped))
 
   forgot_truthful : c.world.fault ≡ None → DevicesAccurate c.options c.world c.entries
   forgot_truthful still =
       let single = ap (λ (w : World). w.shared) (sym world_is) ∙ (stays.stays i.owned).single in
       let told = truthful_but_stays path a.world b.world a.entries
-      (each_still_but path x.devices single) (λ y away. i.truthful (still_before still) y) in
-      rw (width, world_is) (rw left (truthful_dropped path b.world a.entries told))
+      (search each_still_but) (λ y away. i.truthful (still_before still) y) in
+      rw (width, world_is) (rw left (search truthful_dropped))
 
   forgot_level : c.world.fault ≡ None → AllInSync (table_in c) c.world
   forgot_level still =
       let single = ap (λ (w : World). w.shared) (sym world_is) ∙ (stays.stays i.owned).single in
-      level_forgotten f
-      (λ y away. level_rests a b r x.devices single y (i.level (still_before still) y))
+      level_forgotten f (grind (arith, level_rests, still_before))
 
   forgot_order : c.world.fault ≡ None → IsOrderly c.world
-  forgot_order still = rw world_is (went_in_order n _ _ went i.order
-      (ap (λ (w : World). w.fault) (sym world_is) ∙ still))
+  forgot_order still = rw world_is (went_in_order n _ _ went i.order (search world_is))
 
   forgot_decides : c.world.fault ≡ None → Decides status.connected c.world path
   forgot_decides still =
-      let at_b : b.world.fault ≡ None = ap (λ (w : World). w.fault) (sym world_is) ∙ still in
+      let at_b : b.world.fault ≡ None = search world_is in
       rw world_is (x.decides (claims a.entries) path (stands_at-claim s) i.owned
       (stands_way a s (i.known (still_before still))) i.order at_b)
 
@@ -416,8 +350,7 @@ module _ {n : ℕ} {path : List ℕ} {port : KnownPort} {a b c : HostState} {sta
   pub forgot_stay : AllStay a c
   forgot_stay =
       let single = ap (λ (w : World). w.shared) (sym world_is) ∙ (stays.stays i.owned).single in
-      stay_joined a b c (stay_rests a b r x.devices single)
-      (stay_forgotten f)
+      search (stay_forgotten, stay_joined, stay_rests)
 
   pub forgot_open : status.connected ≡ true → IsOpen path c
   forgot_open on =
@@ -429,10 +362,10 @@ module _ {n : ℕ} {path : List ℕ} {port : KnownPort} {a b c : HostState} {sta
           rooted = stays.rooted i.rooted;
           order = forgot_order;
           known = forgot_known;
-          truthful = λ still y away. forgot_truthful still y;
-          level = λ still y away. forgot_level still y;
+          truthful = search forgot_truthful;
+          level = search forgot_level;
         };
-        there = λ still. subst (λ b. Decides b c.world path) on (forgot_decides still);
+        there = grind (arith, forgot_decides);
       }
 
   pub forgot_sound : status.connected ≡ false → HostInvariant c
@@ -440,8 +373,7 @@ module _ {n : ℕ} {path : List ℕ} {port : KnownPort} {a b c : HostState} {sta
     owned = stays.stays i.owned;
     rooted = stays.rooted i.rooted;
     order = forgot_order;
-    known = λ still. known_vacant path c.world c.entries s.is.0 f.gone (forgot_known still)
-        (rw off at (forgot_decides still));
+    known = grind (arith, forgot_decides, forgot_known, known_vacant);
     truthful = forgot_truthful;
     level = forgot_level;
   }
@@ -460,9 +392,7 @@ truthful_gone {options = options} path w es gone told x = elim (decided (is_way 
 pub supply_found : (path : List ℕ) {port : KnownPort} (f : Finding) (es : Entries)
     → known_port path es ≡ Some port → known_supply path (insert_entry path_cmp es path f)
     ≡ port.supply
-supply_found path f es known =
-    ap (λ (o : Option KnownPort). unwrap_or (option_map (λ (known : KnownPort). known.supply) o) 0)
-    (known_entered path path f es (shorter_apart path) ∙ known)
+supply_found path f es known = grind (arith, known_entered, shorter_apart)
 
 hub_device : (f : Finding) (n : ℕ) → IsSomeAnd (hub_facts_in (Some f)) (λ facts. (1 ≤ n)
     × (n ≤ facts.ports)) → (device : Accepted) × (facts : HubFacts) × (f ≡ Device device)
@@ -474,7 +404,7 @@ hub_device (Device device) n h = pick device.hub refl h
         → IsSomeAnd o (λ facts. (1 ≤ n) × (n ≤ facts.ports)) → (d : Accepted) × (facts : HubFacts)
         × (Device device ≡ Device d) × (d.hub ≡ Some facts) × (1 ≤ n) × (n ≤ facts.ports)
     pick None e h = absurd h
-    pick (Some facts) e h = (device, facts, refl, e, h.0, h.1)
+    pick (Some facts) e h = search
 
 module _ {n : ℕ} {path : List ℕ} {port : KnownPort} {result : Result Finding EnumFault}
     {a b : HostState} (e : EnumerationAt n path port result a b) (o : IsOpen path a) where
@@ -482,22 +412,14 @@ module _ {n : ℕ} {path : List ℕ} {port : KnownPort} {result : Result Finding
   before = went_before e.went
 
   pub begins : Begins (claims a.entries) port.port path a.addresses a.world
-  begins = record {
-    at = stands_at-claim e.stands;
-    free = claims_free path a.entries e.away;
-    taken = claims_taken e.accounts;
-    owned = o.owned;
-    order = o.but.order;
-  }
+  begins = search (claims_free, claims_taken, stands_at-claim)
 
   pub found_few : (most : ℕ) → (a.world.fault ≡ None → HasPlanWithin most a.world)
       → b.world.attempts ≤ a.world.attempts + (250000 + 100 * most)
-  found_few = e.gives.few.few (claims a.entries) path (askable_wide port.port e.stands.askable)
-      begins
+  found_few most h = grind (arith, begins)
 
   pub found_only : b.world.fault ≡ None → OnlyAt path a.world b.world
-  found_only still = e.gives.addresses.only (claims a.entries) path begins.at begins.free
-      begins.taken begins.owned still
+  found_only still = grind (arith, begins)
 
   only_known : {es : Entries} → es ≡ a.entries → b.world.fault ≡ None → KnownBut path b.world es
   only_known same still =
@@ -520,8 +442,7 @@ module _ {n : ℕ} {path : List ℕ} {port : KnownPort} {result : Result Finding
   pub unfound_where : b.entries ≡ a.entries → b.pipes ≡ a.pipes
       → StaysWhere (b.world.fault ≡ None) a b
   unfound_where same pipes_same = where_unfound path a b same pipes_same e.away
-      (λ still. (found_only still).devices) (e.gives.addresses.named (claims a.entries) path
-      begins.at begins.free begins.taken begins.owned)
+      (λ still. (found_only still).devices) (grind (arith, begins))
 
   pub unfound_bulk : b.entries ≡ a.entries → b.pipes ≡ a.pipes → b.world.fault ≡ None
       → KeepsBulk a b
@@ -549,30 +470,26 @@ module _ {n : ℕ} {path : List ℕ} {port : KnownPort} {f : Finding} {a b : Hos
       let here : IsPlaced path f b.world = e.gives.places.placed (claims a.entries) path
       (begins e o) (o.there (before e o still)) still f refl in
       rw is (known_found path f a.entries e.stands.is.0 e.away b.world
-      (only_known e o {es = a.entries} refl still) here.there
+      (search only_known) here.there
       (λ number has. let d : _ = hub_device f number has in
       here.below d.0 d.2 d.1 number d.3 d.4 d.5))
 
   told_here : b.world.fault ≡ None
       → IsAccurateAt b.options b.world (insert_entry path_cmp a.entries path f) path
   told_here still device t at on stands =
-      let found : f ≡ Device device = accepted_device_of-some f
-      (sym (ap accepted_device_of (lookup-insert_entry_here path f a.entries)) ∙ at) in
+      let found : f ≡ Device device = grind (arith, lookup-insert_entry_here) in
       let own = owns device t found on stands in
       record { found = rw (supply_found path f a.entries e.stands.known) own.0; set = own.1 }
 
   entered_truthful : b.world.fault ≡ None → DevicesAccurate b.options b.world b.entries
   entered_truthful still =
-      rw is (truthful_found path f a.entries e.stands.is.0 e.away b.world
-      (truthful_gone path b.world a.entries e.away (only_truthful e o {es = a.entries} refl still))
-      (told_here still))
+      rw is (search (only_truthful, told_here, truthful_found, truthful_gone))
 
   entered_level : b.world.fault ≡ None → AllInSync (table_in b) b.world
   entered_level still =
-      let order : WorldInvariant b.world =
-      (went_in_order n a.world b.world e.went o.but.order still) in
+      let order : WorldInvariant b.world = search went_in_order in
       level_found path f said b.options (tier_of path) port.supply (table_in a) b.world table
-      order.sane owns (level_gone path (table_in a) b.world e.away (only_level e o still))
+      order.sane owns (search (level_gone, only_level))
 
   -- a device that was found has new pipes
   pub entered_bulk : b.world.fault ≡ None → KeepsBulk a b
@@ -581,19 +498,12 @@ module _ {n : ℕ} {path : List ℕ} {port : KnownPort} {f : Finding} {a b : Hos
       bulk_entered path f said a b table e.away only.devices only.control
       (o.owned.so (before e o still))
       (λ device found x t is on stands.
-      let own = owns device t found (ap (reach b.world.roots) is ∙ on)
-      (ap (state_there b.world.roots) is ∙ stands) in
+      let own = owns device t found (search is) (search is) in
       λ number. (own.2.outs number, own.2.ins number))
 
   pub entered_sound : KeepsPort path a (Ok tt) b → InvariantAfterPort path (Ok tt) b
-  entered_sound k = record {
-    owned = k.ends o.owned;
-    rooted = k.rooted o.but.rooted;
-    order = went_in_order n a.world b.world e.went o.but.order;
-    known = entered_known;
-    truthful = entered_truthful;
-    level = entered_level;
-  }
+  entered_sound k =
+      search (entered_known, entered_level, entered_truthful, went_in_order, k.ends, k.rooted)
 
 -- nothing is entered: the hub is lost
 pub unfound_sound : {n : ℕ} {path : List ℕ} {port : KnownPort} {fault : EnumFault}
@@ -603,8 +513,8 @@ pub unfound_sound : {n : ℕ} {path : List ℕ} {port : KnownPort} {fault : Enum
     → InvariantAfterPort path (Err fault) b
 unfound_sound {n = n} {path = path} {fault = ParentLost} {a = a} {b = b} e o same pipes_same
     pool_same told k =
-    lost_sound b ParentLost e.stands told (rw (ap (known_port path) same ∙ e.stands.known) refl)
-    (rw (e.options, same, pool_same) e.stands.agrees)
+    lost_sound b ParentLost e.stands told (grind arith)
+    (grind arith)
     (λ goes. record {
       owned = k.ends o.owned;
       rooted = k.rooted o.but.rooted;
@@ -612,9 +522,7 @@ unfound_sound {n = n} {path = path} {fault = ParentLost} {a = a} {b = b} e o sam
       known = only_known e o same;
       truthful = only_truthful e o same;
       level = λ still.
-          let table : table_in b ≡ table_in a =
-          ap (λ es. record { entries = es; pipes = b.pipes }) same ∙ ap
-          (λ ps. record { entries = a.entries; pipes = ps }) pipes_same in
+          let table : table_in b ≡ table_in a = grind arith in
           rw table (only_level e o still);
     })
 unfound_sound {fault = _} e o same pipes_same pool_same told k = tt
@@ -625,9 +533,7 @@ unfound_sound {fault = _} e o same pipes_same pool_same told k = tt
 
 -- the host goes on after it
 lets_go_on_done : (served : Result (Unit {0}) EnumFault) → EndsAs served (Ok tt) → LetsGoOn served
-lets_go_on_done (Err (Bus fault)) ends = absurd (cc ends)
-lets_go_on_done (Err Memory) ends = absurd (cc ends)
-lets_go_on_done _ ends = tt
+lets_go_on_done served ends = grind arith
 
 pub finished_sound : {path : List ℕ} (m : ℕ) {n : ℕ} (served : Result (Unit {0}) EnumFault)
     (result : Result (Unit {0}) HostFault) (a b c : HostState) → HostSteps m a b → HostSteps n b c
@@ -652,8 +558,7 @@ finished_sound m {n = n} served (Ok tt) a b c first second options ends x y = re
 -- as long as the bus is at work, it did not give up
 pub fault_after-no_bus : (A : Type 0) (fault : PipeFault) (old new : World)
     → FaultAfter 1 old fault new → new.fault ≡ None → IsNoBusFault {A = A} (Err fault)
-fault_after-no_bus A (pipe.Bus fault) old new told still = absurd (cc (still, told.told))
-fault_after-no_bus A _ old new told still = tt
+fault_after-no_bus A fault old new told still = grind arith
 
 -- A port is told to pass nothing on
 
@@ -675,8 +580,7 @@ module _ {n : ℕ} {path : List ℕ} {port : KnownPort} {a b : HostState} (s : S
   told_but : {result : Result (Unit {0}) PipeFault}
       → CommandsPort port.port (clear_call PORT_ENABLE) a.world result b.world
       → (b.world.fault ≡ None → IsNoBusFault result) → IsSoundBut path b
-  told_but calls sound = sound_rests_but a r went addresses devices
-      (λ still. calls.rests claimed.claims path ClearEnable is_call (sound still)) d.but
+  told_but calls sound = search (is_call, sound_rests_but, calls.rests)
 
   pub told_backlog : {result : Result (Unit {0}) PipeFault}
       → CommandsPort port.port (clear_call PORT_ENABLE) a.world result b.world → IsNoBusFault result
@@ -689,7 +593,7 @@ module _ {n : ℕ} {path : List ℕ} {port : KnownPort} {a b : HostState} (s : S
   told_dropped calls = record {
     but = told_but calls (λ still. tt);
     there = λ still. disabled_known path Lost a.world b.world
-        (calls.done claimed.claims path ClearEnable is_call refl)
+        (search (is_call, calls.done))
         (d.there (went_before went still));
   }
 
@@ -702,30 +606,14 @@ module _ {n : ℕ} {path : List ℕ} {port : KnownPort} {a b : HostState} (s : S
     where
       by_parent : (o : Option (List ℕ)) → parent_of path ≡ o
           → IsSomeAnd o (λ hub. IsDroppable hub b)
-      by_parent None above = absurd (root_done path a.entries PORT_ENABLE a.world b.world fault None
-          above refl (rw above at s.known) cleared)
-      by_parent (Some hub) above = droppable_above path hub b above (rests_known r s)
-          (rests_agrees r s) (told_but calls
-          (fault_after-no_bus (Unit {0}) fault a.world b.world told))
+      by_parent None above = grind arith
+      by_parent (Some hub) above =
+          search (droppable_above, fault_after-no_bus, rests_agrees, rests_known, told_but)
 
 -- a hub that may be dropped stands at a port
 pub nowhere_dropped : {path : List ℕ} {h : HostState} → StandsNowhere path h → IsDroppable path h
     → ⊥
-nowhere_dropped {path = path} {h = h} s d = by_parent (parent_of path) refl
-  where
-    known : IsSome (known_port path h.entries)
-    known = by_found (finding_at path h.entries) refl d.listed
-      where
-        by_found : (o : Option Finding) → finding_at path h.entries ≡ o → IsSome o
-            → IsSome (known_port path h.entries)
-        by_found None at some = absurd (cc some)
-        by_found (Some f) at some = s.agrees.nested.each path f at
-
-    by_parent : (o : Option (List ℕ)) → parent_of path ≡ o → ⊥
-    by_parent None above =
-        let most = rw (ap root_of (root_alone path s.is.0 above)) at (d.but.rooted path d.listed) in
-        absurd (omega (arith, s.beyond above))
-    by_parent (Some hub) above = absurd (cc (rw (s.unknown (rw above refl)) at known))
+nowhere_dropped s d = grind (arith, root_alone)
 
 -- The hub is forgotten, and listed as lost
 
@@ -734,12 +622,7 @@ module _ {lost : List ℕ} {b d : HostState} (l : LostListed lost b d) (x : IsDr
   still_there still = ap (λ (w : World). w.fault) (sym (lost_world l)) ∙ still
 
   lost_known : d.world.fault ≡ None → PortsListed d.world d.entries
-  lost_known still =
-      let dropped : KnownBut lost b.world l.left.entries =
-      rw l.forgot.rest (known_dropped lost b.world b.entries (x.but.known (still_there still))) in
-      rw (lost_world l) (rw (lost_entries l) (known_found lost (Refused Lost) l.left.entries
-      l.path.0
-      l.forgot.gone b.world dropped (x.there (still_there still)) (λ m has. absurd has)))
+  lost_known still = grind (arith, known_dropped, known_found)
 
   lost_truthful : d.world.fault ≡ None → DevicesAccurate d.options d.world d.entries
   lost_truthful still =
@@ -748,8 +631,7 @@ module _ {lost : List ℕ} {b d : HostState} (l : LostListed lost b d) (x : IsDr
       (x.but.truthful (still_there still))) in
       rw (lost_options l, lost_world l) (rw (lost_entries l) (truthful_found lost (Refused Lost)
       l.left.entries l.path.0 l.forgot.gone b.world dropped
-      (λ device s at on stands. absurd (cc
-      (ap accepted_device_of (lookup-insert_entry_here lost (Refused Lost) l.left.entries), at)))))
+      (grind (arith, lookup-insert_entry_here))))
 
   lost_level : d.world.fault ≡ None → AllInSync (table_in d) d.world
   lost_level still =
@@ -761,8 +643,8 @@ module _ {lost : List ℕ} {b d : HostState} (l : LostListed lost b d) (x : IsDr
       → DropsHub hub a (Ok tt) d → HostInvariant d
   lost_sound_there {hub = hub} p drops = record {
     owned = drops.ends p.but.owned;
-    rooted = drops.rooted p.but.rooted (p.but.rooted hub p.listed);
-    order = λ still. subst IsOrderly (sym (lost_world l)) (x.but.order (still_there still));
+    rooted = grind arith;
+    order = grind arith;
     known = lost_known;
     truthful = lost_truthful;
     level = lost_level;

@@ -1,23 +1,22 @@
 -- What is known of ports and devices, as nothing is asked of them, and as entries go and one comes.
 use Rattle.std.proofs.Common.{◌≡◌, ◌⊎◌, inl, inr, List, [], ◌∷◌, ℕ, zero, suc, true, false, Option}
-use Rattle.std.proofs.Common.{None, Some, option_map, refl, ap, sym, subst, ◌∙◌, IfSome, ◌≤◌, ◌+◌}
-use Rattle.std.proofs.Common.{◌-◌, ◌++◌, length, take, Bool, not, if◌then◌else◌, arith, append-nil}
+use Rattle.std.proofs.Common.{None, Some, option_map, refl, ap, sym, subst, ◌∙◌, ◌≤◌, ◌+◌, ◌-◌}
+use Rattle.std.proofs.Common.{◌++◌, length, take, Bool, if◌then◌else◌, arith, append-nil}
 use Rattle.std.proofs.Common.{length-append, IsSomeAnd}
 use Rattle.std.specs.Prelude.{⊤, unwrap_or}
 use Rattle.usb_resources.specs.{Addresses}
 use Rattle.usb_device.specs.{State, Location, path_to, reach_on, state_on, state_there}
-use Rattle.usb_world.specs.{KeepsPendingAt, Was, spec_of, SameAt, LeavesPortAlone}
-use Rattle.usb_world.specs.{SameDeviceOrPending, Course, World, roots_of}
+use Rattle.usb_world.specs.{KeepsPendingAt, Was, spec_of, LeavesPortAlone, SameDeviceOrPending}
+use Rattle.usb_world.specs.{Course, World, roots_of}
 use Rattle.usb_tree.specs.{has_power, pending, is_way, same_number}
 use Rattle.usb_world.proofs.Interface.{course_wider, pending_persists, rests_or_pends}
 use Rattle.usb_world.proofs.Interface.{stands_or_pends, at_or_below_way, way_itself, way_parent}
 use Rattle.usb_world.proofs.Interface.{way_rest, way_trans}
 use Rattle.usb_tree.proofs.Interface.{false_true, and_of, both, decided}
-use Rattle.usb_enum.specs.{Cause, Accepted, Finding, IsRight, IsThere, IsKnownAs, HostOptions}
-use Rattle.usb_enum.specs.declared.finding.Finding.TheVariants.{Device, Refused}
+use Rattle.usb_enum.specs.{Cause, Accepted, Finding, IsRight, IsKnownAs, HostOptions}
+use Rattle.usb_enum.specs.declared.finding.Finding.TheVariants.{Refused}
 use Rattle.usb_table.specs.{Entries, finding_at, IsListedPort, tier_of, SameDevice, KnownPort}
 use Rattle.usb_table.specs.{has_at, without, accepted_device_of, hub_facts_in, IsPortBelow}
-use Rattle.usb_enum.proofs.Interface.{some_of}
 use Rattle.usb_host.specs.{PortsListed, known_supply, IsTruthOf, IsAccurateAt, DevicesAccurate}
 use Rattle.usb_host.specs.{IsJustifiedAt, RefusalsJustified, Elsewhere, KnownBut, TruthfulBut}
 use Rattle.usb_host.specs.{CausesBut, EachStill, EachStillBut, Accounted}
@@ -35,43 +34,26 @@ use Rattle.usb_host.proofs.entries.Agreements.{lookup-insert_entry_here}
 
 pub none_same : {o : Option State} (u : Option State) → option_map spec_of u ≡ option_map spec_of o
     → o ≡ None → u ≡ None
-none_same None e h = refl
-none_same (Some s) e h = absurd (cc (e, ap (option_map spec_of) h))
-
-there_same : (w v : World) (path : List ℕ) (o : Option Finding) → SameAt w.roots v.roots path
-    → IsThere w path o → IsThere v path o
-there_same w v path None same h = none_same (state_there v.roots path) same.what h
-there_same w v _ (Some (Device _)) same h = same.on ∙ h
-there_same w v path (Some (Refused _)) same h = (
-  some_of (state_there w.roots path) (state_there v.roots path) same.what h.0,
-  subst (λ o. IfSome o (λ b. b.enable ≡ false)) (sym same.port) h.1,
-)
+none_same u e h = grind arith
 
 -- a port that is known as something is so after a course that asks nothing of it
 pub known_stays : (path : List ℕ) (o : Option Finding) (w v : World)
     → Course (LeavesPortAlone path) w v → IsKnownAs w path o → IsKnownAs v path o
 known_stays path o w v c (inl pends) =
     inl (pending_persists path (course_wider (λ s u x. x.spares) c) pends)
-known_stays path o w v c (inr here) = elim (rests_or_pends path c here.0) [
-  | inl rests ↦ inr (rests.0, there_same w v _ o rests.1 here.1)
-  | inr pends ↦ inl pends
-]
+known_stays path o w v c (inr here) = grind (arith, rests_or_pends)
 
 -- Each port
 
 pub known_each : (w v : World) (entries : Entries) → roots_of v ≡ roots_of w
     → ((path : List ℕ) → IsListedPort (roots_of w) entries path → Course (LeavesPortAlone path) w v)
     → PortsListed w entries → PortsListed v entries
-known_each w v entries roots calm known path port =
-    let was = rw roots at port in
-    known_stays path (finding_at path entries) w v (calm path was) (known path was)
+known_each w v entries roots calm known = grind (arith, known_stays)
 
 pub known_but_each : (first : List ℕ) (w v : World) (entries : Entries) → roots_of v ≡ roots_of w
     → Elsewhere first (λ path. Course (LeavesPortAlone path) w v) → KnownBut first w entries
     → KnownBut first v entries
-known_but_each _ w v entries roots calm known path away port =
-    let was = rw roots at port in
-    known_stays path (finding_at path entries) w v (calm path away) (known path away was)
+known_but_each first w v entries roots calm known = grind (arith, known_stays)
 
 -- Accepted devices
 
@@ -81,21 +63,14 @@ tells_still : {options : HostOptions} {entries : Entries} {path : List ℕ} {dev
     (v : State)
     → SameDevice j s v → IsTruthOf options entries path device s
     → IsTruthOf options entries path device v
-tells_still j v still t = record {
-  found = rw still.spec t.found;
-  set = record {
-    address = still.address ∙ t.set.address;
-    configuration = still.configuration ∙ t.set.configuration;
-  };
-}
+tells_still j v still t = grind arith
 
 is_told_at-stays : {options : HostOptions} (j : Location) (w v : World) (entries : Entries)
     → ((s : State) → reach_on v.roots j ≡ true → state_on v.roots j ≡ Some s
     → Was SameDevice w j s) → IsAccurateAt options w entries (path_to j)
     → IsAccurateAt options v entries (path_to j)
 is_told_at-stays j w v _ was told device s at on stands =
-    let x : Was SameDevice w j s = was s on stands in
-    tells_still j s x.so (told device x.before at x.on x.stands)
+    let x : Was SameDevice w j s = was s on stands in search tells_still
 
 pub truthful_stays : {options : HostOptions} (w v : World) (entries : Entries) → EachStill w v
     → DevicesAccurate options w entries
@@ -112,7 +87,7 @@ truthful_but_stays _ w v _ _ _ (zero ∷ p) _ =
     λ _ s _ on _. false_true on
 truthful_but_stays _ w v entries each told (suc j ∷ p) away =
     is_told_at-stays (record { row = j; rest = p }) w v entries
-    (λ s. each (record { row = j; rest = p }) s away) (told (suc j ∷ p) away)
+    (grind arith) (told (suc j ∷ p) away)
 
 -- Refused devices
 
@@ -145,7 +120,7 @@ cause_stands options path entries w v pends stands known caused cause s at there
     stood : SameDeviceOrPending w v path → (pending v.roots path ≡ true)
         ⊎ IsRight ⊤ s.spec options (tier_of path) (known_supply path entries) (Refused cause)
     stood (inl x) = is_caused_at-kept options path entries w v cause s pends caused at
-        (state_there w.roots path) refl (sym (ap (option_map spec_of) there) ∙ x.1)
+        (state_there w.roots path) refl (grind arith)
     stood (inr x) = inl x
 
     pick : IsKnownAs w path (finding_at path entries) → (pending v.roots path ≡ true)
@@ -157,9 +132,7 @@ cause_stands options path entries w v pends stands known caused cause s at there
 pub cause_stays : (options : HostOptions) (path : List ℕ) (entries : Entries) {w v : World}
     → Course (KeepsPendingAt path) w v → IsKnownAs w path (finding_at path entries)
     → IsJustifiedAt options w entries path → IsJustifiedAt options v entries path
-cause_stays options path entries {w = w} {v = v} c = cause_stands options path entries w v
-    (pending_persists path c)
-    (stands_or_pends path c)
+cause_stays options path entries c h h1 = search (cause_stands, pending_persists, stands_or_pends)
 
 -- each refused device stands at a port that is known
 pub causes_stay : {options : HostOptions} (w v : World) {entries : Entries} {addresses : Addresses}
@@ -204,18 +177,15 @@ way_hub (m ∷ p) (k ∷ hub) n le h =
 
 pub finding-dropped : (first path : List ℕ) (es : Entries) → is_way first path ≡ true
     → finding_at path (without first es) ≡ None
-finding-dropped first path es way = lookup-without path first es
-    (ap not (at_or_below_way path first ∙ way))
+finding-dropped first path es way = grind (arith, at_or_below_way, lookup-without)
 
 pub finding-kept : (first path : List ℕ) (es : Entries) → is_way first path ≡ false
     → finding_at path (without first es) ≡ finding_at path es
-finding-kept first path es away = lookup-without path first es
-    (ap not (at_or_below_way path first ∙ away))
+finding-kept first path es away = grind (arith, at_or_below_way, lookup-without)
 
 pub finding-none : (first path : List ℕ) (es : Entries) → has_at first es ≡ false
     → is_way first path ≡ true → finding_at path es ≡ None
-finding-none first path es gone way = lookup-none_there first path es gone
-    (at_or_below_way path first ∙ way)
+finding-none first path es gone way = grind (arith, at_or_below_way, lookup-none_there)
 
 pub untied : (first path : List ℕ) → is_way first path ≡ false → is_at (path_cmp path) first ≡ false
 untied first path away = elim (decided (is_at (path_cmp path) first)) [
@@ -226,26 +196,13 @@ untied first path away = elim (decided (is_at (path_cmp path) first)) [
 -- the hub of a path that stands elsewhere stands elsewhere
 hub_elsewhere : (first path hub : List ℕ) → parent_of path ≡ Some hub → is_way first path ≡ false
     → is_way first hub ≡ false
-hub_elsewhere first path hub is away = elim (decided (is_way first hub)) [
-  | inl way ↦ false_true (sym away ∙ way_trans first hub path way (way_parent path _ is))
-  | inr apart ↦ apart
-]
-
-port_as : (roots : ℕ) (es fs : Entries) (n : ℕ) (o : Option (List ℕ))
-    → ((hub : List ℕ) → o ≡ Some hub → finding_at hub es ≡ finding_at hub fs)
-    → IsPortBelow roots es o n → IsPortBelow roots fs o n
-port_as _ _ _ n None _ h = h
-port_as _ _ _ n (Some hub) same h = rw (same hub refl) at h
+hub_elsewhere first path hub is away = grind (arith, way_parent, way_trans)
 
 -- a port is listed as long as its hub is
 pub listed_as : {roots : ℕ} {es : Entries} (fs : Entries) (path : List ℕ)
     → ((hub : List ℕ) → parent_of path ≡ Some hub → finding_at hub es ≡ finding_at hub fs)
     → IsListedPort roots es path → IsListedPort roots fs path
-listed_as {roots = roots} {es = es} fs path same port =
-    record {
-      some = port.some;
-      port = port_as roots es fs (port_on_hub path) (parent_of path) same port.port;
-    }
+listed_as fs path same port = grind arith
 
 -- The ports at a path and below it
 
@@ -263,22 +220,15 @@ split_by : (first path rest : List ℕ) → 1 ≤ length first → is_way first 
     ⊎ ((hub : List ℕ) × (parent_of path ≡ Some hub) × (is_way first hub ≡ true))
 split_by first path [] some way is = inl (is ∙ append-nil first)
 split_by first path (n ∷ rest) some way is =
-    let long : length path ≡ length first + length (n ∷ rest) = ap length is ∙ length-append first
-    (n ∷ rest) in
+    let long : length path ≡ length first + length (n ∷ rest) = grind (arith, length-append) in
     let above = parent_some path (omega arith) in
     let joined = rejoined path _ above.1 in
-    let short : length path ≡ length above.0 + 1 = ap length joined ∙ length-append above.0
-    (port_on_hub path ∷ []) in
-    inr (
-      above.0,
-      above.1,
-      way_hub first above.0 (port_on_hub path) (omega arith) (rw joined at way),
-    )
+    let short : length path ≡ length above.0 + 1 =
+    grind (arith, length-append) in grind (arith, way_hub)
 
 split : (first path : List ℕ) → 1 ≤ length first → is_way first path ≡ true → (path ≡ first)
     ⊎ ((hub : List ℕ) × (parent_of path ≡ Some hub) × (is_way first hub ≡ true))
-split first path some way = let rest = way_rest first path way in
-    split_by first _ rest.0 some way rest.1
+split first path some way = grind (arith, split_by, way_rest)
 
 -- what is known elsewhere, at the path, and of the ports of hubs there and below it, is known
 pub known_whole : (first : List ℕ) (w : World) (es : Entries) → 1 ≤ length first
@@ -295,35 +245,20 @@ known_whole first w es some others here below path port = elim (decided (is_way 
 
 -- Entries go
 
-none_below : {roots : ℕ} (es : Entries) (path hub : List ℕ) → parent_of path ≡ Some hub
-    → finding_at hub es ≡ None → IsListedPort roots es path → ⊥
-none_below {roots = roots} es path hub is none port =
-    let below : IsPortBelow roots es (Some hub) (port_on_hub path) =
-    rw is at port.port in
-    rw none at below
-
 pub known_dropped : (first : List ℕ) (w : World) (es : Entries) → KnownBut first w es
     → KnownBut first w (without first es)
-known_dropped first w es known path away port =
-    let was = listed_as es _
-    (λ hub is. finding-kept first hub es (hub_elsewhere first path _ is away)) port in
-    rw (finding-kept first path es away) (known path away was)
+known_dropped first w es known = search (finding-kept, hub_elsewhere, listed_as)
 
 -- nothing is listed at a path and below it, and nothing stands there
 pub known_vacant : (first : List ℕ) (w : World) (es : Entries) → 1 ≤ length first
     → has_at first es ≡ false → KnownBut first w es → IsKnownAs w first None → PortsListed w es
-known_vacant first w es some gone known here =
-    known_whole first w es some known (rw (finding-none first first es gone (way_itself first))
-    here)
-    (λ _ hub is way port. absurd (none_below _ _ _ is (finding-none first hub es gone way)
-    port))
+known_vacant first w es some gone known here = grind (arith, finding-none, known_whole, way_itself)
 
 is_told_at-same : {options : HostOptions} (w : World) (es fs : Entries) (path : List ℕ)
     → finding_at path fs ≡ finding_at path es → known_supply path fs ≡ known_supply path es
     → IsAccurateAt options w es path → IsAccurateAt options w fs path
 is_told_at-same w _ _ _ same supply told device s at on stands =
-    let t = told device s (ap accepted_device_of (sym same) ∙ at) on stands in
-    record { found = rw supply t.found; set = t.set }
+    let t = told device s (ap accepted_device_of (sym same) ∙ at) on stands in grind arith
 
 caused_as : (options : HostOptions) (w : World) (es fs : Entries) (path : List ℕ)
     → finding_at path fs ≡ finding_at path es
@@ -338,13 +273,11 @@ caused_as options w es fs path same supply caused cause s at stands =
 supply_known : (path : List ℕ) {o u : Option KnownPort} → o ≡ u
     → unwrap_or (option_map (λ (known : KnownPort). known.supply) o) 0
     ≡ unwrap_or (option_map (λ (known : KnownPort). known.supply) u) 0
-supply_known _ e = ap (λ (x : Option KnownPort). unwrap_or
-    (option_map (λ (known : KnownPort). known.supply) x) 0) e
+supply_known path e = grind arith
 
 supply-kept : (first path : List ℕ) (es : Entries) → is_way first path ≡ false
     → known_supply path (without first es) ≡ known_supply path es
-supply-kept first path es away = supply_known path
-    (known_away path first es (at_or_below_way path first ∙ away))
+supply-kept first path es away = search (at_or_below_way, known_away, supply_known)
 
 pub truthful_dropped : {options : HostOptions} (first : List ℕ) (w : World) (es : Entries)
     → TruthfulBut options first w es
@@ -379,9 +312,7 @@ module _ (first : List ℕ) (f : Finding) (es : Entries) (some : 1 ≤ length fi
 
   supply-entered : (path : List ℕ) → is_way first path ≡ false
       → known_supply path entered ≡ known_supply path es
-  supply-entered path away = supply_known path
-      (known_entered path first f es (λ hub is. untied first hub
-      (hub_elsewhere first path _ is away)))
+  supply-entered path away = grind (arith, hub_elsewhere, known_entered, untied)
 
   -- below it stands nothing yet
   finding-below : (path hub : List ℕ) → parent_of path ≡ Some hub → is_way first hub ≡ true
@@ -390,10 +321,9 @@ module _ (first : List ℕ) (f : Finding) (es : Entries) (some : 1 ≤ length fi
       let short : length path ≡ length hub + 1 = ap length (rejoined path _ is) ∙ length-append
       hub (port_on_hub path ∷ []) in
       let rest = way_rest first hub way in
-      let long : length hub ≡ length first + length rest.0 = ap length rest.1 ∙ length-append first
-      rest.0 in
+      let long : length hub ≡ length first + length rest.0 = grind (arith, length-append) in
       finding-entered path (longer path (omega arith) _ refl)
-      ∙ finding-none first path es gone (way_trans first hub path way (way_parent path _ is))
+      ∙ finding-none first path es gone (search (way_parent, way_trans))
     where
       longer : (path : List ℕ) → length first + 1 ≤ length path → (b : Bool)
           → is_at (path_cmp path) first ≡ b → is_at (path_cmp path) first ≡ false
@@ -402,11 +332,7 @@ module _ (first : List ℕ) (f : Finding) (es : Entries) (some : 1 ≤ length fi
       longer _ _ false tie = tie
 
   known_but_entered : (w : World) → KnownBut first w es → KnownBut first w entered
-  known_but_entered w known path away port =
-      let was = listed_as es _
-      (λ hub is. finding-entered hub (untied first hub (hub_elsewhere first path _ is away)))
-      port in
-      rw (finding-entered path (untied first path away)) (known path away was)
+  known_but_entered w known = grind (arith, finding-entered, hub_elsewhere, untied)
 
   -- and each port of what was found, where that is a hub, is vacant or pending
   pub known_found : (w : World) → KnownBut first w es → IsKnownAs w first (Some f)
@@ -425,15 +351,10 @@ module _ (first : List ℕ) (f : Finding) (es : Entries) (some : 1 ≤ length fi
           let at : IsPortBelow (roots_of w) entered (Some first) (port_on_hub path) =
           rw (path_tied hub first tie) at (rw is at port.port) in
           let own : IsSomeAnd (hub_facts_in (Some f)) (λ facts. (1 ≤ port_on_hub path)
-          × (port_on_hub path ≤ facts.ports)) =
-          subst (λ (x : Option Finding). IsSomeAnd (hub_facts_in x) (λ facts. (1 ≤ port_on_hub path)
-          × (port_on_hub path ≤ facts.ports))) (lookup-insert_entry_here first f es) at in
+          × (port_on_hub path ≤ facts.ports)) = grind (arith, lookup-insert_entry_here) in
           let joined : path ≡ first ++ port_on_hub path ∷ [] = rejoined path _ is ∙ ap
-          (λ (l : List ℕ). l ++ port_on_hub path ∷ []) (path_tied hub first tie) in
-          rw joined (ports (port_on_hub path) own)
-      below _ hub is way port false apart =
-          absurd (none_below _ _ _ is (finding-entered hub apart ∙ finding-none first hub
-          es gone way) port)
+          (λ (l : List ℕ). l ++ port_on_hub path ∷ []) (path_tied hub first tie) in grind arith
+      below _ hub is way port false apart = grind (arith, finding-entered, finding-none)
 
   pub truthful_found : {options : HostOptions} (w : World) → DevicesAccurate options w es
       → IsAccurateAt options w entered first
@@ -441,10 +362,7 @@ module _ (first : List ℕ) (f : Finding) (es : Entries) (some : 1 ≤ length fi
   truthful_found w told here path = elim (decided (is_at (path_cmp path) first)) [
     | inl tie ↦ rw (path_tied path first tie) here
     | inr apart ↦ elim (decided (is_way first path)) [
-      | inl way ↦ λ device s at on stands. absurd (cc (
-        ap accepted_device_of (finding-entered path apart ∙ finding-none first path es gone way),
-        at,
-      ))
+      | inl way ↦ λ device s at on stands. absurd (grind (arith, finding-entered, finding-none))
       | inr away ↦ is_told_at-same w es entered path (finding-entered path apart)
           (supply-entered path away) (told path)
     ]

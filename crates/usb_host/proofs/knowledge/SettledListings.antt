@@ -1,11 +1,9 @@
 -- Where nothing is left to do, a host that knows its ports lists what is plugged.
 use Rattle.std.proofs.Common.{◌≡◌, ◌⊎◌, inl, inr, ◌≤◌, ◌-◌, ℕ, zero, suc, Bool, true, false, List}
-use Rattle.std.proofs.Common.{[], ◌∷◌, length, Option, None, Some, option_map, if◌then◌else◌, refl}
-use Rattle.std.proofs.Common.{ap, sym, subst, ◌∙◌, arith, IsSome, IsSomeAnd}
+use Rattle.std.proofs.Common.{[], ◌∷◌, Option, None, Some, option_map, refl, ap, subst, ◌∙◌, arith}
+use Rattle.std.proofs.Common.{IsSome, IsSomeAnd}
 use Rattle.std.specs.Prelude.{⊤, unwrap_or}
-use Rattle.std.proofs.lemmas.Bool.{le-leb}
-use Rattle.std.proofs.lemmas.List.Elements.{All-get_or}
-use Rattle.usb_port.specs.{parent_of, port_on_hub, IsPath, IsPortNumber}
+use Rattle.usb_port.specs.{port_on_hub, IsPath, IsPortNumber}
 use Rattle.usb_resources.specs.{Addresses, IsAddress, supply_of}
 use Rattle.usb_device.specs.{State, Spec, Ports, vacant, taken, reach, reach_at, state_at}
 use Rattle.usb_device.specs.{state_there}
@@ -13,17 +11,16 @@ use Rattle.usb_tree.specs.{pending}
 use Rattle.usb_world.specs.{spec_of, hub_ports, World, roots_of}
 use Rattle.usb_world.proofs.Interface.{same_is}
 use Rattle.usb_tree.proofs.Interface.{both, false_true}
-use Rattle.usb_enum.specs.{Cause, Accepted, Finding, HubFacts, facts_of, IsRight, is_hub_device}
-use Rattle.usb_enum.specs.{IsThere, IsKnownAs, HostOptions}
+use Rattle.usb_enum.specs.{Cause, Accepted, Finding, HubFacts, facts_of, IsRight, IsThere}
+use Rattle.usb_enum.specs.{IsKnownAs, HostOptions}
 use Rattle.usb_enum.specs.declared.finding.Finding.TheVariants.{Device, Refused}
 use Rattle.usb_table.specs.{KnownPort, Entries, accepted_device_of, port_below, port_found}
 use Rattle.usb_table.specs.{port_of_hub, is_below_hub, tree_in, finding_at, entry_address}
 use Rattle.usb_table.specs.{hub_facts_in, IsPortBelow, IsListedPort, tier_of, supply_below}
 use Rattle.usb_table.specs.{supply_at, ListsEach, Matches}
-use Rattle.usb_table.proofs.Interface.{FoundPort, port_found-some}
 use Rattle.usb_host.specs.{PortsListed, known_supply, IsTruthOf, DevicesAccurate, RefusalsJustified}
 use Rattle.usb_host.specs.{Accounted, IsAtRest}
-use Rattle.usb_host.proofs.entries.Agreements.{claims_distinct, claims_taken}
+use Rattle.usb_host.proofs.entries.Agreements.{claims_distinct}
 
 -- A reachable device stands
 
@@ -39,69 +36,33 @@ reached_at _ _ _ h = false_true h
 
 pub reached_there : (k : Ports) (p : List ℕ) → reach k p ≡ true → (s : State)
     × (state_there k p ≡ Some s)
-reached_there k (suc i ∷ p) h = reached_at k i p h
-reached_there k _ h = false_true h
+reached_there k p h = grind (arith, reached_at)
 
 -- Entries stand at listed ports
 
 pub port_number : (path : List ℕ) → IsPath path → IsPortNumber (port_on_hub path)
 unfolding port_on_hub
-port_number path is = All-get_or IsPortNumber path (length path - 1) 0 (omega (arith, is.0)) is.2
-
-port_found-facts : (o : Option Finding) (below : Bool) (n : ℕ) → 1 ≤ n
-    → IsSome (port_found o below n) → IsSomeAnd (hub_facts_in o) (λ facts. (1 ≤ n)
-    × (n ≤ facts.ports))
-port_found-facts o below n least h = pick (port_found o below n) refl h
-  where
-    pick : (found : Option KnownPort) → port_found o below n ≡ found → IsSome found
-        → IsSomeAnd (hub_facts_in o) (λ facts. (1 ≤ n) × (n ≤ facts.ports))
-    pick None e h = absurd cc
-    pick (Some port) e h =
-        let x : FoundPort o below n port = port_found-some o below n _ e in
-        rw (ap hub_facts_in x.stands ∙ x.told) (least, x.most)
-
-pub port_below_hub : (roots : ℕ) (entries : Entries) (n : ℕ) (o : Option (List ℕ)) → 1 ≤ n
-    → (o ≡ None → n ≤ roots) → IsSome (port_below o n entries) → IsPortBelow roots entries o n
-port_below_hub roots entries n None least most h = (least, most refl)
-port_below_hub roots entries n (Some hub) least most h =
-    port_found-facts (finding_at hub entries) (is_below_hub hub) n least h
+port_number path is = grind arith
 
 module _ {options : HostOptions} (w : World) {entries : Entries} {addresses : Addresses}
     (accounted : Accounted options (roots_of w) entries addresses) where
   pub listed_port : (path : List ℕ) (f : Finding) → finding_at path entries ≡ Some f
       → IsListedPort (roots_of w) entries path
-  listed_port path f at =
-      let some : IsSome (finding_at path entries) = rw at refl in
-      let is = accounted.agrees.nested.path path f at in
-      record {
-        some = is.0;
-        port = port_below_hub (roots_of w) entries (port_on_hub path) (parent_of path)
-            (port_number path is).0 (accounted.root path some)
-            (accounted.agrees.nested.each path f at);
-      }
+  listed_port path f at = grind (arith, port_number)
 
   pub listed_address : (path : List ℕ) (address : ℕ) → entry_address path entries ≡ Some address
       → IsAddress address
-  listed_address path address at = accounted.agrees.range address
-      (claims_taken accounted.agrees.accounts path _ at)
+  listed_address path address at = grind arith
 
   listed_once : (path other : List ℕ) (address : ℕ) → entry_address path entries ≡ Some address
       → entry_address other entries ≡ Some address → path ≡ other
-  listed_once path other address at same =
-      sym (same_is path other (claims_distinct _ _ accounted.agrees.accounts path
-      other address at same))
+  listed_once path other address at same = grind (arith, claims_distinct, same_is)
 
 -- What is known where nothing is pending
 
-device_is : (o : Option Finding) (device : Accepted) → accepted_device_of o ≡ Some device
-    → o ≡ Some (Device device)
-device_is (Some (Device d)) device h = cc h
-device_is _ device h = absurd cc
-
 there : (w : World) (path : List ℕ) (o : Option Finding) → pending w.roots path ≡ false
     → IsKnownAs w path o → IsThere w path o
-there w path o none (inl pends) = false_true (sym none ∙ pends)
-there w path o none (inr h) = h.1
+there w path o none h = grind arith
 
 tree_in-spec : (w : World) (path : List ℕ) {s : State} → state_there w.roots path ≡ Some s
     → tree_in w path ≡ Some s.spec
@@ -113,8 +74,7 @@ supply_of_hub : (device : Accepted) (below : Bool) (n : ℕ) (o : Option HubFact
     → IsSomeAnd o (λ facts. (1 ≤ n) × (n ≤ facts.ports)) → (facts : HubFacts) × (o ≡ Some facts)
     × (unwrap_or (option_map (λ (known : KnownPort). known.supply) (port_of_hub device o below n)) 0
     ≡ facts.supply)
-supply_of_hub device below n None h = absurd h
-supply_of_hub device below n (Some facts) h = (facts, refl, rw (le-leb n facts.ports h.1) refl)
+supply_of_hub device below n o h = grind arith
 
 -- the accepted hub of a finding that has the port
 record IsHubAt (o : Option Finding) (below : Bool) (n : ℕ) : Type 0 where
@@ -138,12 +98,7 @@ facts_in spec =
 
 pub facts_given : (spec : Spec) (facts : HubFacts) → facts_of spec ≡ Some facts
     → facts ≡ facts_in spec
-facts_given spec facts h = pick (is_hub_device spec.descriptor) h
-  where
-    pick : (b : Bool) → (if b then Some (facts_in spec) else None) ≡ Some facts
-        → facts ≡ facts_in spec
-    pick true h = cc h
-    pick false h = absurd (cc h)
+facts_given spec facts h = grind arith
 
 -- The listing
 
@@ -158,13 +113,11 @@ module _ (options : HostOptions) (w : World) (entries : Entries) (addresses : Ad
     (rest : IsAtRest w entries) where
   there_at : {path : List ℕ} → IsListedPort (roots_of w) entries path
       → IsThere w path (finding_at path entries)
-  there_at {path = path} port = there w path (finding_at path entries) (rest.none_pending path port)
-      (known path port)
+  there_at port = grind arith
 
   reached : (path : List ℕ) (device : Accepted) → finding_at path entries ≡ Some (Device device)
       → reach w.roots path ≡ true
-  reached path device at = subst (IsThere w path) at
-      (there_at (listed_port w accounted path (Device device) at))
+  reached path device at = grind (arith, listed_port)
 
   -- an accepted device stands, and what is known of it is so
   told : (path : List ℕ) (device : Accepted) → finding_at path entries ≡ Some (Device device)
@@ -180,11 +133,7 @@ module _ (options : HostOptions) (w : World) (entries : Entries) (addresses : Ad
   supply_known None n h = refl
   supply_known (Some hub) n h =
       let x = facts_are_hub (finding_at hub entries) (is_below_hub hub) n h in
-      let t : _ = told hub x.device x.found in
-      let given = facts_given t.0.spec x.facts (sym t.2.found.1.hub ∙ x.told) in
-      x.gives ∙ ap (λ (f : HubFacts). f.supply) given ∙ sym (ap (λ o. supply_of false
-      (unwrap_or (option_map (λ (spec : Spec). spec.self_powered) o) false))
-      (tree_in-spec w hub t.1))
+      let t : _ = told hub x.device x.found in grind arith
 
   -- a refused device's cause, where it does not wait for an address that is free
   right_cause : (path : List ℕ) (cause : Cause) (s : State)
@@ -197,8 +146,7 @@ module _ (options : HostOptions) (w : World) (entries : Entries) (addresses : Ad
           ⊎ IsRight ⊤ s.spec options (tier_of path) (known_supply path entries) (Refused cause)
           → IsRight (ListsEach entries) s.spec options (tier_of path) (known_supply path entries)
           (Refused cause)
-      pick (inl pends) = false_true (sym (rest.none_pending path (listed_port w accounted path
-          (Refused cause) at)) ∙ pends)
+      pick (inl pends) = false_true (grind (arith, listed_port))
       pick (inr (inl x)) = inl x
       pick (inr (inr x)) = inr (record {
         none = rest.none_waiting path (at ∙ ap (λ f. Some f) x.refused);
@@ -217,16 +165,12 @@ module _ (options : HostOptions) (w : World) (entries : Entries) (addresses : Ad
           → IsRight (ListsEach entries) spec options (tier_of path) (supply_at (tree_in w) path) f
       moved s f stands right =
           let same : s.spec ≡ spec = cc (tree_in-spec w path stands, is) in
-          right_moved (ListsEach entries) _ _ _
-          f same (supply_known (parent_of path) (port_on_hub path) port.port) right
+          search (right_moved, supply_known)
 
       pick : (o : Option Finding) → finding_at path entries ≡ o
           → IsSomeAnd o (IsRight (ListsEach entries) spec options (tier_of path)
           (supply_at (tree_in w) path))
-      pick None at =
-          let none : state_there w.roots path ≡ None =
-          subst (IsThere w path) at (there_at port) in
-          absurd (cc (ap (option_map spec_of) none, is))
+      pick None at = grind arith
       pick (Some (Device device)) at = let t : _ = told path device at in
           moved _ (Device device) t.1 (inl t.2.found)
       pick (Some (Refused cause)) at = stood (state_there w.roots path) refl
@@ -240,29 +184,13 @@ module _ (options : HostOptions) (w : World) (entries : Entries) (addresses : Ad
 
   plugged_there : (path : List ℕ) (f : Finding) → finding_at path entries ≡ Some f
       → IsSome (tree_in w path)
-  plugged_there path (Device device) at = rw (told path device at).1 refl
-  plugged_there path (Refused cause) at =
-      stood (state_there w.roots path) (subst (IsThere w path) at
-      (there_at (listed_port w accounted path (Refused cause) at))).0
-    where
-      stood : (o : Option State) → IsSome o → IsSome (option_map spec_of o)
-      stood None h = h
-      stood (Some s) h = refl
+  plugged_there path f at = grind (arith, listed_port, told)
 
   pub settled_matches : Matches options w entries
   settled_matches =
       record {
-        lists = record {
-          rises = accounted.agrees.rises;
-          there = right_there;
-          nothing_else = λ path f at. (listed_port w accounted path f at, plugged_there path f at);
-          addresses = listed_address w accounted;
-          differ = listed_once w accounted;
-        };
-        reached = λ path device at. reached path device
-            (device_is (finding_at path entries) device at);
-        set = λ path device at. let t : _ =
-            told path device (device_is (finding_at path entries) device at) in rw t.1 t.2.set;
-        disabled = λ path cause at. (subst (IsThere w path) at
-            (there_at (listed_port w accounted path (Refused cause) at))).1;
+        lists = search (listed_address, listed_once, listed_port, plugged_there, right_there);
+        reached = grind (arith, reached);
+        set = λ path device at. grind (arith, told);
+        disabled = grind (arith, listed_port);
       }

@@ -1,21 +1,20 @@
 -- What a host knows stays so over the parts of a round, transfers and events.
-use Rattle.std.proofs.Common.{◌≡◌, ◌∙◌, refl, sym, ap, subst, ℕ, List, Bool, true, false, Option}
-use Rattle.std.proofs.Common.{None, Some, Result, Ok, Err, IsSome, is_some, inl, inr}
+use Rattle.std.proofs.Common.{arith, ◌≡◌, ◌∙◌, refl, sym, ap, subst, ℕ, List, Bool, true, false}
+use Rattle.std.proofs.Common.{Option, None, Result, Ok, Err, IsSome, inl, inr}
 use Rattle.std.specs.BTreeMap.{is_at}
 use Rattle.usb_port.specs.{path_cmp}
 use Rattle.usb_world.specs.{BusFault, event_taken, event, after, step, here as no_more, AnyStep}
 use Rattle.usb_world.specs.{World, roots_of}
 use Rattle.usb_tree.specs.{pending, is_way}
-use Rattle.usb_device.specs.{Location, Registers, State}
+use Rattle.usb_device.specs.{Location, State}
 use Rattle.usb_world.proofs.Interface.{course_wider, each_wider, first_fault, way_itself}
 use Rattle.usb_tree.proofs.Interface.{false_true, decided}
 use Rattle.usb_transaction.specs.{NoThreeDamaged}
-use Rattle.usb_backlog.proofs.Interface.{all_none}
 use Rattle.usb_address.specs.{KeepsAddresses, MapHolds, WhileBusWorks}
-use Rattle.usb_enum.specs.{Finding, IsKnownAs, IsOccupied, IsInOrder}
+use Rattle.usb_enum.specs.{Finding, IsOccupied, IsInOrder}
 use Rattle.usb_enum.proofs.Interface.{orderly_on, step_later, went_in_order}
-use Rattle.usb_table.specs.{Entries, finding_at, AllInSync, IsHeld, KeepsInSync, KeepsLevels}
-use Rattle.usb_table.specs.{OnlySets, OnlyTransfers, SameDevice, SameSettings, Table}
+use Rattle.usb_table.specs.{finding_at, AllInSync, IsHeld, KeepsInSync, KeepsLevels, OnlySets}
+use Rattle.usb_table.specs.{OnlyTransfers, SameDevice, SameSettings, Table}
 use Rattle.usb_table.proofs.Interface.{all_kept, path_tied}
 use Rattle.usb_host.specs.{HostFault, Round, Agrees, KeepsBulk, HostState, KeepsPlugs, StaysOwned}
 use Rattle.usb_host.specs.{table_in, HostSteps, HostRuns, PortsListed, DevicesAccurate, Accounted}
@@ -27,7 +26,7 @@ use Rattle.usb_host.proofs.devices.Pipes.{bulk_none, bulk_stopped, bulk_then}
 use Rattle.usb_host.proofs.parts.Events.{known_event, truthful_event, causes_event, level_event}
 use Rattle.usb_host.proofs.devices.Fairness.{fair_before, fair_after}
 use Rattle.usb_host.proofs.devices.Owners.{but_all, owning_kept, stays_kept}
-use Rattle.usb_host.proofs.devices.Plugs.{plugs_none, plugs_stopped, plugs_then}
+use Rattle.usb_host.proofs.devices.Plugs.{plugs_stopped, plugs_then}
 use Rattle.usb_host.proofs.entries.Roots.{accounted}
 use Rattle.usb_host.proofs.knowledge.SettledListings.{listed_port}
 use Rattle.usb_host.proofs.knowledge.Places.{known_each, truthful_stays, causes_stay}
@@ -39,19 +38,14 @@ use Rattle.usb_address.proofs.Interface.{event_keeps}
 -- One part after another
 
 pub sound_none : (h : HostState) → KeepsInvariant h h
-sound_none h = record { options = refl; sound = λ s. s; caused = λ s fair caused. caused }
+sound_none h = grind arith
 
 -- a transfer that did nothing
 pub transfer_none : (h : HostState) → TransferKeeps h h
-transfer_none h =
-    record { owning = λ o. o; sound = sound_none h; backlog = λ still. all_none h.world }
+transfer_none h = grind arith
 
 pub part_none : (h : HostState) → PartStays h h
-part_none h = record {
-  sound = sound_none h;
-  bulk = λ s still. bulk_none h;
-  plugs = λ s still. plugs_none h;
-}
+part_none h = grind (arith, bulk_none)
 
 pub part_then : (m : ℕ) {n : ℕ} (a b c : HostState) → HostSteps m a b → HostSteps n b c
     → PartStays a b → PartStays b c → PartStays a c
@@ -75,10 +69,7 @@ occupied_at : (path : List ℕ) (h : HostState) → Accounted h.options (roots_o
     h.addresses
     → PortsListed h.world h.entries → (o : Option Finding) → finding_at path h.entries ≡ o
     → IsSome o → IsOccupied h.world path
-occupied_at path h fits known None at some = absurd (cc some)
-occupied_at path h fits known (Some f) at some =
-    occupied_by h.world path f (subst (IsKnownAs h.world path) at
-    (known path (listed_port h.world fits path f at)))
+occupied_at path h fits known o at some = grind (arith, listed_port, occupied_by)
 
 is_way-apart : (path other : List ℕ) → is_way path other ≡ false
     → is_at (path_cmp path) other ≡ false
@@ -104,7 +95,7 @@ module _ {n : ℕ} {path : List ℕ} {ends : Type 0} {a b : HostState} (call : P
     before still = went_before call.went still
 
     pub stays_under : StaysOwned a b
-    stays_under = stays_kept a b call.same call.went.spends.roots call.levels.worlds.addresses
+    stays_under = grind (arith, stays_kept)
 
     held : HostInvariant a → b.world.fault ≡ None → IsHeld (table_in a) a.world
     held s still = s.owned.so (before still)
@@ -112,13 +103,13 @@ module _ {n : ℕ} {path : List ℕ} {ends : Type 0} {a b : HostState} (call : P
     pub known_under : HostInvariant a → b.world.fault ≡ None → PortsListed b.world b.entries
     known_under s still =
         rw call.same (known_each a.world b.world a.entries call.went.spends.roots
-        (λ path port. call.levels.worlds.rests still path) (s.known (before still)))
+        (grind arith) (s.known (before still)))
 
     pub truthful_under : HostInvariant a → b.world.fault ≡ None
         → DevicesAccurate b.options b.world b.entries
     truthful_under s still =
         rw (call.width, call.same) (truthful_stays a.world b.world a.entries
-        (call.levels.worlds.devices (stays_under.stays s.owned).single) (s.truthful (before still)))
+        (grind (arith, stays_under)) (s.truthful (before still)))
 
     -- each cause stays so, wherever it ends
     pub caused_under : HostInvariant a → IsFairTo a.world b.world
@@ -137,7 +128,7 @@ module _ {n : ℕ} {path : List ℕ} {ends : Type 0} {a b : HostState} (call : P
       sound = λ s. record {
         owned = stays_under.stays s.owned;
         rooted = stays_under.rooted s.rooted;
-        order = went_in_order n a.world b.world call.went s.order;
+        order = search went_in_order;
         known = known_under s;
         truthful = truthful_under s;
         level = λ still. all_kept path ends (table_in a) (table_in b) a.world b.world call.levels
@@ -151,28 +142,19 @@ module _ {n : ℕ} {path : List ℕ} {ends : Type 0} {a b : HostState} (call : P
     but_under s = record {
       owned = but_all (stays_under.stays s.owned);
       rooted = stays_under.rooted s.rooted;
-      order = went_in_order n a.world b.world call.went s.order;
-      known = λ still other away. known_under s still other;
-      truthful = λ still other away. truthful_under s still other;
-      level = λ still other away.
-          call.levels.others (held s still) other (is_way-apart path other away)
-          (s.level (before still) other);
+      order = search went_in_order;
+      known = search known_under;
+      truthful = search truthful_under;
+      level = grind (arith, before, is_way-apart);
     }
 
     pub occupied_under : HostInvariant a → IsSome (finding_at path b.entries) → b.world.fault ≡ None
         → Agrees b.options b.entries b.addresses → IsOccupied b.world path
-    occupied_under s listed still agrees_on =
-        occupied_at path b (accounted b agrees_on (stays_under.rooted s.rooted)) (known_under s
-        still)
-        (finding_at path b.entries) refl listed
+    occupied_under s listed still agrees_on = grind (arith, accounted, known_under, occupied_at)
 
 -- a call that sets no interface does so, too
 same_device : (x : Location) (s v : State) → SameSettings x s v → SameDevice x s v
-same_device x s v same = record {
-  spec = same.0;
-  address = ap (λ (g : Registers). g.address) same.1;
-  configuration = ap (λ (g : Registers). g.configuration) same.1;
-}
+same_device x s v same = grind arith
 
 only_sets : {old new : World} → OnlyTransfers old new → OnlySets old new
 only_sets {old} {new} only = record {
@@ -186,21 +168,13 @@ only_sets {old} {new} only = record {
 pub in_sync-sets : {path : List ℕ} {ends : Type 0} {old new : Table} {before after : World}
     → KeepsInSync path ends old before new after
     → KeepsLevels OnlySets path ends old before new after
-in_sync-sets k = record {
-  worlds = only_sets k.worlds;
-  others = k.others;
-  itself = k.itself;
-}
+in_sync-sets k = grind (arith, only_sets)
 
 -- A transfer, as long as the bus is at work
 
 pub transfer_under : {n : ℕ} {path : List ℕ} {a b : HostState}
     → PipeCall n path (b.world.fault ≡ None) a b → a.stopped ≡ false → TransferKeeps a b
-transfer_under {a = a} {b = b} call going = record {
-  owning = owning_kept a b going call.same call.levels.worlds.addresses;
-  sound = sound_under call (λ still. still);
-  backlog = call.levels.worlds.backlog;
-}
+transfer_under call going = search (owning_kept, sound_under)
 
 pub transfer_kept : {n : ℕ} {path : List ℕ} {a b : HostState}
     → Agrees a.options a.entries a.addresses → b.entries ≡ a.entries → b.options ≡ a.options
@@ -231,20 +205,17 @@ sound_dropped (Ok done) m {n = n} a b c p q drops causes bulk plugs d pends = re
     sound = λ s. d.sound (drops s);
     caused = λ s fair caused.
         let before : IsFairTo a.world b.world = fair_before q.went fair in
-        d.caused (drops s) (fair_after p.went fair) (pends s before.still fair.few)
-        (λ path away. causes s before caused path);
+        d.caused (drops s) (fair_after p.went fair) (search before) (search before);
   };
-  bulk = λ s still. bulk_then m n a b c p.went q.went still
-      (bulk s (went_before q.went still)) (d.bulk (drops s) still);
-  plugs = λ s still. plugs_then m n a b c p.went q.went still plugs d.plugs;
+  bulk = search (bulk_then, went_before, p.went, q.went, d.bulk);
+  plugs = search (plugs_then, p.went);
 }
 sound_dropped (Err fault) m a b c p q drops causes bulk plugs d pends = tt
 
 -- An event comes
 
 taken_sound : (f : Option BusFault) (w : World) → w.fault ≡ f → (event_taken f w).fault ≡ w.fault
-taken_sound (Some f) w is = refl
-taken_sound None w is = first_fault w.left w
+taken_sound f w is = grind (arith, first_fault)
 
 event_sound : (w : World) → (after event w).fault ≡ None → w.fault ≡ None
 unfolding after
@@ -261,17 +232,16 @@ sound_event a b agrees same width pipes is k = record {
 }
   where
     roots : roots_of b.world ≡ roots_of a.world
-    roots = ap (λ (w : World). roots_of w) is ∙ (step_later event a.world).roots
+    roots = grind (arith, step_later)
 
     owned : StaysOwned a b
     owned = stays_kept a b same roots k
 
     table : table_in b ≡ table_in a
-    table = ap (λ (es : Entries). record { entries = es; pipes = b.pipes }) same ∙ ap
-        (λ ps. record { entries = a.entries; pipes = ps }) pipes
+    table = grind arith
 
     before : b.world.fault ≡ None → a.world.fault ≡ None
-    before still = event_sound a.world (ap (λ (w : World). w.fault) (sym is) ∙ still)
+    before still = grind (arith, event_sound)
 
     ordered : IsInOrder a.world → IsInOrder (after event a.world)
     ordered order sound = orderly_on {K = AnyStep} (order (event_sound a.world sound))
@@ -282,8 +252,7 @@ sound_event a b agrees same width pipes is k = record {
       owned = owned.stays s.owned;
       rooted = owned.rooted s.rooted;
       order = rw is (ordered s.order);
-      known = λ still. subst (PortsListed b.world) (sym same)
-          (rw is (known_event a.world a.entries (s.known (before still))));
+      known = grind (arith, before, known_event);
       truthful = λ still. rw width (subst (DevicesAccurate a.options b.world) (sym same)
           (rw is (truthful_event a.world a.entries (s.truthful (before still)))));
       level = λ still.
@@ -302,31 +271,20 @@ sound_event a b agrees same width pipes is k = record {
 
 sound_stopped : (b : HostState) (stopped : Bool) → HostInvariant b
     → HostInvariant (record b { stopped = stopped })
-sound_stopped b stopped s = record {
-  owned = s.owned;
-  rooted = s.rooted;
-  order = s.order;
-  known = s.known;
-  truthful = s.truthful;
-  level = s.level;
-}
+sound_stopped b stopped s = grind arith
 
 pub rounds_stopped : (result : Result Round HostFault) (a b : HostState) (stopped : Bool)
     → RoundsSound a result b → RoundsSound a result (record b { stopped = stopped })
 rounds_stopped (Ok round) a b stopped x =
-    record {
-      keeps = record {
-        sound = record {
-          options = x.keeps.sound.options;
-          sound = λ s. sound_stopped b stopped (x.keeps.sound.sound s);
-          caused = x.keeps.sound.caused;
-        };
-        bulk = λ s still. bulk_stopped a b stopped (x.keeps.bulk s still);
-        plugs = λ s still. plugs_stopped a b stopped (x.keeps.plugs s still);
-      };
-      rest = x.rest;
-    }
-rounds_stopped (Err fault) a b stopped x = record { keeps = tt; rest = λ s is. absurd (cc is) }
+    search (
+      bulk_stopped,
+      plugs_stopped,
+      sound_stopped,
+      x.keeps.sound.sound,
+      x.keeps.bulk,
+      x.keeps.plugs,
+    )
+rounds_stopped (Err fault) a b stopped x = grind arith
 
 -- What an event leaves of a host that keeps what it has.
 
@@ -337,10 +295,10 @@ pub sound_came : (old new : HostState) (due : Option (Option Ask))
     new.trace
     → OnlyBusSteps old new → KeepsInvariant old new
 sound_came old new due agrees takes rests =
-    sound_event old new agrees (ap (λ (h : HostState). h.entries) rests)
-    (ap (λ (h : HostState). h.options) rests) (ap (λ (h : HostState). h.pipes) rests) takes.exact
+    sound_event old new agrees (grind arith)
+    (grind arith) (ap (λ (h : HostState). h.pipes) rests) takes.exact
     (event_keeps old.world (Ok due) new.world takes.took takes.exact takes.kept takes.cut
-    (λ reached none. cc (ap is_some none, takes.limit reached)))
+    (grind arith))
 
 -- and devices hold the addresses that it has for them, also where the bus told a fault
 pub owning_came : (old new : HostState) (result : Result (Option (Option Ask)) BusFault)
@@ -349,12 +307,5 @@ pub owning_came : (old new : HostState) (result : Result (Option (Option Ask)) B
 owning_came old new result running takes rests o =
     let kept : WhileBusWorks (MapHolds (claims old.entries)) new.world =
     (event_keeps old.world result new.world takes.took takes.exact takes.kept takes.cut
-    (λ reached none. cc (ap is_some none, takes.limit reached))).kept (claims old.entries)
-    (o.owned running) in
-    record {
-      single = kept.single;
-      owned =
-          λ on. subst (λ (es : Entries). WhileBusWorks (MapHolds (claims es)) new.world)
-          (sym (ap (λ (h : HostState). h.entries) rests))
-          kept;
-    }
+    (grind arith)).kept (claims old.entries)
+    (o.owned running) in grind arith

@@ -1,24 +1,22 @@
 -- What is known of a port, and of the ports below it, stays so as a change bit of its enable or
 -- reset is cleared.
-use Rattle.std.proofs.Common.{◌≡◌, ◌⊎◌, inl, inr, ◌&&◌, ◌||◌, ℕ, suc, zero, true, false, List, []}
-use Rattle.std.proofs.Common.{◌∷◌, ◌++◌, Option, None, Some, option_map, refl, ap, sym, subst, ◌∙◌}
-use Rattle.std.proofs.Common.{append-nil, IfSome}
+use Rattle.std.proofs.Common.{arith, ◌≡◌, ◌⊎◌, inl, inr, ℕ, suc, zero, true, List, [], ◌∷◌, ◌++◌}
+use Rattle.std.proofs.Common.{Option, None, Some, option_map, refl, ap, sym, ◌∙◌, append-nil}
 use Rattle.usb_port.specs.{PortState, PortCall, ClearEnableChange, ClearResetChange, called_port}
-use Rattle.usb_device.specs.{State, Ports, vacant, taken, empty, full, port_of, called, place}
-use Rattle.usb_device.specs.{reach, reach_at, state_at, port_at, port_there, state_there, Place}
-use Rattle.usb_world.specs.{Attempt, step_keeps_pending, row_reached, spec_of, LeavesPortAlone}
-use Rattle.usb_world.specs.{SameDeviceOrPending, Step, attempt, root_call, event, report, after}
-use Rattle.usb_world.specs.{with_attempt, at_attempt, Course, here, step, World}
+use Rattle.usb_device.specs.{State, Ports, vacant, taken, port_of, called, place, reach, reach_at}
+use Rattle.usb_device.specs.{state_at, port_at, port_there, state_there, Place}
+use Rattle.usb_world.specs.{Attempt, step_keeps_pending, row_reached, LeavesPortAlone, Step}
+use Rattle.usb_world.specs.{attempt, root_call, after, with_attempt, at_attempt, Course, here, step}
+use Rattle.usb_world.specs.{World}
 use Rattle.usb_tree.specs.{has_power, pending, is_way, keeps_pending}
 use Rattle.usb_world.proofs.Interface.{MadeOrNot, attempt_cases, course_wider, made_live, made_pend}
 use Rattle.usb_world.proofs.Interface.{made_sound, pending_persists, root_live, root_pend, stands}
 use Rattle.usb_world.proofs.Interface.{stands_or_pends, way_rest}
-use Rattle.usb_tree.proofs.Interface.{and_of, both, either_of, false_true, or_left, or_right}
+use Rattle.usb_tree.proofs.Interface.{both, false_true}
 use Rattle.usb_hub.specs.{PortCallDone, ActsAt}
 use Rattle.usb_hub.proofs.Interface.{due_course, enabled_reach, port_of_place, row_reached-back}
 use Rattle.usb_hub.proofs.Interface.{state_of_place}
 use Rattle.usb_enum.specs.{Finding, IsKnownAs}
-use Rattle.usb_enum.specs.declared.finding.Finding.TheVariants.{Device, Refused}
 use Rattle.usb_address.proofs.Interface.{place_ports, live_below, not_way, pend-below}
 use Rattle.usb_address.proofs.Interface.{port_there-below, reach_below, state_below}
 use Rattle.usb_host.specs.{HoldsAt}
@@ -35,42 +33,14 @@ tidy_call enable = ClearEnableChange
 tidy_call reset = ClearResetChange
 
 tidy_spares : (t : Tidy) → keeps_pending (tidy_call t) [] ≡ true
-tidy_spares enable = refl
-tidy_spares reset = refl
+tidy_spares t = grind arith
 
 -- What a place shows, before and after the call
 
 called_port_as : (t : Tidy) → (o : Option Place)
     → option_map port_of (option_map (called (tidy_call t)) o)
     ≡ option_map (called_port (tidy_call t)) (option_map port_of o)
-called_port_as enable None = refl
-called_port_as enable (Some (empty b)) = refl
-called_port_as enable (Some (full b s a)) = refl
-called_port_as reset None = refl
-called_port_as reset (Some (empty b)) = refl
-called_port_as reset (Some (full b s a)) = refl
-
-called_stands : (t : Tidy) → (o : Option Place) → stands (option_map (called (tidy_call t)) o)
-    ≡ stands o
-called_stands enable None = refl
-called_stands enable (Some (empty b)) = refl
-called_stands enable (Some (full b s a)) = refl
-called_stands reset None = refl
-called_stands reset (Some (empty b)) = refl
-called_stands reset (Some (full b s a)) = refl
-
-called_under : (t : Tidy) → (o : Option Place) → place_ports (option_map (called (tidy_call t)) o)
-    ≡ place_ports o
-called_under enable None = refl
-called_under enable (Some (empty b)) = refl
-called_under enable (Some (full b s a)) = refl
-called_under reset None = refl
-called_under reset (Some (empty b)) = refl
-called_under reset (Some (full b s a)) = refl
-
-tidied_enable : (t : Tidy) → (b : PortState) → (called_port (tidy_call t) b).enable ≡ b.enable
-tidied_enable enable b = refl
-tidied_enable reset b = refl
+called_port_as t o = grind arith
 
 -- a device that is reached stands on an enabled port
 reached_port_at : (k : Ports) (j : ℕ) (p : List ℕ) → reach_at k j p ≡ true → (b : PortState)
@@ -85,33 +55,12 @@ reached_port_at _ _ _ h = false_true h
 
 pub reached_port : (k : Ports) (p : List ℕ) → reach k p ≡ true → (b : PortState) × (s : State)
     × (port_there k p ≡ Some b) × (state_there k p ≡ Some s) × (b.enable ≡ true)
-reached_port k (suc j ∷ p) h = reached_port_at k j p h
-reached_port k _ h = false_true h
+reached_port k p h = grind (arith, reached_port_at)
 
 -- Two trees of which the place at a path is the same, or called
 
--- the same as IsKnownAs, of a tree
-known_same : (x : List ℕ) (o : Option Finding) (w v : World) → v.roots ≡ w.roots → IsKnownAs w x o
-    → IsKnownAs v x o
-known_same x None w v e h = rw e h
-known_same x (Some (Device device)) w v e h = rw e h
-known_same x (Some (Refused cause)) w v e h = rw e h
-
 pub holds_at_then : {x : List ℕ} {w m v : World} → HoldsAt x w m → HoldsAt x m v → HoldsAt x w v
-holds_at_then {x = x} {w = w} {m = m} {v = v} a b = record {
-  known = λ o k. b.known o (a.known o k);
-  pends = λ h. b.pends (a.pends h);
-  stands = λ on. first (a.stands on);
-}
-  where
-    second : option_map spec_of (state_there m.roots x) ≡ option_map spec_of (state_there w.roots x)
-        → SameDeviceOrPending m v x → SameDeviceOrPending w v x
-    second s (inl y) = inl (y.0, y.1 ∙ s)
-    second s (inr y) = inr y
-
-    first : SameDeviceOrPending w m x → SameDeviceOrPending w v x
-    first (inl y) = second y.1 (b.stands y.0)
-    first (inr y) = inr (b.pends y)
+holds_at_then a b = grind arith
 
 holds_rests : {x : List ℕ} {w v : World} → Course (LeavesPortAlone x) w v → HoldsAt x w v
 holds_rests {x = x} {w = w} {v = v} c = record {
@@ -121,14 +70,7 @@ holds_rests {x = x} {w = w} {v = v} c = record {
 }
 
 pub holds_same : {x : List ℕ} (w : World) {v : World} → v.roots ≡ w.roots → HoldsAt x w v
-holds_same {x = x} w {v = v} e = record {
-  known = λ o k. known_same x o w v e k;
-  pends = λ h. ap (λ k. pending k x) e ∙ h;
-  stands = λ on. inl (
-    ap (λ k. has_power k x) e ∙ on,
-    ap (λ k. option_map spec_of (state_there k x)) e,
-  );
-}
+holds_same w e = grind arith
 
 module _ (t : Tidy) (p : List ℕ) where
   record Alike (w v : World) : Type 0 where
@@ -140,111 +82,36 @@ module _ (t : Tidy) (p : List ℕ) where
         ⊎ (port_there v.roots p ≡ option_map (called_port (tidy_call t)) (port_there w.roots p))
     below : place_ports (place v.roots p) ≡ place_ports (place w.roots p)
 
-  kept_disabled : (o u : Option PortState) → (u ≡ o)
-      ⊎ (u ≡ option_map (called_port (tidy_call t)) o) → IfSome o (λ b. b.enable ≡ false)
-      → IfSome u (λ b. b.enable ≡ false)
-  kept_disabled o u (inl e) h = rw e h
-  kept_disabled None u (inr e) h = rw e tt
-  kept_disabled (Some b) u (inr e) h = rw e (tidied_enable t b ∙ h)
-
   -- at the port itself
   at_port : (o : Option Finding) (w v : World) → Alike w v → IsKnownAs w p o → IsKnownAs v p o
-  at_port o w v a (inl x) = inl (a.pend_on x)
-  at_port None w v a (inr x) = inr (a.live_on x.0, a.state ∙ x.1)
-  at_port (Some (Device device)) w v a (inr x) = inr (a.live_on x.0, a.reach_on x.1)
-  at_port (Some (Refused cause)) w v a (inr x) =
-      inr (
-        a.live_on x.0,
-        (
-          rw a.state x.1.0,
-          kept_disabled (port_there w.roots p) (port_there v.roots p) a.port x.1.1,
-        ),
-      )
+  at_port o w v a h = grind arith
 
   module _ (m : ℕ) (l : List ℕ) (is : p ≡ m ∷ l) (i : ℕ) (r : List ℕ) where
     abbrev x : List ℕ
     x = (m ∷ l) ++ i ∷ r
 
-    sub_same : (w v : World) → Alike w v → place_ports (place v.roots (m ∷ l))
-        ≡ place_ports (place w.roots (m ∷ l))
-    sub_same w v a = rw is at a.below
-
     pend_x : (w v : World) → Alike w v → pending w.roots x ≡ true → pending v.roots x ≡ true
-    pend_x w v a h = pend-below v.roots m l i r ∙ pick (either_of (pending w.roots (m ∷ l))
-        (has_power w.roots (m ∷ l) && pending (place_ports (place w.roots (m ∷ l))) (i ∷ r))
-        (sym (pend-below w.roots m l i r) ∙ h))
-      where
-        pick : (pending w.roots (m ∷ l) ≡ true)
-            ⊎ ((has_power w.roots (m ∷ l) && pending (place_ports (place w.roots (m ∷ l))) (i ∷ r))
-            ≡ true) → (pending v.roots (m ∷ l) || (has_power v.roots (m ∷ l) && pending
-            (place_ports (place v.roots (m ∷ l))) (i ∷ r))) ≡ true
-        pick (inl y) = or_left (pending v.roots (m ∷ l))
-            (has_power v.roots (m ∷ l) && pending (place_ports (place v.roots (m ∷ l))) (i ∷ r))
-            (subst (λ e. pending w.roots e ≡ true → pending v.roots e ≡ true) is a.pend_on y)
-        pick (inr y) =
-            let parts = both (has_power w.roots (m ∷ l))
-            (pending (place_ports (place w.roots (m ∷ l))) (i ∷ r)) y in
-            or_right (pending v.roots (m ∷ l)) (has_power v.roots (m ∷ l) && pending
-            (place_ports (place v.roots (m ∷ l))) (i ∷ r))
-            (and_of (has_power v.roots (m ∷ l))
-            (pending (place_ports (place v.roots (m ∷ l))) (i ∷ r))
-            (subst (λ e. has_power w.roots e ≡ true → has_power v.roots e ≡ true) is a.live_on
-            parts.0) (ap (λ k. pending k (i ∷ r)) (sub_same w v a) ∙ parts.1))
+    pend_x w v a h = grind (arith, pend-below)
 
     live_x : (w v : World) → Alike w v → has_power w.roots x ≡ true → has_power v.roots x ≡ true
-    live_x w v a h =
-        let parts = both (has_power w.roots (m ∷ l))
-        (has_power (place_ports (place w.roots (m ∷ l))) (i ∷ r))
-        (sym (live_below w.roots m l i r) ∙ h) in
-        live_below v.roots m l i r ∙ and_of (has_power v.roots (m ∷ l))
-        (has_power (place_ports (place v.roots (m ∷ l))) (i ∷ r))
-        (subst (λ e. has_power w.roots e ≡ true → has_power v.roots e ≡ true) is a.live_on parts.0)
-        (ap (λ k. has_power k (i ∷ r)) (sub_same w v a) ∙ parts.1)
+    live_x w v a h = grind (arith, live_below)
 
     reach_x : (w v : World) → Alike w v → reach w.roots x ≡ true → reach v.roots x ≡ true
-    reach_x w v a h =
-        let parts = both (reach w.roots (m ∷ l))
-        (reach (place_ports (place w.roots (m ∷ l))) (i ∷ r)) (sym (reach_below w.roots m l i r)
-        ∙ h) in
-        reach_below v.roots m l i r ∙ and_of (reach v.roots (m ∷ l))
-        (reach (place_ports (place v.roots (m ∷ l))) (i ∷ r))
-        (subst (λ e. reach w.roots e ≡ true → reach v.roots e ≡ true) is a.reach_on parts.0)
-        (ap (λ k. reach k (i ∷ r)) (sub_same w v a) ∙ parts.1)
+    reach_x w v a h = grind (arith, reach_below)
 
     state_x : (w v : World) → Alike w v → state_there v.roots x ≡ state_there w.roots x
-    state_x w v a = state_below v.roots m l i r ∙ ap (λ k. state_there k (i ∷ r)) (sub_same w v a)
-        ∙ sym (state_below w.roots m l i r)
+    state_x w v a = grind (arith, state_below)
 
     below_port : (o : Option Finding) (w v : World) → Alike w v → IsKnownAs w x o → IsKnownAs v x o
-    below_port o w v a (inl h) = inl (pend_x w v a h)
-    below_port None w v a (inr h) = inr (live_x w v a h.0, state_x w v a ∙ h.1)
-    below_port (Some (Device device)) w v a (inr h) = inr (live_x w v a h.0, reach_x w v a h.1)
-    below_port (Some (Refused cause)) w v a (inr h) =
-        inr (
-          live_x w v a h.0,
-          (
-            rw (state_x w v a) h.1.0,
-            subst (λ b. IfSome b (λ b. b.enable ≡ false))
-                (sym (port_there-below v.roots m l i r ∙ ap (λ k. port_there k (i ∷ r))
-                (sub_same w v a) ∙ sym (port_there-below w.roots m l i r))) h.1.1,
-          ),
-        )
+    below_port o w v a h = grind (arith, live_x, pend_x, port_there-below, reach_x, state_x)
 
     holds_below : (w v : World) → Alike w v → HoldsAt x w v
-    holds_below w v a = record {
-      known = λ o k. below_port o w v a k;
-      pends = pend_x w v a;
-      stands = λ on. inl (live_x w v a on, ap (option_map spec_of) (state_x w v a));
-    }
+    holds_below w v a = grind (arith, below_port, live_x, pend_x, state_x)
 
   -- at the port and below it
   holds_alike : (m : ℕ) (l : List ℕ) → p ≡ m ∷ l → (r : List ℕ) (w v : World) → Alike w v
       → HoldsAt (p ++ r) w v
-  holds_alike m l is [] w v a = subst (λ e. HoldsAt e w v) (sym (append-nil p)) (record {
-    known = λ o k. at_port o w v a k;
-    pends = a.pend_on;
-    stands = λ on. inl (a.live_on on, ap (option_map spec_of) a.state);
-  })
+  holds_alike m l is [] w v a = grind (arith, append-nil)
   holds_alike m l is (i ∷ r) w v a = rw is (holds_below m l is i r w v a)
 
 -- Over steps that are about the port
@@ -263,33 +130,19 @@ module _ (t : Tidy) (q : List ℕ) (n : ℕ) where
       ⊎ (place v p ≡ option_map (called (tidy_call t)) (place k p))
       → (port_there v p ≡ port_there k p)
       ⊎ (port_there v p ≡ option_map (called_port (tidy_call t)) (port_there k p))
-  place_port k v (inl e) = inl (port_of_place v p ∙ ap (option_map port_of) e ∙ sym
-      (port_of_place k p))
+  place_port k v (inl e) = grind (arith, port_of_place)
   place_port k v (inr e) = inr (port_of_place v p ∙ ap (option_map port_of) e ∙ called_port_as t
       (place k p) ∙ ap (option_map (called_port (tidy_call t))) (sym (port_of_place k p)))
 
   place_state : (k v : Ports) → (place v p ≡ place k p)
       ⊎ (place v p ≡ option_map (called (tidy_call t)) (place k p))
       → state_there v p ≡ state_there k p
-  place_state k v (inl e) = state_of_place v p ∙ ap stands e ∙ sym (state_of_place k p)
-  place_state k v (inr e) = state_of_place v p ∙ ap stands e ∙ called_stands t (place k p) ∙ sym
-      (state_of_place k p)
-
-  place_under : (k v : Ports) → (place v p ≡ place k p)
-      ⊎ (place v p ≡ option_map (called (tidy_call t)) (place k p))
-      → place_ports (place v p) ≡ place_ports (place k p)
-  place_under k v (inl e) = ap place_ports e
-  place_under k v (inr e) = ap place_ports e ∙ called_under t (place k p)
+  place_state k v h = grind (arith, state_of_place)
 
   still_enabled : {o : Option PortState} (u : Option PortState) (b : PortState) → (u ≡ o)
       ⊎ (u ≡ option_map (called_port (tidy_call t)) o) → o ≡ Some b → b.enable ≡ true
       → (d : PortState) × (u ≡ Some d) × (d.enable ≡ true)
-  still_enabled u b (inl e) is on = (b, e ∙ is, on)
-  still_enabled u b (inr e) is on = (
-    called_port (tidy_call t) b,
-    e ∙ ap (option_map (called_port (tidy_call t))) is,
-    tidied_enable t b ∙ on,
-  )
+  still_enabled u b h is on = grind arith
 
   place_reach : (k : Ports) (v : World) → (place v.roots p ≡ place k p)
       ⊎ (place v.roots p ≡ option_map (called (tidy_call t)) (place k p))
@@ -297,7 +150,7 @@ module _ (t : Tidy) (q : List ℕ) (n : ℕ) where
   place_reach k v e row on =
       let at : _ = reached_port k p on in
       let now : _ = still_enabled (port_there v.roots p) at.0 (place_port k v.roots e) at.2 at.4 in
-      enabled_reach v p (record { parent = q; number = n; is = refl; reached = row }) now.0 now.1
+      enabled_reach v p (grind arith) now.0 now.1
       now.2 at.1 (place_state k v.roots e ∙ at.3)
 
   alike : (w v : World) → (place v.roots p ≡ place w.roots p)
@@ -305,14 +158,7 @@ module _ (t : Tidy) (q : List ℕ) (n : ℕ) where
       → (has_power w.roots p ≡ true → has_power v.roots p ≡ true)
       → (pending w.roots p ≡ true → pending v.roots p ≡ true) → row_reached v.roots q ≡ true
       → Alike t p w v
-  alike w v e live_on pend_on row = record {
-    live_on = live_on;
-    pend_on = pend_on;
-    reach_on = place_reach w.roots v e row;
-    state = place_state w.roots v.roots e;
-    port = place_port w.roots v.roots e;
-    below = place_under w.roots v.roots e;
-  }
+  alike w v e live_on pend_on row = grind (arith, place_port, place_reach, place_state)
 
   first_of : (q : List ℕ) (n : ℕ) → (m : ℕ) × (l : List ℕ) × (q ++ n ∷ [] ≡ m ∷ l)
   first_of [] n = (n, [], refl)
@@ -336,7 +182,7 @@ module _ (t : Tidy) (q : List ℕ) (n : ℕ) where
           rw is (holds_at_then came
           (holds_by r
           (alike (at_attempt w) (with_attempt a (at_attempt w)) e
-          (made_live a (at_attempt w) p spares) (made_pend a (at_attempt w) p spares)
+          (search made_live) (search made_pend)
           (rw is at row))))
 
       cases : MadeOrNot a w (after (attempt a) w) → HoldsAt (p ++ r) w (after (attempt a) w)
@@ -348,18 +194,13 @@ module _ (t : Tidy) (q : List ℕ) (n : ℕ) where
       → HoldsAt (p ++ r) w (after (root_call d m) w)
   unfolding after step_keeps_pending
   root_holds d m w k row r =
-      let spares : step_keeps_pending (root_call d m) w p ≡ true = k.about.spares (tidy_spares t) in
-      holds_by r
-      (alike w (after (root_call d m) w) k.port (root_live d m w.roots p spares)
-      (root_pend d m w.roots p spares) row)
+      search (alike, holds_by, root_live, root_pend, tidy_spares, k.about.spares)
 
   step_holds : (s : Step) (w : World) → ActsAt p (tidy_call t) s w → row_reached (after s w).roots q
       ≡ true → (r : List ℕ) → HoldsAt (p ++ r) w (after s w)
   unfolding after
-  step_holds (attempt a) w k row r = attempt_holds a w k row r
-  step_holds (root_call d m) w k row r = root_holds d m w k row r
-  step_holds event w k row r = holds_rests (event_calm (p ++ r) w)
-  step_holds (report line) w k row r = holds_same w refl
+  step_holds s w k row r =
+      grind (arith, attempt_holds, event_calm, holds_rests, holds_same, root_holds)
 
   course_holds : {w v : World} → Course (ActsAt p (tidy_call t)) w v → row_reached v.roots q ≡ true
       → (r : List ℕ) → HoldsAt (p ++ r) w v

@@ -1,7 +1,7 @@
 -- What is known of ports and devices stays so as an event comes.
-use Rattle.std.proofs.Common.{◌≡◌, List, [], ℕ, refl, ap, ◌∙◌, sym}
+use Rattle.std.proofs.Common.{arith, ◌≡◌, List, [], ℕ, refl, ◌∙◌, sym}
 use Rattle.usb_resources.specs.{Addresses}
-use Rattle.usb_device.specs.{State, path_to}
+use Rattle.usb_device.specs.{path_to}
 use Rattle.usb_world.specs.{resets, step_keeps_pending, EachWas, leaves_step, LeavesPortAlone}
 use Rattle.usb_world.specs.{event, after, Course, here, step, World, roots_of}
 use Rattle.usb_world.proofs.Interface.{course_wider, each_wider, taken_state, unreset_reach}
@@ -14,7 +14,7 @@ use Rattle.usb_enum.specs.{HostOptions}
 -- an event asks nothing of any port
 pub event_calm : (path : List ℕ) (w : World) → Course (LeavesPortAlone path) w (after event w)
 unfolding step_keeps_pending resets leaves_step
-event_calm path w = step event (record { spares = refl; rests = refl; leaves = refl })
+event_calm path w = step event (grind arith)
     (here (after event w))
 
 -- each device that is reached after it is just as it was
@@ -43,12 +43,7 @@ known_event w entries known = known_each w (after event w) entries
 pub truthful_event : {options : HostOptions} (w : World) (entries : Entries)
     → DevicesAccurate options w entries → DevicesAccurate options (after event w) entries
 truthful_event w entries told = truthful_stays w (after event w) entries
-    (each_wider (λ x s v. v ≡ s) SameDevice
-    (λ j s v e. record {
-      spec = ap (λ (d : State). d.spec) e;
-      address = ap (λ (d : State). d.registers.address) e;
-      configuration = ap (λ (d : State). d.registers.configuration) e;
-    }) w (after event w)
+    (each_wider (λ x s v. v ≡ s) SameDevice (grind arith) w (after event w)
     (event_same w)) told
 
 pub causes_event : {options : HostOptions} (w : World) {entries : Entries} {addresses : Addresses}

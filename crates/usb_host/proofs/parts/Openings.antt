@@ -3,17 +3,14 @@ use Rattle.usb_bus.specs.{Traced}
 use Rattle.usb_enum.specs.{IsInOrder, HostOptions}
 use Rattle.usb_enum.proofs.Interface.{traced_in_order}
 use Rattle.std.proofs.Common.{◌≡◌, ◌⊎◌, ◌∙◌, ◌<◌, inl, inr, refl, sym, ap, arith, zero, suc, ℕ}
-use Rattle.std.proofs.Common.{List, Option, None, ◌∷◌, Bool, true, [], false, length, nat_lt, ◌-◌}
-use Rattle.std.proofs.Common.{◌≤◌}
+use Rattle.std.proofs.Common.{List, Option, None, ◌∷◌, Bool, true, [], false, length, ◌-◌, ◌≤◌}
 use Rattle.std.specs.FinSet as set
-use Rattle.std.proofs.lemmas.Bool.{lt-ltb}
 use Rattle.usb_port.specs.{parent_of, port_on_hub, PortState, powered_off, powered_on, speed_of}
 use Rattle.usb_port.specs.{ClearPower, SetPower}
 use Rattle.usb_device.specs.{forgotten, Ports, ended, vacant, taken, row_of, reach, reach_at}
 use Rattle.usb_device.specs.{state_at, all_forgotten, called, changed_at}
 use Rattle.usb_tree.specs.{has_power_at, IsSettled, pending_at}
 use Rattle.usb_world.specs.{Consistent, World, roots_of, ClearsRoot, SetsRoot, after, root_call}
-use Rattle.usb_tree.proofs.Interface.{false_true}
 use Rattle.usb_resources.specs.{Addresses}
 use Rattle.usb_table.specs.{Table, empty}
 use Rattle.usb_host.specs.{DeviceNumbers, ReportedDevices, first_numbers, BusCounts, HostState}
@@ -48,14 +45,7 @@ pub powered_is_opening : (w0 w : World) (t0 t : Option (List ℕ)) (counts : Bus
     → numbers ≡ first_numbers → reported ≡ []
     → going w t counts table addresses numbers reported options ≡ opening_host options w0 t0
 powered_is_opening w0 w t0 t counts table addresses numbers reported options e silent none f h n r =
-    let new = going (world_powered w0) in
-    ap (λ v. going v t counts table addresses numbers reported options) e
-    ∙ ap (λ s. new s counts table addresses numbers reported options) silent
-    ∙ ap (λ s. new t0 s table addresses numbers reported options) none
-    ∙ ap (λ x. new t0 no_counts x addresses numbers reported options) f
-    ∙ ap (λ s. new t0 no_counts empty s numbers reported options) h
-    ∙ ap (λ m. new t0 no_counts empty set.empty m reported options) n
-    ∙ ap (λ s. new t0 no_counts empty set.empty first_numbers s options) r
+    grind arith
 
 -- A port that lost power is disabled, so no device is reached
 
@@ -68,8 +58,7 @@ reach-repowered (taken b s a k) (suc i) r = reach-repowered k i r
 reach-repowered _ _ _ = refl
 
 path-repowered : (k : Ports) (path : List ℕ) → reach (repowered k) path ≡ false
-path-repowered k (suc i ∷ r) = reach-repowered k i r
-path-repowered k _ = refl
+path-repowered k path = grind (arith, reach-repowered)
 
 forgotten-repowered : (k : Ports) → all_forgotten (repowered k) ≡ repowered (all_forgotten k)
 unfolding repowered all_forgotten
@@ -80,26 +69,14 @@ forgotten-repowered (taken b s a k) = ap (taken (powered_on (powered_off b)) (fo
 
 pub owning_opening : (options : HostOptions) (w : World) (t : Option (List ℕ)) → IsSettled w.roots
     → w.shared ≡ false → HostMapHolds (opening_host options w t)
-owning_opening options w t settled single = record {
-  single = single;
-  owned = λ going. record {
-    so = λ none. record {
-      distinct = λ p q a at_p at_q. absurd (cc at_p);
-      own = λ path on. false_true (sym (path-repowered w.roots path) ∙ on);
-      single = single;
-      settled = forgotten-repowered w.roots ∙ ap repowered settled;
-    };
-    single = single;
-  };
-}
+owning_opening options w t settled single = grind (arith, forgotten-repowered, path-repowered)
 
 -- What a new host knows is so
 
 -- a device that stands at a port is told of
 told_again : (b : PortState) (low : Bool) → b.attached ≡ speed_of low
     → (powered_on (powered_off b)).connection_changed ≡ true
-told_again b true at = rw at refl
-told_again b false at = rw at refl
+told_again b low at = grind arith
 
 known-repowered : (k : Ports) (i : ℕ) → Consistent k → i < length (row_of (repowered k))
     → (pending_at (repowered k) i [] ≡ true) ⊎ ((has_power_at (repowered k) i [] ≡ true)
@@ -115,13 +92,8 @@ known_opening : (w : World) → Consistent w.roots → PortsListed (world_powere
 unfolding parent_of port_on_hub
 known_opening w sane [] port = absurd (omega (arith, port.some))
 known_opening w sane (zero ∷ []) port = absurd (omega (arith, port.port.0))
-known_opening w sane (suc i ∷ []) port = known-repowered w.roots i sane
-    (omega (arith, port.port.1))
-known_opening w sane (n ∷ m ∷ rest) port =
-    let long : nat_lt 1 (length (n ∷ m ∷ rest)) ≡ true =
-    lt-ltb 1 (length (n ∷ m ∷ rest)) (omega arith) in
-    let wrong = rw long at port.port in
-    absurd wrong
+known_opening w sane (suc i ∷ []) port = grind (arith, known-repowered)
+known_opening w sane (n ∷ m ∷ rest) port = grind arith
 
 pub sound_opening : (options : HostOptions) (w : World) (t : Option (List ℕ))
     → Traced w t (opening_host options w t).world (opening_host options w t).trace
@@ -131,8 +103,8 @@ sound_opening options w t traced settled order single = record {
   rooted = rooted_opening options w t;
   order = traced_in_order traced order;
   known = λ still. known_opening w (order still).sane;
-  truthful = λ still path device s at on stands. absurd (cc at);
-  level = λ still path. record { level = λ device s at on stands. absurd (cc at) };
+  truthful = grind arith;
+  level = grind arith;
 }
 
 -- The root ports lose power and get it again one by one.
@@ -170,7 +142,7 @@ powered_none w = refl
 powers_next : (w0 : World) (n : ℕ) → after (root_call SetPower (suc n))
     (after (root_call ClearPower (suc n)) (powered_world n w0)) ≡ powered_world (suc n) w0
 unfolding after
-powers_next w0 n = ap (λ r. record w0 { roots = r }) (set_one n w0.roots)
+powers_next w0 n = search set_one
 
 pub powers_one : (w0 w u v : World) (port : ℕ) → 1 ≤ port → w ≡ powered_world (port - 1) w0
     → ClearsRoot port PORT_POWER w u → SetsRoot port PORT_POWER u v → v ≡ powered_world port w0
@@ -185,5 +157,4 @@ powers_one w0 w u v port least e c s =
 
 pub powered_all : (w0 w : World) {n : ℕ} → n ≡ roots_of w0 → w ≡ powered_world n w0
     → w ≡ record w0 { roots = repowered w0.roots }
-powered_all w0 w e h = h ∙ ap (λ m. powered_world m w0) e ∙ ap (λ r. record w0 { roots = r })
-    (all_upto w0.roots)
+powered_all w0 w e h = grind (arith, all_upto)

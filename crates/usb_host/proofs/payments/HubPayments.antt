@@ -1,28 +1,24 @@
 -- What was left to do pays for the polls of hubs, and for the ports that had changed.
 use Rattle.std.proofs.Common.{◌≡◌, ◌≤◌, ◌<◌, ◌⊎◌, inl, inr, refl, ap, arith, ℕ, zero, suc, ◌+◌, ◌*◌}
 use Rattle.std.proofs.Common.{Bool, true, false, cond, List, [], ◌∷◌, Option, None, Some, length}
-use Rattle.std.proofs.Common.{take, ltb, Result, Ok, Any, ◌∙◌, sym, below_more, ◌-◌, ◌++◌}
-use Rattle.std.proofs.Common.{slice_index_or, Err}
+use Rattle.std.proofs.Common.{take, ltb, Result, Ok, Any, ◌-◌, ◌++◌, Err}
 use Rattle.std.specs.List.{count_by}
-use Rattle.std.proofs.lemmas.Bool.{le-ltb, lt-ltb, ltb-true}
 use Rattle.std.proofs.lemmas.List.Sums.{count_by-le-length, sum_by-cons}
-use Rattle.usb_port.specs.{rank_of, PortState, off, has_bit, seen, PortStatus}
+use Rattle.usb_port.specs.{rank_of, PortState, has_bit, seen, PortStatus}
 use Rattle.usb_world.specs.{Action, Plug, Event, PlanData, StillSet, row_reached, World}
-use Rattle.usb_world.specs.{root_port_at, root_row, roots_of}
+use Rattle.usb_world.specs.{root_port_at, roots_of}
 use Rattle.usb_world.specs.declared.event.Action.TheVariants.{Change}
 use Rattle.usb_world.proofs.Interface.{course_joined, course_bits, course_wider, same_device}
 use Rattle.usb_enum.proofs.Interface.{went_course}
 use Rattle.usb_host.specs.{Part, Costs, HubPaid, Pays, PaysPart, RoundPaid, StopsWithin, Weights}
-use Rattle.usb_host.specs.{WorksOn, debt, event_weight, hubs_most, poll_most, HostState, PlugsAt}
-use Rattle.usb_host.specs.{WasPlugged, either, HostFault, Round, Worked, Quiet, NumberPaid}
-use Rattle.usb_host.specs.{PortPaid, RootsPaid, ShowsChange, ShowsTold, ToldPaid, handling_most}
-use Rattle.usb_host.specs.{told_most, paid, idle}
+use Rattle.usb_host.specs.{WorksOn, debt, event_weight, hubs_most, poll_most, HostState, WasPlugged}
+use Rattle.usb_host.specs.{either, HostFault, Round, Worked, Quiet, NumberPaid, PortPaid, RootsPaid}
+use Rattle.usb_host.specs.{ShowsChange, ShowsTold, ToldPaid, handling_most, told_most, paid, idle}
 use Rattle.usb_host.proofs.StepSums.{went_before}
-use Rattle.usb_host.proofs.payments.Payments.{costs_more, stops_after, part_works, costs_none}
-use Rattle.usb_host.proofs.payments.Payments.{costs_pays, costs_then, few_stop, pays_none}
-use Rattle.usb_host.proofs.devices.Plugs.{any_cases, any_none, there_was_plugged}
+use Rattle.usb_host.proofs.payments.Payments.{stops_after, part_works, costs_pays, costs_then}
+use Rattle.usb_host.proofs.devices.Plugs.{any_cases, there_was_plugged}
 use Rattle.usb_host.proofs.entries.Ranks.{rank_after}
-use Rattle.std.proofs.lemmas.Option.{same_Some, slice_get-get_or}
+use Rattle.std.proofs.lemmas.Option.{slice_get-get_or}
 use Rattle.usb_device.specs.{port_there}
 use Rattle.usb_hub.specs.{PortStatusAt, TouchesNoPort}
 use Rattle.usb_hub.proofs.Interface.{row_port}
@@ -33,9 +29,7 @@ use Rattle.usb_hub.proofs.Interface.{row_port}
 
 module _ {X : Type 0} (p q : X → Bool) (more : (x : X) → p x ≡ true → q x ≡ true) where
   one_less : (x y : Bool) → (x ≡ true → y ≡ true) → cond x 1 0 ≤ cond {A = ℕ} y 1 0
-  one_less true y h = let set : cond {A = ℕ} y 1 0 ≡ 1 =
-      ap (λ (z : Bool). cond {A = ℕ} z 1 0) (h refl) in omega arith
-  one_less false y h = omega arith
+  one_less x y h = grind arith
 
   count_less : (xs : List X) → count_by p xs ≤ count_by q xs
   count_less [] = omega arith
@@ -51,7 +45,7 @@ module _ {X : Type 0} (p q : X → Bool) (more : (x : X) → p x ≡ true → q 
   -- one that is new counts
   count_fewer : (xs : List X) → Any (λ x. (p x ≡ false) × (q x ≡ true)) xs
       → count_by p xs + 1 ≤ count_by q xs
-  count_fewer [] a = absurd (any_none (λ (x : X). (p x ≡ false) × (q x ≡ true)) a)
+  count_fewer [] a = grind arith
   count_fewer (x ∷ xs) a =
       let before = sum_by-cons (λ (y : X). cond (p y) 1 0) x xs in
       let after = sum_by-cons (λ (y : X). cond (q y) 1 0) x xs in
@@ -92,26 +86,11 @@ plugs_below r (Change (Plug path device)) = ltb (rank_of path) r
 plugs_below r _ = false
 
 below_later : (r s : ℕ) (a : Action) → r ≤ s → plugs_below r a ≡ true → plugs_below s a ≡ true
-below_later r s (Change (Plug path device)) le is = let less : rank_of path < r =
-    ltb-true (rank_of path) r is in lt-ltb (rank_of path) s (omega arith)
-below_later r s _ le is = absurd (cc is)
-
-below_new : (r s : ℕ) (path : List ℕ) (a : Action) → r ≤ rank_of path → rank_of path < s
-    → PlugsAt path a → (plugs_below r a ≡ false) × (plugs_below s a ≡ true)
-below_new r s path (Change (Plug at device)) least less is =
-    let same : rank_of at ≡ rank_of path = ap rank_of is in (
-      le-ltb (rank_of at) r (omega arith),
-      lt-ltb (rank_of at) s (omega arith),
-    )
-below_new r s path _ least less is = absurd is
+below_later r s a le is = grind arith
 
 -- how many plugs that came are at a path of a lower rank
 abbrev pub plugged_below : List Event → ℕ → ℕ → ℕ
 plugged_below events came r = count_by (λ (e : Event). plugs_below r e.action) (take came events)
-
-any_wider : {X : Type 0} (P Q : X → Type 0) → ((x : X) → P x → Q x) → (xs : List X) → Any P xs
-    → Any Q xs
-any_wider P Q wider xs a = (a.0, a.1, a.2, a.3, wider a.1 a.4)
 
 plugged_more : (events : List Event) (m n r s : ℕ) → m ≤ n → r ≤ s
     → plugged_below events m r ≤ plugged_below events n s
@@ -130,18 +109,10 @@ plugged_below-more events m n r s path le least less was =
     let fewer =
     count_fewer (λ (e : Event). plugs_below r e.action) (λ (e : Event). plugs_below s e.action)
     (λ e. below_later r s e.action (omega arith)) (take n events)
-    (any_wider (λ (e : Event). PlugsAt path e.action)
-    (λ (e : Event). (plugs_below r e.action ≡ false) × (plugs_below s e.action ≡ true))
-    (λ e. below_new r s path e.action least less) (take n events) was) in
-    omega (arith, count_taken (λ (e : Event). plugs_below r e.action) m n events le)
+    (grind arith) in grind (arith, count_taken)
 
 plugged_most : (events : List Event) (came r : ℕ) → plugged_below events came r ≤ length events
-plugged_most events came r =
-    omega (
-      arith,
-      count_all (λ (e : Event). plugs_below r e.action) came events,
-      count_by-le-length (λ (e : Event). plugs_below r e.action) events,
-    )
+plugged_most events came r = grind (arith, count_all, count_by-le-length)
 
 -- Hubs that were polled
 
@@ -171,24 +142,20 @@ few_polls plan last b w x =
 
 done_by : (c : Weights) (polls : ℕ) (round : Round) (a b : HostState) → 768 * polls ≤ c.polls
     → PollsPaid c polls round a b → RoundPaid c round a b
-done_by c polls Worked a b few x = omega (arith, few)
-done_by c polls Quiet a b few x = costs_more c a b (768 * polls) c.polls x few
+done_by c polls round a b few x = grind arith
 
 cost_by : (c : Weights) (polls : ℕ) (round : Round) (a b : HostState) → 768 * polls ≤ c.polls
     → PollsPaid c polls round a b → Costs c c.polls a b
-cost_by c polls Worked a b few x = omega (arith, few)
-cost_by c polls Quiet a b few x = costs_more c a b (768 * polls) c.polls x few
+cost_by c polls round a b few x = grind arith
 
 quiet_next : (c : Weights) (polls : ℕ) (round : Round) (a b d : HostState)
     → PollsPaid c polls round a b → Costs c 768 b d
     → PollsPaid c (polls + 1) (either round Quiet) a d
-quiet_next c polls Worked a b d x y = omega arith
-quiet_next c polls Quiet a b d x y = omega arith
+quiet_next c polls round a b d x y = grind arith
 
 worked_next : (c : Weights) (polls : ℕ) (round : Round) (a b d : HostState)
     → PollsPaid c polls round a b → Pays c c.polls b d → PollsPaid c polls (either round Worked) a d
-worked_next c polls Worked a b d x y = omega arith
-worked_next c polls Quiet a b d x y = omega arith
+worked_next c polls round a b d x y = grind arith
 
 module _ {m n : ℕ} {last : Option (List ℕ)} (hub : List ℕ) {round : Round}
     {result : Result Round HostFault} {a b d : HostState} (first : Part m a (Ok round) b)
@@ -204,7 +171,7 @@ module _ {m n : ℕ} {last : Option (List ℕ)} (hub : List ℕ) {round : Round}
 
   pub hubs_failed_pay : {B : Type 0} {Done : Weights → B → HostState → HostState → Type 0}
       {fault : HostFault} → PaysPart hubs_most Done a (Err fault) d
-  hubs_failed_pay = record { stops = hubs_stop; pays = λ c plan w still. tt }
+  hubs_failed_pay = search hubs_stop
 
 pub hubs_next : {m n : ℕ} {last : Option (List ℕ)} (hub : List ℕ) {round one : Round}
     {a b d : HostState} → rank_after last ≤ rank_of hub → Part m a (Ok round) b
@@ -212,7 +179,7 @@ pub hubs_next : {m n : ℕ} {last : Option (List ℕ)} (hub : List ℕ) {round o
     → PaysPart poll_most (HubPaid hub) b (Ok one) d → HubsSoFar (Some hub) (either round one) a d
 hubs_next {n = n} {last = last} hub {round = round} {one = one} {a = a} {b = b} {d = d}
     rises first second before then = record {
-      stops = hubs_stop hub first second before then;
+      stops = search hubs_stop;
       pays = λ c plan w still.
           let here : b.world.fault ≡ None = went_before second.goes.went still in
           let works = part_works first w here in
@@ -233,7 +200,7 @@ hubs_next {n = n} {last = last} hub {round = round} {one = one} {a = a} {b = b} 
         plugged_more plan.events b.world.taken d.world.taken (rank_after last)
             (rank_after (Some hub)) onward (omega arith),
       );
-      paid = worked_next c z.polls round a b d z.paid y;
+      paid = search worked_next;
     }
     polled c plan w still Quiet y z =
         let was : WasPlugged plan.events d.world.taken hub =
@@ -247,7 +214,7 @@ hubs_next {n = n} {last = last} hub {round = round} {one = one} {a = a} {b = b} 
             plugged_below-more plan.events b.world.taken d.world.taken (rank_after last)
                 (rank_after (Some hub)) hub onward rises (omega arith) was,
           );
-          paid = quiet_next c z.polls round a b d z.paid y.0;
+          paid = search quiet_next;
         }
 
 -- each of them was polled
@@ -272,8 +239,7 @@ row_back w v (m ∷ q) rest on = (same_device (m ∷ q) (course_wider (λ s u k.
 still_shows : {b : PortState} {o : Option PortState} → StillSet b o → (b.connection_changed ≡ true)
     ⊎ (b.reset_changed ≡ true)
     → (c : PortState) × (o ≡ Some c) × ((c.connection_changed ≡ true) ⊎ (c.reset_changed ≡ true))
-still_shows x (inl e) = (x.now, x.stands, inl (x.connection e))
-still_shows x (inr e) = (x.now, x.stands, inr (x.reset e))
+still_shows x h = grind arith
 
 -- it shows it as long as nothing is asked of it, and the device above it is reached
 pub shows_on : (w : World) {v : World} (q : List ℕ) (n : ℕ) → TouchesNoPort w v
@@ -289,35 +255,17 @@ shows_on w q n rest on x =
 status_shows : (w : World) (p : List ℕ) {status : PortStatus} (b : PortState)
     → port_there w.roots p ≡ Some b → status ≡ seen b → ShowsChange w p
     → status.connection_changed ≡ false → status.reset_changed ≡ false → ⊥
-status_shows w p b there is x quiet steady =
-    let same : b ≡ x.port = same_Some b x.port (sym there ∙ x.there) in
-    let connection : x.port.connection_changed ≡ false =
-    ap (λ (y : PortState). y.connection_changed) (sym same) ∙ ap
-    (λ (s : PortStatus). s.connection_changed) (sym is) ∙ quiet in
-    let reset : x.port.reset_changed ≡ false =
-    ap (λ (y : PortState). y.reset_changed) (sym same) ∙ ap (λ (s : PortStatus). s.reset_changed)
-    (sym is) ∙ steady in
-    elim x.changed [ inl e ↦ cc (connection, e) | inr e ↦ cc (reset, e) ]
+status_shows w p b there is x quiet steady = grind arith
 
 pub told_shows : (w v : World) (p : List ℕ) {status : PortStatus} → PortStatusAt p status w v
     → ShowsChange w p → status.connection_changed ≡ false → status.reset_changed ≡ false → ⊥
-told_shows w v p t x quiet steady =
-    let on : row_reached t.now.roots t.row.parent ≡ true =
-    row_back t.now v t.row.parent t.since t.row.reached in
-    let there : ShowsChange t.now (t.row.parent ++ (t.row.number ∷ [])) =
-    shows_on w t.row.parent t.row.number t.before on (rw t.row.is at x) in
-    status_shows t.now p t.port t.stood t.is (rw t.row.is there)
-    quiet steady
+told_shows w v p t x quiet steady = grind (arith, row_back, shows_on, status_shows)
 
 pub changed_paid : {c : Weights} {p : List ℕ} (a : HostState) {b : HostState}
     → ShowsChange a.world p → PortPaid c p a b → Pays c (c.polls + 28768) a b
 changed_paid a x (paid y) = y
 changed_paid {p = p} a x (idle status mid told quiet steady y) =
     absurd (told_shows a.world mid p told x quiet steady)
-
-pub port_costs : (c : Weights) {p : List ℕ} (a b : HostState) → PortPaid c p a b → Costs c 2000 a b
-port_costs c a b (paid x) = pays_none c a b (c.polls + 28768) 2000 x
-port_costs c a b (idle status mid told quiet steady x) = x
 
 -- Root ports
 
@@ -326,17 +274,14 @@ pub root_shows : (w : World) (n : ℕ) → 1 ≤ n → n ≤ roots_of w
 unfolding root_port_at
 root_shows w zero least most on = absurd (omega arith)
 root_shows w (suc i) least most on =
-    let back : suc i - 1 ≡ i = omega arith in
     record {
       port = root_port_at w (suc i);
-      there = row_port w.roots i ∙ slice_get-get_or (root_row w) i off (omega arith) ∙ ap
-          (λ k. Some (slice_index_or (root_row w) k off)) (sym back);
+      there = grind (arith, row_port, slice_get-get_or);
       changed = inl on;
     }
 
 roots_cost : (c : Weights) (round : Round) (a b : HostState) → RootsPaid c round a b → Costs c 0 a b
-roots_cost c Worked a b x = pays_none c a b c.polls 0 x
-roots_cost c Quiet a b x = rw x (costs_none c 0 a)
+roots_cost c round a b x = grind arith
 
 module _ {m n number : ℕ} {round : Round} {result : Result (Unit {0}) HostFault}
     {a b d : HostState} (first : Part m a (Ok round) b) (second : Part n b result d)
@@ -351,7 +296,7 @@ module _ {m n number : ℕ} {round : Round} {result : Result (Unit {0}) HostFaul
 
   pub roots_failed_pay : {B : Type 0} {Done : Weights → B → HostState → HostState → Type 0}
       {fault : HostFault} → PaysPart handling_most Done a (Err fault) d
-  roots_failed_pay = record { stops = roots_stop; pays = λ c plan w still. tt }
+  roots_failed_pay = search roots_stop
 
 pub roots_next : {m n number : ℕ} {round : Round} {a b d : HostState}
     → ShowsChange b.world (number ∷ []) → Part m a (Ok round) b
@@ -387,47 +332,30 @@ pub record ToldSoFar (hub : List ℕ) (bits number : ℕ) (a b : HostState) : Ty
       → ShowsTold hub bits a → NoneBelow bits number a b ⊎ LeftOver c number a b
 
 pub told_so_far_none : {hub : List ℕ} {bits : ℕ} (h : HostState) → ToldSoFar hub bits 1 h h
-told_so_far_none h = record {
-  stops = λ c plan w. few_stop c (told_most c) h h (omega arith) (omega arith);
-  costs = λ c plan w still. costs_none c 2000 h;
-  shown = λ c plan w still x. inl (record {
-    same = refl;
-    clear = λ n least less. absurd (omega arith);
-  });
-}
-
-clear_next : (bits number : ℕ) → has_bit bits number ≡ false
-    → ((n : ℕ) → 1 ≤ n → n < number → has_bit bits n ≡ false) → (n : ℕ) → 1 ≤ n → n < number + 1
-    → has_bit bits n ≡ false
-clear_next bits number quiet before n least less =
-    below_more (λ k. 1 ≤ k → has_bit bits k ≡ false) number (λ k lt first. before k first lt)
-    (λ first. quiet) n less least
+told_so_far_none h = grind arith
 
 -- the bit of the number is not set
 pub told_clear : {hub : List ℕ} (bits number : ℕ) (a b : HostState) → has_bit bits number ≡ false
     → ToldSoFar hub bits number a b → ToldSoFar hub bits (number + 1) a b
 told_clear bits number a b quiet x = record {
   stops = x.stops;
-  costs = λ c plan w still. costs_more c a b (2000 * number) (2000 * (number + 1))
-      (x.costs c plan w still) (omega arith);
+  costs = grind arith;
   shown = λ c plan w still s. elim (x.shown c plan w still s) [
-    | inl y ↦ inl (record { same = y.same; clear = clear_next bits number quiet y.clear })
+    | inl y ↦ inl (grind arith)
     | inr y ↦ inr (omega arith)
   ];
 }
 
 number_costs : (c : Weights) (hub : List ℕ) (number : ℕ) (round : Round) (a b : HostState)
     → NumberPaid c hub number round a b → Costs c 2000 a b
-number_costs c hub number Worked a b x = port_costs c a b x
-number_costs c hub number Quiet a b x = rw x.0 (costs_none c 2000 a)
+number_costs c hub number round a b x = grind arith
 
 -- the first port of which it told
 first_paid : (c : Weights) {hub : List ℕ} {bits : ℕ} (number : ℕ) (round : Round) (a b : HostState)
     → 1 ≤ number → number ≤ 15 → has_bit bits number ≡ true → ShowsTold hub bits a
     → NumberPaid c hub number round a b → Pays c (c.polls + 28768) a b
-first_paid c number Worked a b least most on x y = changed_paid a (x.shows number least most on) y
-first_paid c number Quiet a b least most on x y = let known : _ =
-    x.known number least most on in absurd (cc (known.1, y.1 known.0))
+first_paid c number Worked a b least most on x y = search (changed_paid, x.shows)
+first_paid c number Quiet a b least most on x y = grind arith
 
 module _ {m n : ℕ} {hub : List ℕ} {bits number : ℕ} (least : 1 ≤ number) (most : number ≤ 15)
     {result : Result Round HostFault} {a b d : HostState} (first : Part {A = Unit {0}} m a (Ok tt)
@@ -442,7 +370,7 @@ module _ {m n : ℕ} {hub : List ℕ} {bits number : ℕ} (least : 1 ≤ number)
 
   pub told_failed : {B : Type 0} {Done : Weights → B → HostState → HostState → Type 0}
       {fault : HostFault} → PaysPart told_most Done a (Err fault) d
-  told_failed = record { stops = told_stop; pays = λ c plan w still. tt }
+  told_failed = search told_stop
 
 pub told_next : {m n : ℕ} {hub : List ℕ} {bits number : ℕ} {round : Round} {a b d : HostState}
     → 1 ≤ number → number ≤ 15 → has_bit bits number ≡ true → Part {A = Unit {0}} m a (Ok tt) b
@@ -451,7 +379,7 @@ pub told_next : {m n : ℕ} {hub : List ℕ} {bits number : ℕ} {round : Round}
     → ToldSoFar hub bits (number + 1) a d
 told_next {n = n} {hub = hub} {bits = bits} {number = number} {round = round} {a = a} {b = b}
     {d = d} least most on first second before then = record {
-      stops = told_stop least most first second before then;
+      stops = search told_stop;
       costs = λ c plan w still.
           costs_then c a b d (2000 * number) 2000 (2000 * (number + 1))
           (before.costs c plan w (here still))
@@ -473,19 +401,9 @@ told_next {n = n} {hub = hub} {bits = bits} {number = number} {round = round} {a
         let pays : Pays c (c.polls + 28768) a d =
         first_paid c number round a d least most on s (rw y.same at one) in
         omega (arith, pays)
-    after c s one (inr y) = let costs : Costs c 2000 b d =
-        number_costs c hub number round b d one in omega (arith, costs)
+    after c s one (inr y) = grind arith
 
 -- all of them were handled
 pub told_all : {hub : List ℕ} {bits : ℕ} {done : Unit {0}} (a b : HostState)
     → ToldSoFar hub bits 16 a b → PaysPart told_most (λ c done. ToldPaid hub bits c) a (Ok done) b
-told_all a b x = record {
-  stops = x.stops;
-  pays = λ c plan w still. record {
-    costs = x.costs c plan w still;
-    shown = λ s. elim (x.shown c plan w still s) [
-      | inl y ↦ absurd (cc (s.set, y.clear s.number s.least (omega (arith, s.few))))
-      | inr y ↦ omega arith
-    ];
-  };
-}
+told_all a b x = grind arith

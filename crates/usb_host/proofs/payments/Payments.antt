@@ -101,21 +101,13 @@ ports_after {n = n} plan a b went x work =
 pub works_on-plan : (c : Weights) (plan : PlanData) (h : HostState) → WorksOn c plan h
     → HasPlanWithin c.most h.world
 works_on-plan c plan h x = record {
-  planned = record { plan = plan; is = x.is; paths = x.paths; course = x.course };
+  planned = grind arith;
   plugs = x.within;
 }
 
 pub works_on : {n : ℕ} {c : Weights} {plan : PlanData} {a b : HostState} → HostSteps n a b
     → WorksOn c plan a → HostInvariant b → b.world.fault ≡ None → WorksOn c plan b
-works_on {n = n} {a = a} {b = b} went x sound work = record {
-  sound = sound;
-  working = work;
-  is = x.is;
-  paths = x.paths;
-  course = course_joined x.course (went_course n a.world b.world went work);
-  within = x.within;
-  polls = x.polls;
-}
+works_on went x sound work = search (course_joined, went_course)
 
 pub part_works : {A : Type 0} {n : ℕ} {x : A} {c : Weights} {plan : PlanData} {a b : HostState}
     → Part n a (Ok x) b → WorksOn c plan a → b.world.fault ≡ None → WorksOn c plan b
@@ -131,11 +123,7 @@ pub looks_pay : (c : Weights) (n spare : ℕ) (a b : HostState)
     a.world.roots + 1 + b.world.taken → a.world.taken ≤ b.world.taken
     → n + hub_weight c * hubs b.entries + spare ≤ hub_weight c * hubs a.entries + 333136 + 100 *
     c.most + 2 * c.polls → Pays c spare a b
-looks_pay c n spare a b few looks strays on fits =
-    sums_look c.most c.polls n (hubs a.entries) (hubs b.entries) spare a.world.attempts
-    b.world.attempts (looks_by unmarked a.world.roots) (looks_by unmarked b.world.roots)
-    (strays_by unmarked unmarked a.world.roots) (strays_by unmarked unmarked b.world.roots)
-    a.world.taken b.world.taken few looks strays on fits
+looks_pay c n spare a b few looks strays on fits = search sums_look
 
 -- so many looks, other changes, hubs and events are paid
 pub plain_pays : (c : Weights) (n spare i j f g : ℕ) (a b : HostState)
@@ -147,12 +135,7 @@ pub plain_pays : (c : Weights) (n spare i j f g : ℕ) (a b : HostState)
     → a.world.taken + g ≤ b.world.taken
     → n + spare ≤ look_weight c * i + stray_weight c * j + hub_weight c *
     f + (372304 + 100 * c.most + 3 * c.polls) * g → Pays c spare a b
-plain_pays c n spare i j f g a b few looks strays fewer on fits =
-    sums_plain c.most c.polls n spare i j f g a.world.attempts b.world.attempts
-    (looks_by unmarked a.world.roots) (looks_by unmarked b.world.roots)
-    (strays_by unmarked unmarked a.world.roots) (strays_by unmarked unmarked b.world.roots)
-    (hubs a.entries) (hubs b.entries) a.world.taken
-    b.world.taken few looks strays fewer on fits
+plain_pays c n spare i j f g a b few looks strays fewer on fits = search sums_plain
 
 pub plain_costs : (c : Weights) (n : ℕ) (a b : HostState) → b.world.attempts ≤ a.world.attempts + n
     → looks_by unmarked b.world.roots + 7 * a.world.taken ≤ looks_by unmarked a.world.roots + 7 *
@@ -160,11 +143,7 @@ pub plain_costs : (c : Weights) (n : ℕ) (a b : HostState) → b.world.attempts
     → strays_by unmarked unmarked b.world.roots + a.world.taken ≤ strays_by unmarked unmarked
     a.world.roots + b.world.taken → hubs b.entries ≤ hubs a.entries
     → a.world.taken ≤ b.world.taken → Costs c n a b
-plain_costs c n a b few looks strays fewer on =
-    sums_costs c.most c.polls n a.world.attempts b.world.attempts (looks_by unmarked a.world.roots)
-    (looks_by unmarked b.world.roots) (strays_by unmarked unmarked a.world.roots)
-    (strays_by unmarked unmarked b.world.roots) (hubs a.entries) (hubs b.entries) a.world.taken
-    b.world.taken few looks strays fewer on
+plain_costs c n a b few looks strays fewer on = search sums_costs
 
 pub few_stop : (c : Weights) (n : ℕ) (a b : HostState) → b.world.attempts ≤ a.world.attempts + n
     → a.world.taken ≤ b.world.taken → StopsWithin c n a b
@@ -172,26 +151,11 @@ few_stop c n a b few on = omega (arith, mul-le-mul_left (event_weight c) on)
 
 -- Joins
 
-pub costs_none : (c : Weights) (n : ℕ) (a : HostState) → Costs c n a a
-costs_none c n a = omega arith
-
 module _ (c : Weights) (a b : HostState) where
-  pub costs_more : (m n : ℕ) → Costs c m a b → m ≤ n → Costs c n a b
-  costs_more m n x le = omega arith
-
-  pub stops_more : (m n : ℕ) → StopsWithin c m a b → m ≤ n → StopsWithin c n a b
-  stops_more m n x le = omega arith
-
   pub pays_none : (m n : ℕ) → Pays c m a b → Costs c n a b
   pays_none m n x = omega arith
 
 module _ (c : Weights) (a b d : HostState) where
-  pub pays_then : (m n k : ℕ) → Pays c m a b → Pays c n b d → k ≤ m + n → Pays c k a d
-  pays_then m n k x y le = omega arith
-
-  pub pays_costs : (m n k : ℕ) → Pays c m a b → Costs c n b d → k + n ≤ m → Pays c k a d
-  pays_costs m n k x y le = omega arith
-
   pub costs_pays : (m n k : ℕ) → Costs c m a b → Pays c n b d → k + m ≤ n → Pays c k a d
   costs_pays m n k x y le = omega arith
 
@@ -213,7 +177,7 @@ module _ (c : Weights) (a b d : HostState) where
   stops_after {n = n} m k l went before cost then le = pick b.world.fault refl
     where
       pick : (o : Option BusFault) → b.world.fault ≡ o → StopsWithin c l a d
-      pick None is = costs_stop m k l (cost is) (then is) le
+      pick None is = search costs_stop
       pick (Some f) is = stops_same l before ((traced_faulted went.traced f is).0)
           went.spends.onward
 
@@ -221,9 +185,6 @@ module _ (c : Weights) (a b d : HostState) where
 pub pays_where : {A : Type 0} {most : Weights → ℕ} (Done : Weights → A → HostState → HostState
     → Type 0) {a : HostState} {result : Result A HostFault} {b : HostState}
     → (HostInvariant a → PaysPart most Done a result b) → PaysPart most Done a result b
-pays_where Done f = record {
-  stops = λ c plan w. (f w.sound).stops c plan w;
-  pays = λ c plan w still. (f w.sound).pays c plan w still;
-}
+pays_where Done f = grind arith
 
 -- Parts that failed, and those that did nothing

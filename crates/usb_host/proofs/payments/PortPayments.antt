@@ -1,30 +1,28 @@
 -- What was left to do pays for a look at a port, and for its handling.
 use Rattle.std.proofs.Common.{◌≡◌, inl, inr, ap, sym, ◌∙◌, ℕ, true, List, None, Result, Ok, Err}
 use Rattle.std.proofs.Common.{◌⊎◌, refl, arith, ◌+◌, ◌*◌, false, OnOk, ◌≤◌, subst, [], ◌∷◌, ◌++◌}
-use Rattle.std.proofs.Common.{Option, Some, IsSome, IsSomeAnd, IfOk, is_some, length}
+use Rattle.std.proofs.Common.{Option, Some, IsSome, IsSomeAnd, IfOk}
 use Rattle.usb_port.specs.{PortStatus, parent_of, port_on_hub, IsPath}
 use Rattle.usb_world.specs.{AtPorts, World, PlanData}
 use Rattle.usb_backlog.specs.{KeepsFound, PaysLook, KeepsAll, KeepsBy, unmarked, KeepsPlain}
-use Rattle.usb_backlog.specs.{PaysBare, OwesAnew, devices_in, looks_by, strays_by}
+use Rattle.usb_backlog.specs.{PaysBare, OwesAnew}
 use Rattle.usb_hub.specs.{PortStatusAt}
 use Rattle.usb_enum.specs.{EnumFault, ParentLost, IsOrderly, HasPlanWithin, read_bound}
 use Rattle.usb_enum.proofs.Interface.{went_course}
-use Rattle.usb_world.proofs.Interface.{course_joined, course_wider, way_shorter}
-use Rattle.usb_table.specs.{KnownPort, Entries, without, is_below_hub, known_port, port_below}
-use Rattle.usb_table.specs.{finding_at, hub_facts_at, hub_facts_in}
-use Rattle.usb_host.specs.{ChangeCleared, ClearsConnection, FindsNone, LookPaid, LookPays, seen}
-use Rattle.usb_host.specs.{unseen, clearing_bound, HostState, claims, ClearsChange, StandsAt}
-use Rattle.usb_host.specs.{HostSteps, HostInvariant, ClearsReset, ServePaid, ServePays, found, bare}
-use Rattle.usb_host.specs.{tidied, calm, deciding_bound, IsOwned, Tidies, Watches, OnlyBusSteps}
-use Rattle.usb_host.specs.{below_known, below_unknown, hubs, Pays, PaysPart, PortPaid, Weights}
-use Rattle.usb_host.specs.{WorksOn, handling_most, hub_weight, paid, idle, EndsAs, FinishesAt}
-use Rattle.usb_host.specs.{HandlesNumber, CutAt, HandlesPort, HasHub, ServesPort, StaysOrForgets}
-use Rattle.usb_host.specs.{port_known, port_unknown, HostFault, Round, Worked, Quiet, Costs}
-use Rattle.usb_host.specs.{LooksAt, PaysLookOver, look_cost}
+use Rattle.usb_world.proofs.Interface.{course_joined, way_shorter}
+use Rattle.usb_table.specs.{KnownPort, Entries, without, known_port, port_below, hub_facts_at}
+use Rattle.usb_host.specs.{ChangeCleared, ClearsConnection, FindsNone, LookPaid, LookPays, unseen}
+use Rattle.usb_host.specs.{clearing_bound, HostState, claims, ClearsChange, StandsAt, HostSteps}
+use Rattle.usb_host.specs.{HostInvariant, ClearsReset, ServePaid, ServePays, found, bare, tidied}
+use Rattle.usb_host.specs.{calm, deciding_bound, IsOwned, Tidies, Watches, OnlyBusSteps}
+use Rattle.usb_host.specs.{below_known, hubs, Pays, PaysPart, PortPaid, Weights, WorksOn}
+use Rattle.usb_host.specs.{handling_most, hub_weight, paid, idle, EndsAs, FinishesAt, HandlesNumber}
+use Rattle.usb_host.specs.{HandlesPort, HasHub, ServesPort, StaysOrForgets, port_known, HostFault}
+use Rattle.usb_host.specs.{Round, Worked, Quiet, Costs, LooksAt, PaysLookOver, look_cost}
 use Rattle.usb_host.proofs.StepSums.{went_before}
 use Rattle.usb_host.proofs.payments.Backlogs.{told_pays_bare, told_keeps, told_looks, plain_of}
 use Rattle.usb_host.proofs.payments.Backlogs.{told_resets, told_steady}
-use Rattle.usb_host.proofs.PortLocations.{stands_at-claim, parent_length, lost_above}
+use Rattle.usb_host.proofs.PortLocations.{stands_at-claim, parent_length}
 use Rattle.usb_tree.proofs.Interface.{decided}
 use Rattle.usb_bus.proofs.Interface.{went_then, went_wider}
 use Rattle.usb_pipe.specs.{write_bound}
@@ -32,14 +30,11 @@ use Rattle.usb_host.proofs.devices.Owners.{owned_rests}
 use Rattle.usb_host.proofs.entries.KindCounts.{hubs-rest, none_rests}
 use Rattle.usb_host.proofs.knowledge.HandledPorts.{rests_stands}
 use Rattle.std.proofs.Math.Nat.{mul-le-mul_left}
-use Rattle.usb_tree.specs.{is_way}
 use Rattle.usb_backlog.proofs.Interface.{few-none, devices_in-plan}
-use Rattle.usb_table.proofs.Interface.{FoundPort, port_found-some}
 use Rattle.usb_host.proofs.RoundLoops.{part-fails, part-none, part-wider}
 use Rattle.usb_host.proofs.payments.Payments.{few_stop, looks_pay, plain_costs, plain_pays}
 use Rattle.usb_host.proofs.payments.Payments.{works_on-plan, ports_after, works_on-ports, sums_anew}
 use Rattle.usb_host.proofs.knowledge.Places.{finding-kept}
-use Rattle.usb_host.proofs.Services.{looked_left}
 
 -- What a look at a port, and the serving of one, pay of what is left to do.
 
@@ -57,8 +52,7 @@ plan_within-went most {n = n} a b went plan still =
         is = h.planned.is;
         paths = h.planned.paths;
         course =
-            course_joined h.planned.course (course_wider (λ s w k. tt)
-            (went_course n a.world b.world went still));
+            course_joined h.planned.course (search (went_course, a.world, b.world));
       };
       plugs = h.plugs;
     }
@@ -66,9 +60,7 @@ plan_within-went most {n = n} a b went plan still =
 -- a device was seen there, whatever the answer is
 pub look_seen : {before : World} (a : HostState) (result : Result (Unit {0}) EnumFault)
     (d : HostState) → PaysLook before d.world → LookPays before a result d
-look_seen a (Ok done) d x = seen x
-look_seen a (Err ParentLost) d x = inl (seen x)
-look_seen a _ d x = tt
+look_seen a result d x = grind arith
 
 module _ {path : List ℕ} {port : KnownPort} (a b : HostState) (s : StandsAt path port a)
     (went : HostSteps clearing_bound a b) (i : HostInvariant a) (before : World)
@@ -78,7 +70,7 @@ module _ {path : List ℕ} {port : KnownPort} (a b : HostState) (s : StandsAt pa
   pub look_lost : FindsNone clearing_bound a b → (fault : EnumFault)
       → ClearsChange port.port a.world (Err fault) b.world → LookPays before a (Err fault) b
   look_lost none ParentLost x = inr (
-    told_keeps ports told (x.backlog (claims a.entries) path (stands_at-claim s) i.owned tt),
+    told_keeps ports told (search (stands_at-claim, x.backlog)),
     none,
   )
   look_lost none _ x = tt
@@ -91,7 +83,7 @@ module _ {path : List ℕ} {port : KnownPort} (a b : HostState) (s : StandsAt pa
       same = ap (λ (h : HostState). h.world) others
 
       at_port : ChangeCleared path second a.world b.world
-      at_port = cleared (claims a.entries) path (stands_at-claim s) i.owned
+      at_port = search stands_at-claim
 
       orderly : b.world.fault ≡ None → IsOrderly a.world
       orderly still = i.order (went_before went still)
@@ -111,7 +103,7 @@ module _ {path : List ℕ} {port : KnownPort} (a b : HostState) (s : StandsAt pa
       pub look_bare : FindsNone clearing_bound a c → c.world.fault ≡ None → LookPaid before a c
       look_bare gone still =
           unseen (rw same (told_pays_bare path status before a.world ports told changed second
-          b.world at_port (orderly (ap (λ (w : World). w.fault) (sym same) ∙ still)))) gone
+          b.world at_port (orderly (search same)))) gone
 
 -- Serving
 
@@ -119,7 +111,7 @@ module _ {path : List ℕ} {port : KnownPort} {a b : HostState} (s : StandsAt pa
     (r : OnlyBusSteps a b) (went : HostSteps (read_bound 4) a b) (i : HostInvariant a)
     (ports : AtPorts a.world.left) where
   few : FindsNone deciding_bound a b
-  few = none_rests a (went_wider (read_bound 4) deciding_bound went (omega arith)) r
+  few = grind arith
 
   -- the hub was lost as it was asked for the status
   pub status_lost : (fault : EnumFault) → Watches port.port a.world (Err fault) b.world
@@ -138,16 +130,9 @@ module _ {path : List ℕ} {port : KnownPort} {a b : HostState} (s : StandsAt pa
       hubs = omega (arith, hubs-rest a r, then.hubs);
     }
 
-    look_paid : (c : HostState) → LookPaid a.world b c → ServePaid path a c
-    look_paid c (seen y) = found y
-    look_paid c (unseen y then) = bare y (then_none c then)
-
     pub after_look : (result : Result (Unit {0}) EnumFault) (c : HostState)
         → LookPays a.world b result c → ServePays path a result c
-    after_look (Ok done) c y = look_paid c y
-    after_look (Err ParentLost) c (inl y) = inl (look_paid c y)
-    after_look (Err ParentLost) c (inr y) = inr (y.0, then_none c y.1)
-    after_look _ c y = tt
+    after_look result c y = grind (arith, then_none)
 
     -- none was
     module _ (off : status.connection_changed ≡ false) (c : HostState)
@@ -155,7 +140,7 @@ module _ {path : List ℕ} {port : KnownPort} {a b : HostState} (s : StandsAt pa
       all_few : FindsNone deciding_bound a c
       all_few = record {
         went = went_wider (read_bound 4 + 2 * write_bound) deciding_bound
-            (went_then (read_bound 4) (2 * write_bound) went then.went) (omega arith);
+            (search went_then) (omega arith);
         hubs = omega (arith, hubs-rest a r, then.hubs);
       }
 
@@ -171,8 +156,7 @@ module _ {path : List ℕ} {port : KnownPort} {a b : HostState} (s : StandsAt pa
           → (status.enable_changed ≡ false → status.reset_changed ≡ false → (result ≡ Ok tt)
           × (c ≡ b)) → ServePays path a result c
       after_tidy order (Ok done) t reset quiet = elim (decided status.reset_changed) [
-        | inl e ↦ tidied (told_resets path status a.world b.world c.world ports told_there e
-            (reset e (claims b.entries) path (stands_at-claim stands) owned))
+        | inl e ↦ tidied (search (owned, stands, stands_at-claim, told_resets, told_there))
             all_few
         | inr e ↦
             let same : c ≡ b = (quiet (told_steady path told_there order) e).1 in
@@ -197,26 +181,19 @@ module _ {path : List ℕ} {port : KnownPort} {a b : HostState} (s : StandsAt pa
 pub has_by : (path : List ℕ) (es : Entries) (port : KnownPort) (above : Option (List ℕ))
     → port_below above (port_on_hub path) es ≡ Some port → IsSome above
     → IsSomeAnd above (λ hub. IsSome (hub_facts_at hub es))
-has_by path es port None known some = absurd (cc some)
-has_by path es port (Some hub) known some =
-    let x : FoundPort (finding_at hub es) (is_below_hub hub) (port_on_hub path) port =
-    port_found-some (finding_at hub es) (is_below_hub hub) (port_on_hub path) port known in
-    ap is_some (ap hub_facts_in x.stands ∙ x.told)
+has_by path es port above known some = grind arith
 
 hub_facts-without : (path : List ℕ) (es : Entries) (above : Option (List ℕ))
     → parent_of path ≡ above → IsSomeAnd above (λ hub. IsSome (hub_facts_at hub es))
     → IsSomeAnd above (λ hub. IsSome (hub_facts_at hub (without path es)))
 hub_facts-without path es None is h = h
-hub_facts-without path es (Some hub) is h =
-    let shorter : length path ≡ length hub + 1 = (parent_length path is).0 in
-    let away : is_way path hub ≡ false = way_shorter path hub (omega arith) in
-    rw (finding-kept path hub es away) h
+hub_facts-without path es (Some hub) is h = grind (arith, finding-kept, parent_length, way_shorter)
 
 -- it is listed yet where the port was forgotten
 pub has_hub : (path : List ℕ) (old new : Entries) → StaysOrForgets path old new → HasHub path old
     → HasHub path new
 has_hub path old new (inl same) h = rw same h
-has_hub path old new (inr gone) h = rw gone (hub_facts-without path old (parent_of path) refl h)
+has_hub path old new (inr gone) h = rw gone (search hub_facts-without)
 
 -- A port was served
 
@@ -243,34 +220,16 @@ module _ (c : Weights) (path : List ℕ) (a b : HostState) (few : b.world.attemp
   port_paid (found x) = paid (looks_pay c (257200 + 100 * c.most) (c.polls + 28768) a b few x.looks
       x.strays on (omega (arith, mul-le-mul_left (hub_weight c) more)))
   port_paid (bare x f) = paid (bare_pays c a b f x)
-  port_paid (tidied x f) = paid (bare_pays c a b f (record {
-    looks = x.looks;
-    strays = x.strays;
-    paid = inr x.paid;
-  }))
+  port_paid (tidied x f) = grind (arith, bare_pays)
   port_paid (calm status mid told off steady x f) =
-      idle status mid told off steady (plain_costs c 2000 a b (omega (arith, f.went.spends.most))
-      x.looks x.strays f.hubs on)
+      idle status mid told off steady (search plain_costs)
 
   -- A hub that is lost was dropped
 
   few_found : ServePaid path a b ⊎ (KeepsPlain a.world b.world × FindsNone deciding_bound a b)
       → PaysLook a.world b.world ⊎ (KeepsPlain a.world b.world
       × (b.world.attempts ≤ a.world.attempts + 7200) × (hubs b.entries ≤ hubs a.entries))
-  few_found (inl (found x)) = inl x
-  few_found (inl (bare x f)) = inr (
-    record { looks = x.looks; strays = x.strays },
-    omega (arith, f.went.spends.most),
-    f.hubs,
-  )
-  few_found (inl (tidied x f)) = inr (
-    record { looks = x.looks; strays = x.strays },
-    omega (arith, f.went.spends.most),
-    f.hubs,
-  )
-  few_found (inl (calm status mid told off steady x f)) =
-      inr (x, omega (arith, f.went.spends.most), f.hubs)
-  few_found (inr x) = inr (x.0, omega (arith, x.1.went.spends.most), x.1.hubs)
+  few_found h = grind arith
 
   pub lost_paid : (d : HostState) → ServePaid path a b
       ⊎ (KeepsPlain a.world b.world × FindsNone deciding_bound a b) → AtPorts b.world.left
@@ -286,7 +245,7 @@ module _ (c : Weights) (path : List ℕ) (a b : HostState) (few : b.world.attemp
   ]
     where
       all : KeepsBy unmarked unmarked unmarked b.world d.world
-      all = keeps.all ports unmarked unmarked unmarked few-none
+      all = search (few-none, keeps.all)
 
       kept : PaysLook a.world b.world → hubs d.entries ≤ hubs a.entries
       kept x = omega arith
@@ -297,10 +256,7 @@ module _ {path : List ℕ} {port : KnownPort} {a b : HostState} (s : StandsAt pa
   few_served : (c : Weights) {plan : PlanData} {served : Result (Unit {0}) EnumFault}
       → ServesPort path port a served b → WorksOn c plan a
       → b.world.attempts ≤ a.world.attempts + (257200 + 100 * c.most)
-  few_served c {plan = plan} x w = omega (
-    arith,
-    x.pays.few w.sound c.most (λ still. works_on-plan c plan a w),
-  )
+  few_served c x w = search (works_on-plan, x.pays.few)
 
   done_pays : {d : HostState} (c : Weights) (plan : PlanData) → WorksOn c plan a
       → d.world.fault ≡ None
@@ -308,22 +264,18 @@ module _ {path : List ℕ} {port : KnownPort} {a b : HostState} (s : StandsAt pa
       → EndsAs served result → ServesPort path port a served b
       → FinishesAt path served b result d → IfOk result (λ done. PortPaid c path a d)
   done_pays c plan w still (Ok done) (Ok x) ends serves finishes =
-      rw finishes.left (port_paid c path a b (few_served c serves w)
-      serves.requested.goes.went.spends.onward serves.hubs
-      (serves.pays.pays w.sound (works_on-ports w)
-      (went_before finishes.goes.went still)))
+      search (few_served, port_paid, went_before, works_on-ports, finishes.left, serves.pays.pays)
   done_pays {d = d} c plan w still (Err ParentLost) (Ok x) ends serves finishes =
       let first = serves.requested.goes.went in
       let here = went_before finishes.goes.went still in
       let has : HasHub path a.entries =
-      has_by path a.entries port (parent_of path) s.known
-      (lost_above path a.entries b.world serves.requested.told (parent_of path) refl s.known) in
+      has_by path a.entries port (parent_of path) s.known (grind arith) in
       paid
       (lost_paid c path a b (few_served c serves w) first.spends.onward serves.hubs d
       (serves.pays.pays w.sound (works_on-ports w) here) (ports_after plan a b first w here)
-      (finishes.drops.backlog (serves.sound.sound w.sound) still)
+      (grind arith)
       (omega (arith, finishes.goes.went.spends.most))
-      (finishes.fewer refl (has_hub path a.entries b.entries (serves.served w.sound) has)))
+      (search (has_hub, finishes.fewer, serves.served)))
   done_pays c plan w still (Ok done) (Err other) ends serves finishes = tt
   done_pays c plan w still (Err fault) (Err other) ends serves finishes = tt
   done_pays c plan w still _ (Ok x) ends serves finishes = absurd (cc ends)
@@ -368,8 +320,8 @@ pub number_stops : {hub : List ℕ} (number : ℕ) (p : List ℕ) {due : Type 0}
 number_stops number p {a = a} {b = b} is x = record {
   part = part-fails x.part (omega arith);
   handled = tt;
-  cut = λ i. subst (λ (q : List ℕ). CutAt q a b) is (x.cut i);
-  pays = record { stops = x.pays.stops; pays = λ c plan w still. tt };
+  cut = grind arith;
+  pays = search x.pays.stops;
 }
 
 -- none is known there
@@ -378,25 +330,12 @@ pub number_unknown : {hub : List ℕ} {number : ℕ} {h : HostState}
     → HandlesNumber hub number h (Ok Quiet) h
 number_unknown {h = h} unknown = record {
   part = part-none;
-  handled = record {
-    did = refl;
-    served = λ s. port_unknown unknown refl;
-    order = below_unknown unknown refl;
-  };
+  handled = grind arith;
   cut = tt;
-  pays = record {
-    stops = λ c plan w. few_stop c (handling_most c) h h (omega arith) (omega arith);
-    pays = λ c plan w still. (refl, unknown);
-  };
+  pays = grind arith;
 }
 
 -- A hub was dropped
-
-pub hubs_dropped : (result : Result (Unit {0}) HostFault) (hub : List ℕ) (a b : HostState)
-    → OnOk result (IsSome (hub_facts_at hub a.entries) → hubs b.entries + 1 ≤ hubs a.entries)
-    → IsSome (hub_facts_at hub a.entries) → OnOk result (hubs b.entries + 1 ≤ hubs a.entries)
-hubs_dropped (Ok done) hub a b fewer some = fewer some
-hubs_dropped (Err fault) hub a b fewer some = tt
 
 -- Where nothing was reported
 
@@ -405,23 +344,12 @@ pub anew_costs : (c : Weights) (plan : PlanData) (a d : HostState) → WorksOn c
     → OwesAnew a.world d.world → d.world.attempts ≤ a.world.attempts + handling_most c
     → hubs d.entries ≤ hubs a.entries + 1 → a.world.taken ≤ d.world.taken
     → Costs c (look_cost c plan) a d
-anew_costs c plan a d w x few more on =
-    sums_anew c.most c.polls (handling_most c) (devices_in a.world.roots) (length plan.events)
-    a.world.attempts d.world.attempts (looks_by unmarked a.world.roots)
-    (looks_by unmarked d.world.roots) (strays_by unmarked unmarked a.world.roots)
-    (strays_by unmarked unmarked d.world.roots) (hubs a.entries) (hubs d.entries) a.world.taken
-    d.world.taken few x.looks (devices_in-plan plan a.world w.course) x.strays more on
+anew_costs c plan a d w x few more on = search (devices_in-plan, sums_anew)
 
 -- and then the hub was dropped
 anew_then : (a b d : HostState) → AtPorts b.world.left → OwesAnew a.world b.world
     → KeepsAll b.world d.world → OwesAnew a.world d.world
-anew_then a b d ports x keeps =
-    let all : KeepsBy unmarked unmarked unmarked b.world d.world =
-    keeps.all ports unmarked unmarked unmarked few-none in
-    record {
-      looks = omega (arith, x.looks, all.looks);
-      strays = omega (arith, x.strays, all.strays);
-    }
+anew_then a b d ports x keeps = grind (arith, few-none)
 
 module _ {path : List ℕ} {port : KnownPort} {a b d : HostState} (s : StandsAt path port a) where
   few_over : (c : Weights) {plan : PlanData} {served : Result (Unit {0}) EnumFault}
@@ -439,21 +367,17 @@ module _ {path : List ℕ} {port : KnownPort} {a b d : HostState} (s : StandsAt 
       → EndsAs served result → LooksAt path port a served b → FinishesAt path served b result d
       → OnOk result (Costs c (look_cost c plan) a d)
   over_costs c plan w still (Ok done) (Ok tt) ends x y =
-      let here = went_before y.goes.went still in
-      rw y.left (anew_costs c plan a b w (x.pays.anew w.sound (works_on-ports w) tt here)
-      (rw y.left at (few_over c w x y)) x.hubs x.requested.goes.went.spends.onward)
+      search (anew_costs, few_over, went_before, works_on-ports, y.left, x.pays.anew)
   over_costs c plan w still (Err ParentLost) (Ok tt) ends x y =
       let first = x.requested.goes.went in
       let here = went_before y.goes.went still in
       let has : HasHub path a.entries = has_by path a.entries port (parent_of path) s.known
-      (lost_above path a.entries b.world x.requested.told (parent_of path) refl s.known) in
-      let gone : StaysOrForgets path a.entries b.entries =
-      looked_left path (Err ParentLost) a b (x.looked w.sound.owned) in
-      let fewer = y.fewer refl (has_hub path a.entries b.entries gone has) in
+      (grind arith) in
+      let gone : StaysOrForgets path a.entries b.entries = search x.looked in
+      let fewer = y.fewer refl (search has_hub) in
       anew_costs c plan a d w
       (anew_then a b d (ports_after plan a b first w here)
-      (x.pays.anew w.sound (works_on-ports w) tt here)
-      (y.drops.backlog (x.sound.sound w.sound) still))
+      (x.pays.anew w.sound (works_on-ports w) tt here) (grind arith))
       (few_over c w x y) (omega (arith, fewer, x.hubs))
       (omega (arith, first.spends.onward, y.goes.went.spends.onward))
   over_costs c plan w still (Ok done) (Err other) ends x y = tt
@@ -464,7 +388,6 @@ module _ {path : List ℕ} {port : KnownPort} {a b d : HostState} (s : StandsAt 
       → EndsAs served result → LooksAt path port a served b → FinishesAt path served b result d
       → PaysLookOver a result d
   look_over_pays {served = served} {result = result} ends x y = record {
-    stops = λ c plan w. few_stop c (handling_most c) a d (few_over c w x y)
-        (omega (arith, x.requested.goes.went.spends.onward, y.goes.went.spends.onward));
-    pays = λ c plan w still. over_costs c plan w still served result ends x y;
+    stops = λ c plan w. few_stop c (handling_most c) a d (few_over c w x y) (grind arith);
+    pays = search over_costs;
   }

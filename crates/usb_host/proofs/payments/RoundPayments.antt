@@ -1,15 +1,13 @@
 -- What was left to do pays for a round.
 use Rattle.std.proofs.Common.{◌≡◌, refl, sym, subst, arith, ℕ, Bool, List, None, Result, Ok, Err}
-use Rattle.std.proofs.Common.{IfOk, OnOk}
 use Rattle.usb_world.specs.{PlanData}
 use Rattle.usb_host.specs.{ServesEach, ServesHubs, Affords, Costs, PaysRound, RootsPaid, RoundPaid}
-use Rattle.usb_host.specs.{Stops, StopsWithin, Weights, event_weight, handling_most, hubs_most}
-use Rattle.usb_host.specs.{HostState, HasPlugs, Waits, HostSteps, either, LooksKeep, NoneWait}
-use Rattle.usb_host.specs.{PartStays, HostFault, Round, Worked, Quiet}
+use Rattle.usb_host.specs.{Stops, StopsWithin, Weights, event_weight, hubs_most, HostState, Waits}
+use Rattle.usb_host.specs.{HostSteps, either, LooksKeep, NoneWait, PartStays, HostFault, Round}
+use Rattle.usb_host.specs.{Worked, Quiet}
 use Rattle.usb_host.proofs.StepSums.{went_before}
 use Rattle.usb_host.proofs.rests.RestingRounds.{done}
-use Rattle.usb_host.proofs.payments.Payments.{costs_none, few_stop, pays_costs, pays_none}
-use Rattle.usb_host.proofs.payments.Payments.{pays_then, stops_after, stops_more, part_works}
+use Rattle.usb_host.proofs.payments.Payments.{few_stop, pays_none, stops_after, part_works}
 use Rattle.usb_host.proofs.payments.Payments.{works_on}
 
 pub affords_on : {n : ℕ} {c : Weights} (plan : PlanData) {a b : HostState} → HostSteps n a b
@@ -17,7 +15,7 @@ pub affords_on : {n : ℕ} {c : Weights} (plan : PlanData) {a b : HostState} →
 affords_on plan went stays x still = record {
   works = works_on went x.works (stays.sound.sound x.works.sound) still;
   few = x.few;
-  plugs = stays.plugs x.works.sound still plan x.works.is x.works.paths x.works.course x.plugs;
+  plugs = grind arith;
 }
 
 -- where no device waits nothing is looked at again
@@ -25,21 +23,16 @@ none_wait : (c : Weights) {plan : PlanData} (h : HostState) → Affords c plan h
 none_wait c h x = x.plugs.none_waits x.few
 
 pub one_waits : {a b : HostState} {path : List ℕ} → b ≡ a → Waits path b → NoneWait a.entries → ⊥
-one_waits {path = path} same waits none = none path (rw same at waits.entry)
+one_waits same waits none = grind arith
 
 module _ {result : Result Round HostFault} {a b : HostState} (x : ServesEach a result b) where
   pub roots_end_pay : (c : Weights) (plan : PlanData) → Affords c plan a → Stops c a b
-  roots_end_pay c plan w = stops_more c a b (handling_most c) (event_weight c)
-      (x.pays.stops c plan w.works) (omega arith)
+  roots_end_pay c plan w = grind arith
 
 module _ {roots : Round} {a b : HostState} (x : ServesEach a (Ok roots) b) where
   roots_cost : (c : Weights) (plan : PlanData) → Affords c plan a → b.world.fault ≡ None
       → Costs c 0 a b
-  roots_cost c plan w still = pick roots (x.pays.pays c plan w.works still)
-    where
-      pick : (roots : Round) → RootsPaid c roots a b → Costs c 0 a b
-      pick Worked y = pays_none c a b c.polls 0 y
-      pick Quiet y = rw y (costs_none c 0 a)
+  roots_cost c plan w still = grind arith
 
   module _ {result : Result Round HostFault} {d : HostState} (y : ServesHubs b result d) where
     pub hubs_end_pay : (c : Weights) (plan : PlanData) → Affords c plan a → Stops c a d
@@ -50,13 +43,11 @@ module _ {roots : Round} {a b : HostState} (x : ServesEach a (Ok roots) b) where
 
   module _ {hubs : Round} {d : HostState} (y : ServesHubs b (Ok hubs) d) where
     before : d.world.fault ≡ None → b.world.fault ≡ None
-    before = went_before y.keeps.part.goes.went
+    before h = search went_before
 
     both_paid : (c : Weights) (roots : Round) (hubs : Round) → RootsPaid c roots a b
         → RoundPaid c hubs b d → RoundPaid c (either roots hubs) a d
-    both_paid c Worked Worked p q = pays_then c a b d c.polls 0 0 p q (omega arith)
-    both_paid c Worked Quiet p q = pays_costs c a b d c.polls c.polls 0 p q (omega arith)
-    both_paid c Quiet hubs p q = rw p at q
+    both_paid c roots hubs p q = grind arith
 
     all_paid : (c : Weights) (plan : PlanData) → Affords c plan a → d.world.fault ≡ None
         → RoundPaid c (either roots hubs) a d
@@ -74,9 +65,7 @@ module _ {roots : Round} {a b : HostState} (x : ServesEach a (Ok roots) b) where
 
     affords_then : (c : Weights) (plan : PlanData) → Affords c plan a → d.world.fault ≡ None
         → Affords c plan d
-    affords_then c plan w still =
-        affords_on plan y.keeps.part.goes.went y.keeps.part.sound
-        (affords_on plan x.part.goes.went x.part.sound w (before still)) still
+    affords_then c plan w still = search (affords_on, before)
 
     waits_none : (c : Weights) (plan : PlanData) → Affords c plan a → d.world.fault ≡ None
         → NoneWait d.entries
@@ -120,31 +109,9 @@ module _ {roots : Round} {a b : HostState} (x : ServesEach a (Ok roots) b) where
 pub pays_stopped : (c : Weights) (plan : PlanData) (result : Result Round HostFault)
     (a b : HostState) (stopped : Bool) → PaysRound c plan a result b
     → PaysRound c plan a result (record b { stopped = stopped })
-pays_stopped c plan result a b stopped x =
-    record { most = x.most; pays = λ still. on result (x.pays still); plugs = has result x.plugs }
-  where
-    round_on : (round : Round) → RoundPaid c round a b
-        → RoundPaid c round a (record b { stopped = stopped })
-    round_on Worked p = p
-    round_on Quiet p = p
-
-    has : (result : Result Round HostFault)
-        → OnOk result (b.world.fault ≡ None → HasPlugs plan.events b)
-        → OnOk result (b.world.fault ≡ None → HasPlugs plan.events (record b { stopped = stopped }))
-    has (Ok round) plugs = λ still. let kept : HasPlugs plan.events b = plugs still in
-        record { each = kept.each; none_waits = kept.none_waits }
-    has (Err fault) plugs = tt
-
-    on : (result : Result Round HostFault) → IfOk result (λ round. RoundPaid c round a b)
-        → IfOk result (λ round. RoundPaid c round a (record b { stopped = stopped }))
-    on (Ok round) p = round_on round p
-    on (Err fault) p = tt
+pays_stopped c plan result a b stopped x = grind arith
 
 -- a host that has stopped does nothing
 pub stopped_pays : (c : Weights) (plan : PlanData) {fault : HostFault} (h : HostState)
     → PaysRound c plan h (Err fault) h
-stopped_pays c plan h = record {
-  most = few_stop c (event_weight c) h h (omega arith) (omega arith);
-  pays = λ still. tt;
-  plugs = tt;
-}
+stopped_pays c plan h = grind arith

@@ -1,42 +1,40 @@
 -- What a port is after its changes were cleared, and where nothing is asked of it since.
 use Rattle.std.proofs.Common.{◌≡◌, ◌∙◌, ℕ, zero, suc, true, false, List, [], ◌∷◌, Option, None}
 use Rattle.std.proofs.Common.{Some, ap, option_map, refl, subst, sym, ◌⊎◌, inl, inr, ◌&&◌, Bool}
-use Rattle.std.proofs.Common.{◌++◌, is_some, IsSome, not, Result, Ok, ◌≤◌, ◌||◌, arith, IfSome}
+use Rattle.std.proofs.Common.{◌++◌, is_some, Result, Ok, ◌≤◌, arith, IfSome}
 use Rattle.std.proofs.lemmas.Option.{same_Some}
-use Rattle.usb_port.specs.{PortState, PortStatus, ClearConnectionChange, plugged, unplugged, off}
+use Rattle.usb_port.specs.{PortState, PortStatus, ClearConnectionChange, unplugged, off}
 use Rattle.usb_port.specs.{is_attached, PortCall, ClearEnable, called_port}
 use Rattle.usb_device.specs.{fresh, Spec, Hub, Ports, vacant, taken, new_ports, first_ports}
-use Rattle.usb_device.specs.{replaced, changed, changed_at, port_at, port_of, port_there, State}
-use Rattle.usb_device.specs.{empty, full, called, place, state_there, Place, ended}
+use Rattle.usb_device.specs.{replaced, changed, changed_at, port_at, port_of, port_there, empty}
+use Rattle.usb_device.specs.{full, called, place, state_there, Place, ended}
 use Rattle.usb_world.specs.{Action, leaves_step, LeavesPort, after, after_change, after_event}
 use Rattle.usb_world.specs.{at_attempt, Course, World, Attempt, step_keeps_pending, AsksNothing}
 use Rattle.usb_world.specs.{UnchangedOrPending, Consistent, Step, attempt, with_attempt, here, step}
 use Rattle.usb_world.specs.{LeavesPortAlone}
 use Rattle.usb_world.proofs.Interface.{Keeps, OverSteps, course_joined, course_wider, happened_by}
-use Rattle.usb_world.proofs.Interface.{keeps_events, made_port, over_course, root_port, MadeOrNot}
-use Rattle.usb_world.proofs.Interface.{attempt_cases, kept_course, made_pend, made_sound}
-use Rattle.usb_world.proofs.Interface.{pending_persists, rests_or_pends, step_pend, OverEvents}
-use Rattle.usb_world.proofs.Interface.{over_ready}
-use Rattle.usb_tree.proofs.Interface.{false_true, and_false, and_none}
+use Rattle.usb_world.proofs.Interface.{made_port, over_course, root_port, MadeOrNot, attempt_cases}
+use Rattle.usb_world.proofs.Interface.{kept_course, made_pend, made_sound, pending_persists}
+use Rattle.usb_world.proofs.Interface.{rests_or_pends, step_pend, OverEvents, over_ready}
+use Rattle.usb_tree.proofs.Interface.{false_true, and_none}
 use Rattle.usb_hub.specs.{PortCallDone, PortStatusAt, ActsAt, ports_at_step, TouchesNoPort, HubPort}
-use Rattle.usb_hub.specs.{Root, External, Isolates}
+use Rattle.usb_hub.specs.{Isolates}
 use Rattle.usb_hub.proofs.Interface.{port_of_place, StandsTold, done_stands, due_course}
 use Rattle.usb_hub.proofs.Interface.{told_stands}
-use Rattle.usb_host.proofs.payments.Backlogs.{shows_connection, told_steady}
+use Rattle.usb_host.proofs.payments.Backlogs.{told_steady}
 use Rattle.usb_tree.specs.{has_power, pending, is_way, pending_at}
 use Rattle.usb_enum.specs.{Finding, IsKnownAs, EnumFault, Accepted, CanFail}
 use Rattle.usb_enum.proofs.Interface.{pends_there, some_of, devices_then}
 use Rattle.usb_address.proofs.Interface.{IsUp, attached_there, live_of_up, live_port, not_way}
 use Rattle.usb_address.proofs.Interface.{pend_down, pend_or_live, up_of_live, keeps_then}
-use Rattle.usb_address.proofs.Interface.{place_ports, pend-below as pend_under, port_there-below}
+use Rattle.usb_address.proofs.Interface.{pend-below as pend_under, port_there-below}
 use Rattle.usb_host.specs.{HasWay, Decides, HasOnlyWorldChanges, KeepsEach, was_disabled, HostState}
 use Rattle.usb_host.specs.{claims, IsOwned, Watches, ProgressOrLost, StandsAt, HostRuns}
 use Rattle.usb_host.specs.{OnlyBusSteps, HostInvariant}
 use Rattle.usb_host.proofs.knowledge.Places.{none_same}
 use Rattle.usb_bus.specs.{StepRun}
-use Rattle.usb_address.specs.{map_without, KeepsAddresses}
+use Rattle.usb_address.specs.{KeepsAddresses}
 use Rattle.usb_table.specs.{KnownPort}
-use Rattle.usb_host.proofs.HostProgress.{rests_holds, served_after}
 use Rattle.usb_host.proofs.PortLocations.{stands_at-claim}
 
 -- A port whose change of connection was cleared, and of which nothing was asked since: where it is
@@ -50,7 +48,7 @@ steady_none : Steady None
 steady_none b e on = absurd (cc e)
 
 steady_off : (c : PortState) → c.enable ≡ false → Steady (Some c)
-steady_off c dark b e on = false_true (sym dark ∙ ap (λ x. x.enable) (same_Some c b e) ∙ on)
+steady_off c dark b e on = false_true (search same_Some)
 
 -- Events
 
@@ -62,21 +60,18 @@ steady_new n j p = steady_none
 
 steady_first : (hub : Option Hub) (j : ℕ) (p : List ℕ) → Steady (port_at (first_ports hub) j p)
 unfolding port_at
-steady_first None j p = steady_none
-steady_first (Some hub) j p = steady_new hub.ports j p
+steady_first hub j p = grind (arith, steady_new)
 
 event_steady : (o : Option Spec) (k : Ports) (i : ℕ) (e : List ℕ) (j : ℕ) (p : List ℕ)
     → Steady (port_at k j p) → Steady (port_at (changed_at (replaced o) k i e) j p)
 unfolding changed_at port_at fresh
 event_steady None (vacant c k) zero [] zero [] h = steady_off (unplugged c) refl
-event_steady (Some s) (vacant c k) zero [] zero [] h =
-    steady_off (plugged s.low (unplugged c)) refl
+event_steady (Some s) (vacant c k) zero [] zero [] h = search steady_off
 event_steady (Some s) (vacant c k) zero [] zero (suc m ∷ p) h = steady_first s.hub m p
 event_steady o (vacant c k) (suc i) e (suc j) p h = event_steady o k i e j p h
 event_steady None (taken c s a k) zero [] zero [] h = steady_off (unplugged c) refl
 event_steady None (taken c s a k) zero [] zero (m ∷ p) h = steady_none
-event_steady (Some t) (taken c s a k) zero [] zero [] h =
-    steady_off (plugged t.low (unplugged c)) refl
+event_steady (Some t) (taken c s a k) zero [] zero [] h = search steady_off
 event_steady (Some t) (taken c s a k) zero [] zero (zero ∷ p) h = steady_none
 event_steady (Some t) (taken c s a k) zero [] zero (suc m ∷ p) h = steady_first t.hub m p
 event_steady o (taken c s a k) zero (suc m ∷ e) zero (suc n ∷ p) h = event_steady o a m e n p h
@@ -99,9 +94,8 @@ steady_steps : (p : List ℕ)
     → OverSteps (LeavesPort p) (Keeps (λ w. Steady (port_there w.roots p)))
 unfolding after_event leaves_step
 steady_steps p = record {
-  events = keeps_events (λ w. Steady (port_there w.roots p))
-      (λ e _ w l. happened_steady e.action w.devices w.roots p);
-  made = λ a w _ g. subst Steady (sym (made_port a (at_attempt w) p g));
+  events = search happened_steady;
+  made = grind (arith, made_port);
   root = λ c m w g. subst Steady (sym (root_port c m w.roots p g));
   refused = λ w h. h;
 }
@@ -113,12 +107,11 @@ pub cleared_steady : (p : List ℕ) (status : PortStatus) {old mid new : World}
 cleared_steady p status d t on =
     let moment : World = after d.last d.before in
     let first : Steady (port_there moment.roots p) =
-    λ b there _. shows_connection _ b (ap (option_map port_of) (sym d.done)
-    ∙ sym (port_of_place moment.roots p) ∙ there) in
+    λ b there _. grind (arith, port_of_place) in
     let alone : Course (LeavesPort p) moment t.now =
     course_wider (λ s w k. k.leaves) (course_joined (d.since p) (t.before p)) in
     ap (λ (x : PortStatus). x.connection_changed) t.is ∙ over_course (steady_steps p) alone first
-    t.port t.stood (ap (λ (x : PortStatus). x.enabled) (sym t.is) ∙ on)
+    t.port t.stood (grind arith)
 
 -- What a port is after its change of connection was cleared and its status read, and after it was
 -- told to pass nothing on.
@@ -175,11 +168,11 @@ module _ (q : List ℕ) (n : ℕ) where
           above : (has_power (at_attempt w).roots p ≡ true)
               ⊎ (pending (at_attempt w).roots q ≡ true) → Meets (attempt a) w
           above (inl y) = meets_live (at_attempt w).roots refl y
-          above (inr y) = pends (rw is (made_pend a (at_attempt w) q sp y))
+          above (inr y) = pends (rw is (search made_pend))
 
           pick : UnchangedOrPending w (at_attempt w) p → Meets (attempt a) w
           pick (inl y) = meets_live (at_attempt w).roots refl y.0
-          pick (inr y) = above (pend_or_live (at_attempt w).roots q n y)
+          pick (inr y) = above (search pend_or_live)
 
       cases : MadeOrNot a w (after (attempt a) w) → Meets (attempt a) w
       cases (inl e) = nothing (ap (λ v. v.roots) e)
@@ -212,32 +205,28 @@ module _ (q : List ℕ) (n : ℕ) where
   still_powered s w k b there power = pick k.port
     where
       was : option_map port_of (place (ports_at_step s w) p) ≡ Some b
-      was = sym (port_of_place (ports_at_step s w) p) ∙ there
+      was = sym (search port_of_place) ∙ there
 
       pick : (place (after s w).roots p ≡ place (ports_at_step s w) p)
           ⊎ (place (after s w).roots p ≡ option_map (called ClearConnectionChange)
           (place (ports_at_step s w) p))
           → (d : PortState) × (port_there (after s w).roots p ≡ Some d) × (d.power ≡ true)
-      pick (inl e) = (b, port_of_place (after s w).roots p ∙ ap (option_map port_of) e ∙ was, power)
+      pick (inl e) = grind (arith, port_of_place)
       pick (inr e) =
           let d : _ = powered_called (place (ports_at_step s w) p) b was in
-          (d.0, port_of_place (after s w).roots p ∙ ap (option_map port_of) e ∙ d.1, d.2 ∙ power)
+          grind (arith, port_of_place)
 
   up_step : (s : Step) (w : World) → ActsAt p ClearConnectionChange s w → Up w → Up (after s w)
-  up_step s w k (inr x) = inr (step_pend s w q (k.about.others q (not_way q n)).spares x)
-  up_step s w k (inl on) = by_meets (step_meets s w (k.about.others q (not_way q n)).spares on)
-    where
-      joined : (d : PortState) → port_there (after s w).roots p ≡ Some d → d.power ≡ true
-          → IsUp (after s w).roots q ⊎ (pending (after s w).roots q ≡ true) → Up (after s w)
-      joined d there power (inl up) = inl (live_of_up (after s w).roots q n d up there power)
-      joined d there power (inr x) = inr x
-
-      by_meets : Meets s w → Up (after s w)
-      by_meets (powered b there power) =
-          let d : _ = still_powered s w k b there power in
-          joined d.0 d.1 d.2 (above_step s w k (up_of_live w.roots q n on))
-      by_meets (pends x) = inr x
-      by_meets (nothing same) = inl (rw same on)
+  up_step s w k h = grind (
+    arith,
+    above_step,
+    live_of_up,
+    not_way,
+    step_meets,
+    step_pend,
+    still_powered,
+    up_of_live,
+  )
 
   up_course : {w v : World} → Course (ActsAt p ClearConnectionChange) w v → Up w → Up v
   up_course c = kept_course Up up_step c
@@ -251,7 +240,7 @@ module _ (q : List ℕ) (n : ℕ) where
 pub pends_elsewhere : (p : List ℕ) {c : PortCall} {old new : World} → PortCallDone p c old new
     → (x : List ℕ) → is_way p x ≡ false → pending old.roots x ≡ true → pending new.roots x ≡ true
 pends_elsewhere p d x away h =
-    let before = pending_persists x (course_wider (λ s w k. (k.about.others x away).spares)
+    let before = pending_persists x (course_wider (grind arith)
     d.repeats) h in
     let called = step_pend d.last d.before x (d.acts.about.others x away).spares before in
     pending_persists x (course_wider (λ s w k. k.spares) (d.since x)) called
@@ -275,33 +264,22 @@ split_last m (i ∷ l) = let x : _ = split_last i l in (m ∷ x.0, x.1, ap (λ e
 pends_way : (p : List ℕ) (w : World) → pending w.roots p ≡ true → HasWay w p
 pends_way [] w h = absurd (cc h)
 pends_way (m ∷ l) w h = let x : _ = split_last m l in
-    elim (pend_or_live w.roots x.0 x.1 (subst (λ e. pending w.roots e ≡ true) x.2 h)) [
-      | inl y ↦ inl (subst (λ r. has_power w.roots r ≡ true) (sym x.2) y)
+    elim (pend_or_live w.roots x.0 x.1 (grind arith)) [
+      | inl y ↦ inl (grind arith)
       | inr y ↦ inr (x.0, x.1, x.2, y)
     ]
 
 pub known_way : (p : List ℕ) (w : World) (o : Option Finding) → IsKnownAs w p o → HasWay w p
-known_way p w o (inl x) = pends_way p w x
-known_way p w o (inr x) = inl x.0
+known_way p w o h = grind (arith, pends_way)
 
 -- A status decides
 
 pending_decides : (c : Bool) (w : World) (p : List ℕ) → pending w.roots p ≡ true → Decides c w p
-pending_decides true w p h = inl h
-pending_decides false w p h = inl h
-
-is_some-is : (o : Option State) → is_some o ≡ true → IsSome o
-is_some-is None h = absurd (cc h)
-is_some-is (Some s) h = refl
-
-is_some-false : (o : Option State) → is_some o ≡ false → o ≡ None
-is_some-false None h = refl
-is_some-false (Some s) h = absurd (cc h)
+pending_decides c w p h = grind arith
 
 live_decides : (c : Bool) (w : World) (p : List ℕ) → has_power w.roots p ≡ true
     → is_some (state_there w.roots p) ≡ c → Decides c w p
-live_decides true w p on h = inr (on, is_some-is (state_there w.roots p) h)
-live_decides false w p on h = inr (on, is_some-false (state_there w.roots p) h)
+live_decides c w p on h = grind arith
 
 pub told_decides : (p : List ℕ) (status : PortStatus) (old new : World)
     → PortStatusAt p status old new → Consistent new.roots → HasWay old p
@@ -309,32 +287,29 @@ pub told_decides : (p : List ℕ) (status : PortStatus) (old new : World)
 told_decides p status old new t sane (inr x) =
     let above = pending_persists x.0 (course_wider (λ s w k. k.spares) (t.since x.0))
     (pending_persists x.0 (course_wider (λ s w k. k.spares) (t.before x.0)) x.3) in
-    pending_decides status.connected new p (rw x.2 (pend_down new.roots x.0 (x.1 ∷ []) above))
+    grind (arith, pend_down)
 told_decides p status old new t sane (inl on) = pick (told_stands p status old new t on)
   where
     powered : has_power new.roots p ≡ true → port_there new.roots p ≡ Some t.port
         → t.port.power ≡ true
-    powered h there = let b : _ = live_port new.roots p h in
-        ap (λ (x : PortState). x.power) (same_Some t.port b.0 (sym there ∙ b.1)) ∙ b.2
+    powered h there = grind (arith, live_port)
 
     pick : StandsTold p t.port old new → Decides status.connected new p
     pick (inl y) =
         let connected : status.connected ≡ is_attached t.port.attached =
         ap (λ (x : PortStatus). x.connected) t.is ∙ ap (λ b. b && is_attached t.port.attached)
-        (powered y.0 y.1) in
-        live_decides status.connected new p y.0 (sym (attached_there new.roots p t.port sane y.1)
-        ∙ sym connected)
+        (powered y.0 y.1) in grind (arith, attached_there, live_decides)
     pick (inr y) = pending_decides status.connected new p y
 
 -- what was decided stays so as the port is told to pass nothing on
 pub decided_stays : (c : Bool) (p : List ℕ) (old new : World) → PortCallDone p ClearEnable old new
     → Decides c old p → Decides c new p
-decided_stays true p old new d (inl x) = inl (pends_there p ClearEnable old new refl d x)
+decided_stays true p old new d (inl x) = inl (search pends_there)
 decided_stays true p old new d (inr x) = elim (done_stands p ClearEnable refl old new d x.0) [
   | inl y ↦ inr (y.0, some_of (state_there old.roots p) (state_there new.roots p) y.2 x.1)
   | inr y ↦ inl y
 ]
-decided_stays false p old new d (inl x) = inl (pends_there p ClearEnable old new refl d x)
+decided_stays false p old new d (inl x) = inl (search pends_there)
 decided_stays false p old new d (inr x) = elim (done_stands p ClearEnable refl old new d x.0) [
   | inl y ↦ inr (y.0, none_same (state_there new.roots p) y.2 x.1)
   | inr y ↦ inl y
@@ -345,10 +320,7 @@ decided_stays false p old new d (inr x) = elim (done_stands p ClearEnable refl o
 
 told_plain : {p : List ℕ} {status : PortStatus} {old new : World} → PortStatusAt p status old new
     → HasOnlyWorldChanges status
-told_plain t = (
-  ap (λ (s : PortStatus). s.suspend_changed) t.is,
-  ap (λ (s : PortStatus). s.over_current_changed) t.is,
-)
+told_plain t = grind arith
 
 pub watched_plain : (path : List ℕ) {port : KnownPort} (a : HostState) {b : World}
     → StandsAt path port a → IsOwned a → (status : PortStatus)
@@ -358,10 +330,7 @@ watched_plain path a s owned status w =
 
 pub keeps_each_then : {n : ℕ} {old mid new : World} {r s : Option (List ℕ)} → KeepsEach old mid
     → StepRun n mid r new s → KeepsEach mid new → KeepsEach old new
-keeps_each_then {n = n} x went y = record {
-  addresses = keeps_then _ _ _ x.addresses y.addresses;
-  devices = devices_then n _ _ _ x.devices went y.devices;
-}
+keeps_each_then x went y = search (devices_then, keeps_then, x.addresses, x.devices)
 
 -- The changes of a hub
 
@@ -369,15 +338,7 @@ keeps_each_then {n = n} x went y = record {
 
 pub failed_changed : (port : HubPort) (status : PortStatus) (device : Option Accepted)
     → was_disabled port status device ≡ true → CanFail port × (status.enable_changed ≡ true)
-failed_changed (Root number) status device is = absurd (cc is)
-failed_changed (External hub number) status device is = (
-  tt,
-  and_first status.enable_changed (status.connected && (not status.enabled && is_some device)) is,
-)
-  where
-    and_first : (b c : Bool) → (b && c) ≡ true → b ≡ true
-    and_first true c e = refl
-    and_first false c e = absurd (cc e)
+failed_changed port status device is = grind arith
 
 -- where the host knows what is so, none has
 pub none_failed : (path : List ℕ) (port : KnownPort) (a : HostState) {b : World}
@@ -397,14 +358,12 @@ pub failed_served : {n : ℕ} (port : HubPort) (a b c : HostState)
     (result : Result (Unit {0}) EnumFault) (status : PortStatus) → OnlyBusSteps a b → HostRuns n a b
     → (device : Option Accepted) → was_disabled port status device ≡ true
     → (CanFail port → ProgressOrLost result b c) → ProgressOrLost result a c
-failed_served port a b c result status r g device failed served =
-    served_after result a b c (rests_holds a b g r)
-    (served (failed_changed port status device failed).0)
+failed_served port a b c result status r g device failed served = grind arith
 
 -- none is reachable there either after what keeps addresses
 pub bares_kept : {port : HubPort} {a b c : World} → Isolates port a b → KeepsAddresses b c
     → Isolates port a c
-bares_kept x k = record { bares = λ f p at o. k.kept (map_without f p) (x.bares f p at o) }
+bares_kept x k = search (k.kept, x.bares)
 
 -- Where no event comes and nothing is asked of a port, it is as it was.
 
@@ -415,14 +374,7 @@ IfNoneCame R w v = (w.taken ≤ v.taken) × (v.taken ≡ w.taken → R w v)
 none_came : (R : World → World → Type 0) → ((w : World) → R w w)
     → ((w m v : World) → R w m → R m v → R w v) → OverEvents (IfNoneCame R)
 unfolding after_event
-none_came R same joined = record {
-  same = λ w. (omega arith, λ e. same w);
-  joined = λ w m v x y. (
-    omega (arith, x.0, y.0),
-    λ e. joined w m v (x.1 (omega (arith, x.0, y.0))) (y.1 (omega (arith, x.0, y.0))),
-  );
-  came = λ e es w l. (omega arith, λ k. absurd (omega arith));
-}
+none_came R same joined = grind arith
 
 pub ready_none : (w : World) → (at_attempt w).taken ≡ w.taken → (at_attempt w).roots ≡ w.roots
 ready_none w =
@@ -434,10 +386,8 @@ calm_steps : (p : List ℕ) → OverSteps (LeavesPortAlone p) (IfNoneCame
     (λ w v. port_there v.roots p ≡ port_there w.roots p))
 unfolding with_attempt leaves_step
 calm_steps p = record {
-  events =
-      none_came (λ w v. port_there v.roots p ≡ port_there w.roots p) (λ w. refl)
-      (λ w m v x y. y ∙ x);
-  made = λ a w made k. (omega arith, λ e. made_port a (at_attempt w) p k.leaves);
+  events = grind (arith, none_came);
+  made = grind (arith, made_port);
   root = λ c n w k. (omega arith, λ e. root_port c n w.roots p k.leaves);
   refused = λ w. (omega arith, λ e. refl);
 }
@@ -460,15 +410,9 @@ pend_row (taken b s a k) (suc i) none = pend_row k i none
 
 row_calm : (k : Ports) (n : ℕ) → IfSome (port_there k (n ∷ [])) (λ b. b.connection_changed ≡ false)
     → pending k (n ∷ []) ≡ false
-row_calm k zero told = refl
-row_calm k (suc i) told = pend_row k i told
+row_calm k n told = grind (arith, pend_row)
 
 pub pend-no_change : (k : Ports) (q : List ℕ) (n : ℕ) → 1 ≤ n → pending k q ≡ false
     → IfSome (port_there k (q ++ (n ∷ []))) (λ b. b.connection_changed ≡ false)
     → pending k (q ++ (n ∷ [])) ≡ false
-pend-no_change k [] n least none told = row_calm k n told
-pend-no_change k (m ∷ q) n least none told =
-    pend_under k m q n [] ∙ ap
-    (λ x. x || (has_power k (m ∷ q) && pending (place_ports (place k (m ∷ q))) (n ∷ []))) none ∙ ap
-    (λ x. has_power k (m ∷ q) && x) (row_calm (place_ports (place k (m ∷ q))) n
-    (rw (port_there-below k m q n []) at told)) ∙ and_false (has_power k (m ∷ q))
+pend-no_change k q n least none told = grind (arith, pend_under, port_there-below, row_calm)

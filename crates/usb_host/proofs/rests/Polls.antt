@@ -2,99 +2,69 @@
 -- change of connection.
 use Rattle.std.proofs.Common.{◌≡◌, ◌≤◌, ◌<◌, ◌==◌, ◌∙◌, if◌then◌else◌, ℕ, zero, suc, Bool, true}
 use Rattle.std.proofs.Common.{false, List, [], ◌∷◌, ◌++◌, Option, None, Some, refl, ap, sym, arith}
-use Rattle.std.proofs.Common.{slice_get, IfSome, ◌&&◌, ◌||◌, is_some, Ok, inl, inr}
-use Rattle.std.proofs.lemmas.Bool.{eqb-true, ne_eqb, eq-eqb}
+use Rattle.std.proofs.Common.{slice_get, IfSome, Ok}
+use Rattle.std.proofs.lemmas.Bool.{ne_eqb, eq-eqb}
 use Rattle.usb_port.specs.{PortState, has_change}
-use Rattle.usb_device.specs.{Answer, Way, lost, heard, gave, held_law, in_law, tells_changes}
-use Rattle.usb_device.specs.{change_bits, change_bytes, hub_ports, status_number, Spec, State}
-use Rattle.usb_device.specs.{Reply, Ports, ended, vacant, taken, full, row_of, place_at, port_at}
-use Rattle.usb_device.specs.{Location, path_to, reach_on, state_on, place_on, port_there, Hub}
-use Rattle.usb_device.specs.{IsSpec, IsHub, reach}
+use Rattle.usb_device.specs.{Way, heard, held_law, in_law, tells_changes, change_bits, hub_ports}
+use Rattle.usb_device.specs.{status_number, Spec, State, Ports, ended, vacant, taken, full, row_of}
+use Rattle.usb_device.specs.{place_at, port_at, Location, path_to, reach_on, state_on, place_on}
+use Rattle.usb_device.specs.{port_there, Hub, IsSpec, IsHub, reach}
 use Rattle.usb_device.specs.declared.answer.Answer.TheVariants as answer
 use Rattle.usb_device.specs.declared.transfer.InEndpoint.TheVariants as by
-use Rattle.usb_device.specs.Attempt.{whole, broken}
 use Rattle.usb_world.specs.{Outcome, Was, DidIn, IsMade, leaves_step, attempt, after, at_attempt}
 use Rattle.usb_world.specs.{outcome_in, World, roots_of}
 use Rattle.usb_world.specs.declared.types.Outcome.TheVariants as outcome
-use Rattle.usb_tree.specs.{IsSettled, address_of, pending, deep_at}
+use Rattle.usb_tree.specs.{IsSettled, pending}
 use Rattle.usb_world.proofs.Interface.{data_asks_nothing, each_in, got_nak, made_is, made_of}
 use Rattle.usb_world.proofs.Interface.{made_port, sane_spec}
-use Rattle.usb_tree.proofs.Interface.{false_true, and_of, neither}
+use Rattle.usb_tree.proofs.Interface.{false_true}
 use Rattle.usb_transaction.specs.{Target, is_at, AttemptLog, next, in_attempt, is_at as has_address}
 use Rattle.usb_transaction.specs.{Waiting}
 use Rattle.usb_transaction.proofs.Interface.{trail_settled}
 use Rattle.usb_hub.proofs.Interface.{row_port}
 use Rattle.usb_address.proofs.Interface.{in_kept}
 use Rattle.usb_device.proofs.Interface.{law_is}
-use Rattle.usb_host.proofs.knowledge.ChangeWords.{none_counts, one_if, weight_of}
+use Rattle.usb_host.proofs.knowledge.ChangeWords.{none_counts, weight_of}
 use Rattle.usb_resources.specs.{Addresses}
 use Rattle.usb_pipe.specs.{Interrupt}
-use Rattle.usb_enum.specs.{Accepted, Finding, HubFacts, facts_of, IsKnownAs, HostOptions}
+use Rattle.usb_enum.specs.{Accepted, Finding, HubFacts, facts_of, HostOptions}
 use Rattle.usb_enum.specs.declared.finding.Finding.TheVariants.{Device}
-use Rattle.usb_table.specs.{Pipes, Hub as HubPipe, Function, Absent, Entries, accepted_device_of}
-use Rattle.usb_table.specs.{accepted_device_at, is_below_hub, IsListening, finding_at, hub_facts_in}
-use Rattle.usb_table.specs.{hub_facts_at, tier_of, IsStatusPipe, ArePipesTo, ArePipesIf}
-use Rattle.usb_table.specs.{PipesInSync, PipesPolled, PolledThrough, StatusPipeInSync, pipes_at}
+use Rattle.usb_table.specs.{Pipes, Hub as HubPipe, Entries, accepted_device_of, accepted_device_at}
+use Rattle.usb_table.specs.{is_below_hub, IsListening, finding_at, hub_facts_in, hub_facts_at}
+use Rattle.usb_table.specs.{tier_of, IsStatusPipe, ArePipesTo, ArePipesIf, PipesInSync, PipesPolled}
+use Rattle.usb_table.specs.{PolledThrough, StatusPipeInSync, pipes_at}
 use Rattle.usb_host.specs.{Agrees, HostState, Accounted, HostInvariant, IsSilent, PortsListed}
 use Rattle.usb_host.specs.{IsTruthOf, DevicesAccurate, known_supply, table_in}
 use Rattle.usb_host.proofs.entries.Roots.{accounted}
 use Rattle.usb_enum.proofs.Interface.{accepts}
-use Rattle.usb_host.proofs.knowledge.Servers.{server_hears, is_below_hub-deep}
 use Rattle.usb_host.proofs.knowledge.SettledListings.{listed_port, reached_there, facts_given}
 
 -- A hub that answers a poll with NAK has no port whose change bits are set.
 
 -- What NAK tells
 
-heard-nak : (t2 : Way) (o : Answer) → heard t2 (Some o) ≡ Some answer.Nak → o ≡ answer.Nak
-heard-nak whole o e = cc e
-heard-nak broken o e = absurd (cc e)
-heard-nak lost o e = absurd (cc e)
-
 module _ (s : State) (row : List PortState) (max : ℕ) (t2 t3 : Way) where
   abbrev told : ℕ
   told = change_bits (hub_ports s.spec.hub) row
 
-  nak_new : (b : Bool) → (told == 0) ≡ b
-      → (if b then (heard t2 (Some answer.Nak), s) else gave
-      (record s { held = Some told }) by.Changes max s.changes.toggle
-      (change_bytes (hub_ports s.spec.hub) told) t2 t3).0 ≡ Some answer.Nak → told ≡ 0
-  nak_new true is e = eqb-true told 0 is
-  nak_new false is e = absurd (cc (heard-nak t2 _ e))
-
-  nak_held : (held : Option ℕ) → (held_law s row held max t2 t3).0 ≡ Some answer.Nak → told ≡ 0
-  nak_held None e = nak_new (told == 0) refl e
-  nak_held (Some bits) e = absurd (cc (heard-nak t2 _ e))
-
   nak_halt : (halted : Bool) → (if halted then (heard t2 (Some answer.Stall), s) else held_law s row
       s.held max t2 t3).0 ≡ Some answer.Nak → told ≡ 0
-  nak_halt true e = absurd (cc (heard-nak t2 answer.Stall e))
-  nak_halt false e = nak_held s.held e
+  nak_halt halted e = grind arith
 
 nak_bits : (s : State) (row : List PortState) (ep max : ℕ) (t1 t2 t3 : Way)
     → ep ≡ status_number s.spec s.registers → tells_changes s.spec s.registers ≡ true
     → (in_law s row ep max t1 t2 t3).0 ≡ Some answer.Nak
     → change_bits (hub_ports s.spec.hub) row ≡ 0
-nak_bits s row ep max whole t2 t3 number tells e =
-    nak_halt s row max t2 t3 s.changes.halted
-    (ap (λ (r : Reply). r.0) (sym (law_is s tells row max t2 t3)) ∙ (rw number at e))
-nak_bits s row ep max broken t2 t3 number tells e = absurd (cc e)
-nak_bits s row ep max lost t2 t3 number tells e = absurd (cc e)
+nak_bits s row ep max t1 t2 t3 number tells e = grind (arith, law_is, nak_halt)
 
 -- no bit is set, so no port has a change
 
 bit_by : (o : Option PortState) → weight_of o 1 ≡ 0 → IfSome o (λ b. has_change b ≡ false)
-bit_by None h = tt
-bit_by (Some p) h = pick (has_change p) h
-  where
-    pick : (b : Bool) → one_if b ≡ 0 → b ≡ false
-    pick true h = absurd (cc h)
-    pick false h = refl
+bit_by o h = grind arith
 
 bits_clear : (ports : ℕ) (row : List PortState) → ports ≤ 15 → change_bits ports row ≡ 0
     → (i : ℕ) → i < ports → IfSome (slice_get row i) (λ b. has_change b ≡ false)
-bits_clear ports row few h i less =
-    bit_by (slice_get row i) (none_counts ports row few h i less)
+bits_clear ports row few h i less = grind (arith, bit_by, none_counts)
 
 -- The ports of the device
 
@@ -107,8 +77,7 @@ port_of_row ended j p b s below i h = absurd (cc h)
 port_of_row (vacant c k) zero [] b s below i h = absurd (cc h)
 port_of_row (vacant c k) zero (n ∷ p) b s below i h = absurd (cc h)
 port_of_row (vacant c k) (suc j) p b s below i h = port_of_row k j p b s below i h
-port_of_row (taken c t a k) zero [] b s below i h = let same : a ≡ below = cc h in
-    ap (λ (x : Ports). port_at x i []) same ∙ row_port below i
+port_of_row (taken c t a k) zero [] b s below i h = grind (arith, row_port)
 port_of_row (taken c t a k) zero (zero ∷ p) b s below i h = absurd (cc h)
 port_of_row (taken c t a k) zero (suc m ∷ p) b s below i h = port_of_row a m p b s below i h
 port_of_row (taken c t a k) (suc j) p b s below i h = port_of_row k j p b s below i h
@@ -143,26 +112,21 @@ module _ (t : Target) (ep : ℕ) (other : 1 ≤ ep) (w : World) (made : IsMade (
       → change_bits ports (row_of below) ≡ 0 → AreClear ports now j
   clear ports b s below few stood none zero least most = absurd (omega arith)
   clear ports b s below few stood none (suc i) least most =
-      rw (left_as (suc i) ∙ port_of_row (at_attempt w).roots j.row j.rest b s below i stood)
-      (bits_clear ports (row_of below) few none i (omega arith))
+      grind (arith, bits_clear, left_as, port_of_row)
 
   did_clear : {s : State} (v : State) → DidIn (in_attempt t ep) w j s v
       → outcome_in (in_attempt t ep) w ≡ outcome.Nak → is_at v t ≡ true → TellsBy ep v
       → AreClear (hub_ports v.spec.hub) now j
-  did_clear v (DidIn.other d e) nak at by =
-      false_true (sym (ap (λ (x : State). is_at x t) e ∙ d) ∙ at)
+  did_clear v (DidIn.other d e) nak at by = false_true (grind arith)
   did_clear v (DidIn.silent d q o e) nak at by = absurd (cc (o, nak))
   did_clear {s = s} v (DidIn.asked d q b below stood x o e) nak at by =
       let far : (ep == 0) ≡ false = ne_eqb ep 0 (λ none. absurd (omega arith)) in
       let ran = in_kept s (row_of below) ep t.max x.first x.second x.third far in
-      let spec : v.spec ≡ s.spec = ap (λ (d : State). d.spec) e ∙ ran.0 in
-      let registers : v.registers ≡ s.registers = ap (λ (d : State). d.registers) e ∙ ran.1 in
       let heard = got_nak t.max (in_law s (row_of below) ep t.max x.first x.second x.third).0
       (sym o ∙ nak) in
       let none = nak_bits s (row_of below) ep t.max x.first x.second x.third
-      (rw (spec, registers) at by.number) (rw (spec, registers) at by.tells) heard in
-      clear (hub_ports v.spec.hub) b s below by.few stood
-      (ap (λ (d : Spec). change_bits (hub_ports d.hub) (row_of below)) spec ∙ none)
+      (search by.number) (search by.tells) heard in
+      clear (hub_ports v.spec.hub) b s below by.few stood (grind arith)
 
 -- the last attempt of a poll was answered NAK by the hub that has the address
 pub nak_clears : (t : Target) (ep : ℕ) → 1 ≤ ep → {old new : World} {last : Outcome}
@@ -171,12 +135,8 @@ pub nak_clears : (t : Target) (ep : ℕ) → 1 ≤ ep → {old new : World} {las
     → reach_on new.roots j ≡ true → state_on new.roots j ≡ Some v → is_at v t ≡ true → TellsBy ep v
     → AreClear (hub_ports v.spec.hub) new j
 nak_clears t ep other (next w trail step) nak settled single j v on stands at by =
-    let made : IsMade (in_attempt t ep) w =
-    made_of (in_attempt t ep) w (trail_settled trail settled) step in
-    let was : Was (DidIn (in_attempt t ep) w) w j v =
-    each_in (in_attempt t ep) w made (record { kind = refl; payload = refl }) single j v on
-    stands in
-    did_clear t ep other w made j v was.so nak at by
+    let made : IsMade (in_attempt t ep) w = search (made_of, trail_settled) in
+    let was : Was (DidIn (in_attempt t ep) w) w j v = grind (arith, each_in) in search did_clear
 
 -- What is known of a hub
 
@@ -202,26 +162,14 @@ pub facts_ports : (spec : Spec) (facts : HubFacts) → facts_of spec ≡ Some fa
 facts_ports spec facts h = ap (λ (f : HubFacts). f.ports) (facts_given spec facts h)
 
 few_by : (o : Option Hub) → IfSome o IsHub → hub_ports o ≤ 15
-few_by None h = omega arith
-few_by (Some hub) h = h.most
+few_by o h = grind arith
 
 -- A quiet poll
 
 status_pipe : (device : Accepted) {facts : HubFacts} (below : Bool) (pipes : Pipes)
     → device.hub ≡ Some facts → ArePipesTo device below pipes → (pipe : Interrupt)
     × (pipes ≡ HubPipe pipe) × IsStatusPipe device below pipe
-status_pipe device below (HubPipe pipe) hub are = (pipe, refl, are.1)
-status_pipe device below (Function pipes) hub are = false_true (sym are.function ∙ ap is_some hub)
-status_pipe device below (Absent said) hub are = absurd are
-
-change_none : (b : PortState) → has_change b ≡ false → b.connection_changed ≡ false
-change_none b h = (neither b.connection_changed b.enable_changed
-    (neither (b.connection_changed || b.enable_changed) b.reset_changed h).0).0
-
-change_by : (o : Option PortState) → IfSome o (λ b. has_change b ≡ false)
-    → IfSome o (λ b. b.connection_changed ≡ false)
-change_by None h = tt
-change_by (Some b) h = change_none b h
+status_pipe device below pipes hub are = grind arith
 
 -- the device that is reached at a path
 record ReachedAt (options : HostOptions) (w : World) (entries : Entries) (j : Location)
@@ -238,10 +186,7 @@ module _ {options : HostOptions} (w : World) {entries : Entries} {addresses : Ad
   pub reached_at : (path : List ℕ) {device : Accepted}
       → finding_at path entries ≡ Some (Device device) → pending w.roots path ≡ false
       → reach w.roots path ≡ true
-  reached_at path {device = device} found none =
-      let here : IsKnownAs w path (Some (Device device)) =
-      rw found at (known path (listed_port w fits path (Device device) found)) in
-      elim here [ inl pends ↦ false_true (sym none ∙ pends) | inr there ↦ there.1 ]
+  reached_at path found none = grind (arith, listed_port)
 
   stands_at : (j : Location) {device : Accepted} → finding_at (path_to j) entries
       ≡ Some (Device device) → reach w.roots (path_to j) ≡ true
@@ -264,13 +209,10 @@ module _ {options : HostOptions} (w : World) {entries : Entries} {addresses : Ad
     on = r.on;
     stands = r.stands;
     listens = record {
-      at = eq-eqb (address_of r.state) device.address r.tells.set.address;
+      at = grind arith;
       loud = (accepts r.state.spec options (tier_of (path_to j)) (known_supply (path_to j) entries)
           device.chosen r.tells.found.0).loud;
-      hears = server_hears device.low (deep_at false j.rest)
-          (device.low && is_below_hub (path_to j)) r.tells.found.1.low
-          (λ low deep. and_of device.low (is_below_hub (path_to j)) low
-          (is_below_hub-deep j.row j.rest deep));
+      hears = grind arith;
     };
   }
 
@@ -279,8 +221,7 @@ module _ {options : HostOptions} (w : World) {entries : Entries} {addresses : Ad
       → IsListening path device w
   heard_at [] found on = false_true on
   heard_at (zero ∷ p) found on = false_true on
-  heard_at (suc j ∷ p) {device = device} found on = heard_by device
-      (stands_at (record { row = j; rest = p }) found on)
+  heard_at (suc j ∷ p) {device = device} found on = heard_by device (search stands_at)
 
 module _ (h : HostState) (agrees : Agrees h.options h.entries h.addresses) (s : HostInvariant h)
     (still : h.world.fault ≡ None) where
@@ -293,23 +234,11 @@ module _ (h : HostState) (agrees : Agrees h.options h.entries h.addresses) (s : 
         → IfSome (port_there h.world.roots (path_to j ++ (number ∷ [])))
         (λ b. b.connection_changed ≡ false)
     clear_by pipe old {j = j} device told is settled waiting r same level =
-        let ports : facts.ports ≡ hub_ports r.state.spec.hub =
-        facts_ports r.state.spec facts (sym r.tells.found.1.hub ∙ told) in
         let spec : IsSpec r.state.spec = sane_spec h.world.roots j.row j.rest r.state
         (s.order still).sane r.stands in
-        let at : has_address r.state pipe.target ≡ true =
-        eq-eqb r.state.registers.address pipe.target.addr
-        (r.tells.set.address ∙ sym (ap (λ (t : Target). t.addr) is.target)) in
-        let by : TellsBy pipe.ep r.state = record {
-          tells = level.to.tells;
-          number = sym same ∙ level.to.number;
-          few = few_by r.state.spec.hub spec.hub;
-        } in
+        let at : has_address r.state pipe.target ≡ true = grind (arith, eq-eqb) in
         let clear : AreClear (hub_ports r.state.spec.hub) h.world j =
-        nak_clears pipe.target pipe.ep is.other waiting.trail refl settled s.owned.single j r.state
-        r.on r.stands at by in
-        change_by (port_there h.world.roots (path_to j ++ (number ∷ [])))
-        (clear number least (omega arith))
+        grind (arith, nak_clears) in grind arith
 
     silent_by : (path : List ℕ) {pipe rest : Interrupt} (old : World)
         → (there : HubThere path h.entries facts)
@@ -325,9 +254,9 @@ module _ (h : HostState) (agrees : Agrees h.options h.entries h.addresses) (s : 
         (record { row = j; rest = p }) there.found on in
         let level : PipesInSync there.device (HubPipe rest) r.state =
         rw left at ((s.level still (suc j ∷ p)).level there.device r.state
-        (ap accepted_device_of there.found) on r.stands) in
+        (search there.found) on r.stands) in
         clear_by pipe old there.device there.told is through.settled through.polls.asked r
-        (ap (λ (pipe : Interrupt). pipe.ep) through.polls.pipe_left) level
+        (grind arith) level
 
   -- the poll answered that there is nothing to tell
   pub poll_silent : (path : List ℕ) (pipes : Pipes) (old : World)
@@ -342,5 +271,4 @@ module _ (h : HostState) (agrees : Agrees h.options h.entries h.addresses) (s : 
       × PolledThrough pipe.0 old (Ok None) rest h.world =
       rw pipe.1 at polled in
       let on = reached_at h.world (accounted h agrees s.rooted) (s.known still) (s.truthful still)
-      path there.found none in
-      silent_by number least most path old there pipe.2 through.1 through.2 on
+      path there.found none in search silent_by

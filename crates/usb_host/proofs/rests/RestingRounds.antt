@@ -2,8 +2,7 @@
 use Rattle.std.proofs.Common.{◌≡◌, refl, arith, suc, zero, false, ℕ, ◌+◌, ◌-◌, ◌<◌, ◌≤◌, List, []}
 use Rattle.std.proofs.Common.{◌∷◌, length, slice_index_or, ◌⊎◌, ◌∙◌, inl, inr, sym, ap, subst}
 use Rattle.std.proofs.Common.{length-append, Bool, true, ◌++◌, Option, None, Some, Result, Ok}
-use Rattle.std.proofs.Common.{slice_get, is_some, if◌then◌else◌, IfSome, IfNone, IsSome, IsSomeAnd}
-use Rattle.std.proofs.Common.{Err, is_err}
+use Rattle.std.proofs.Common.{slice_get, if◌then◌else◌, IfSome, IfNone, IsSome, IsSomeAnd, is_err}
 use Rattle.usb_port.specs.{PortState, off, path_cmp, parent_of, port_on_hub}
 use Rattle.usb_world.specs.{World, root_row, roots_of, root_port_at, change_of, changes}
 use Rattle.std.specs.Ordering.{is_eq}
@@ -11,24 +10,22 @@ use Rattle.std.specs.declared.cmp.Ordering.{Ordering}
 use Rattle.std.specs.declared.cmp.Ordering.TheVariants.{Less, Equal, Greater}
 use Rattle.usb_port.proofs.Interface.{rejoined}
 use Rattle.usb_resources.specs.{Addresses, IsFull}
-use Rattle.usb_device.specs.{row_of, port_there}
+use Rattle.usb_device.specs.{port_there}
 use Rattle.usb_tree.specs.{pending}
 use Rattle.usb_world.proofs.Interface.{course_joined, course_wider, pending_persists}
 use Rattle.usb_tree.proofs.Interface.{false_true, decided}
 use Rattle.usb_hub.specs.{TouchesNoPort}
 use Rattle.usb_hub.proofs.Interface.{row_port}
-use Rattle.usb_enum.specs.{NoAddress, Finding, HubFacts, HostOptions}
-use Rattle.usb_enum.specs.declared.finding.Finding.TheVariants.{Device, Refused}
-use Rattle.usb_table.specs.{Entries, is_hub, is_waiting, hub_facts_in, hub_facts_at, IsListedPort}
-use Rattle.usb_table.specs.{IsPortBelow, ListsEach, ComesAfter, Stands, IsNext, IsLast}
+use Rattle.usb_enum.specs.{Finding, HubFacts, HostOptions}
+use Rattle.usb_table.specs.{Entries, is_hub, is_waiting, hub_facts_at, IsListedPort, IsPortBelow}
+use Rattle.usb_table.specs.{ListsEach, ComesAfter, Stands, IsNext, IsLast}
 use Rattle.usb_table.proofs.Interface.{path_tied}
-use Rattle.usb_host.specs.{Agrees, HostState, IsRooted, HostRuns, Did, Remains, either, HostFault}
+use Rattle.usb_host.specs.{Agrees, HostState, IsRooted, HostRuns, Did, either, HostFault}
 use Rattle.usb_host.specs.{HostInvariant, IsSilent, IsAtRest, NoneWaiting, KeepsInvariant}
-use Rattle.usb_host.specs.{RootsRest, HubKeeps, HubsKeep, LooksKeep, Round, Worked, Quiet, NoneWait}
+use Rattle.usb_host.specs.{RootsRest, HubKeeps, HubsKeep, LooksKeep, Round, Quiet}
 use Rattle.usb_host.proofs.StepSums.{went_before}
 use Rattle.usb_host.proofs.entries.Agreements.{accounts_listed, path_cmp-greater}
 use Rattle.usb_host.proofs.rests.ClearedPorts.{calm_port, pend-no_change}
-use Rattle.usb_host.proofs.rests.Polls.{hub_there}
 use Rattle.usb_host.proofs.entries.Roots.{accounted}
 use Rattle.usb_host.proofs.knowledge.SettledListings.{listed_port}
 use Rattle.usb_host.proofs.PortLocations.{root_alone}
@@ -68,12 +65,10 @@ pub ok_is : (r s : Round) → done r ≡ done s → r ≡ s
 ok_is r s e = cc e
 
 pub quiet_first : (r s : Round) → either r s ≡ Quiet → r ≡ Quiet
-quiet_first Worked s h = absurd (cc h)
-quiet_first Quiet s h = refl
+quiet_first r s h = grind arith
 
 pub quiet_second : (r s : Round) → either r s ≡ Quiet → s ≡ Quiet
-quiet_second Worked s h = absurd (cc h)
-quiet_second Quiet s h = h
+quiet_second r s h = grind arith
 
 pub all_rest_then : (u w v : World) → TouchesNoPort u w → TouchesNoPort w v → TouchesNoPort u v
 all_rest_then u w v x y p = course_joined (x p) (y p)
@@ -110,34 +105,16 @@ Polled last h = (hub : List ℕ) → (ComesAfter last hub → ⊥) → pending h
 
 stands_hub : (last : Option (List ℕ)) (hub : List ℕ) (es : Entries) (facts : HubFacts)
     → hub_facts_at hub es ≡ Some facts → ComesAfter last hub → Stands is_hub last es hub
-stands_hub last hub es facts at after =
-    let there = hub_there hub es facts at in
-    record {
-      finding = Device there.device;
-      found = there.found;
-      fits = ap is_some there.told;
-      after = after;
-    }
-
-is_hub-facts : (f : Finding) → is_hub f ≡ true → IsSome (hub_facts_in (Some f))
-is_hub-facts (Device device) h = h
-is_hub-facts (Refused cause) h = absurd (cc h)
+stands_hub last hub es facts at after = grind arith
 
 -- the next hub is listed
 pub next_listed : {last : Option (List ℕ)} {hub : List ℕ} {es : Entries} → IsNext is_hub last es hub
     → IsSome (hub_facts_at hub es)
-next_listed is = rw is.stands.found (is_hub-facts is.stands.finding is.stands.fits)
+next_listed is = grind arith
 
 after_or_not : (last : Option (List ℕ)) (hub : List ℕ) → ComesAfter last hub
     ⊎ (ComesAfter last hub → ⊥)
-after_or_not None hub = inl tt
-after_or_not (Some last) hub = pick (path_cmp last hub) refl
-  where
-    pick : (o : Ordering) → path_cmp last hub ≡ o → (path_cmp last hub ≡ Less)
-        ⊎ (path_cmp last hub ≡ Less → ⊥)
-    pick Less is = inl is
-    pick Equal is = inr (λ less. cc (less, is))
-    pick Greater is = inr (λ less. cc (less, is))
+after_or_not last hub = grind arith
 
 module _ {last : Option (List ℕ)} {next : List ℕ} (b c : HostState)
     (is : IsNext is_hub last b.entries next) (same : c.entries ≡ b.entries)
@@ -147,13 +124,11 @@ module _ {last : Option (List ℕ)} {next : List ℕ} (b c : HostState)
   polled_next hub not none facts number at least most = pick (path_cmp next hub) refl
     where
       was : hub_facts_at hub b.entries ≡ Some facts
-      was = ap (λ (es : Entries). hub_facts_at hub es) (sym same) ∙ at
+      was = grind arith
 
       earlier : (ComesAfter last hub → ⊥) → IfSome (port_there c.world.roots (hub ++ (number ∷ [])))
           (λ b. b.connection_changed ≡ false)
-      earlier before_last = silent_stays hub b c same rests taken
-          (before hub before_last (pended hub b.world c.world rests none)) facts number at least
-          most
+      earlier before_last = search (pended, silent_stays)
 
       pick : (o : Ordering) → path_cmp next hub ≡ o
           → IfSome (port_there c.world.roots (hub ++ (number ∷ [])))
@@ -178,8 +153,7 @@ module _ {m n : ℕ} (r s : Round) (a b c : HostState) (p : HostRuns m a b) (q :
       → (done s ≡ done Quiet → c.world.fault ≡ None → TouchesNoPort b.world c.world)
       → TouchesNoPort a.world c.world
   calm_then x y = all_rest_then a.world b.world c.world
-      (x (quiet_first r s quiet) (went_before q.went still))
-      (y (ap done (quiet_second r s quiet)) still)
+      (search (quiet_first, went_before)) (search quiet_second)
 
   pub polled_then : {last : Option (List ℕ)} {next : List ℕ} → IsNext is_hub last b.entries next
       → c.world.taken ≡ a.world.taken → HostInvariant a → KeepsInvariant a b → Did s b c
@@ -188,14 +162,10 @@ module _ {m n : ℕ} (r s : Round) (a b c : HostState) (p : HostRuns m a b) (q :
   polled_then is taken sound stays did before hub =
       let second = quiet_second r s quiet in
       let told = ap done second in
-      let remains : Remains b c = rw second at did in
-      let early = p.went.spends.onward in
-      let late = q.went.spends.onward in
       let taken_first : b.world.taken ≡ a.world.taken = omega arith in
       let taken_second : c.world.taken ≡ b.world.taken = omega arith in
-      polled_next b c is (ap (λ (h : HostState). h.entries) remains) (hub.calm told still)
-      taken_second (before sound (quiet_first r s quiet) (went_before q.went still)
-      taken_first) (hub.silent (stays.sound sound) told still)
+      polled_next b c is (grind arith) (hub.calm told still)
+      taken_second (search (quiet_first, went_before)) (hub.silent (stays.sound sound) told still)
 
 -- after the last of them all were polled
 pub polled_all : (last : Option (List ℕ)) (h : HostState) → IsLast is_hub last h.entries
@@ -207,16 +177,9 @@ polled_all last h none polled hub calm facts number at least most = elim (after_
 
 -- Each port that is known
 
-abbrev one_if_changed : Bool → ℕ
-one_if_changed b = if b then 1 else 0
-
 change_clear : (p : PortState) → change_of p ≡ 0 → p.connection_changed ≡ false
 unfolding change_of
-change_clear p h = pick p.connection_changed h
-  where
-    pick : (b : Bool) → one_if_changed b ≡ 0 → b ≡ false
-    pick true e = absurd (cc e)
-    pick false e = refl
+change_clear p h = grind arith
 
 changes_clear : (row : List PortState) (i : ℕ) → changes row ≡ 0
     → IfSome (slice_get row i) (λ b. b.connection_changed ≡ false)
@@ -227,9 +190,7 @@ changes_clear (p ∷ row) (suc i) h = changes_clear row i (omega arith)
 
 root_clear : (w : World) (n : ℕ) → 1 ≤ n → changes (root_row w) ≡ 0
     → IfSome (port_there w.roots (n ∷ [])) (λ b. b.connection_changed ≡ false)
-root_clear w zero least none = absurd (omega arith)
-root_clear w (suc i) least none = none_told (row_port w.roots i)
-    (changes_clear (row_of w.roots) i none)
+root_clear w n least none = grind (arith, changes_clear, row_port)
 
 module _ (a c : HostState) (agrees : Agrees c.options c.entries c.addresses) (rooted : IsRooted c)
     (rests : TouchesNoPort a.world c.world) (taken : c.world.taken ≡ a.world.taken)
@@ -239,17 +200,7 @@ module _ (a c : HostState) (agrees : Agrees c.options c.entries c.addresses) (ro
       → pending c.world.roots hub ≡ false)
       → IsSomeAnd (hub_facts_at hub c.entries) (λ facts. (1 ≤ n) × (n ≤ facts.ports))
       → pending c.world.roots (hub ++ (n ∷ [])) ≡ false
-  below_rests hub n above port = pick (hub_facts_at hub c.entries) refl port
-    where
-      pick : (o : Option HubFacts) → hub_facts_at hub c.entries ≡ o
-          → IsSomeAnd o (λ facts. (1 ≤ n) × (n ≤ facts.ports))
-          → pending c.world.roots (hub ++ (n ∷ [])) ≡ false
-      pick None at h = absurd h
-      pick (Some facts) at h =
-          let there = hub_there hub c.entries facts at in
-          let calm = above (listed_port c.world (accounted c agrees rooted) hub
-          (Device there.device) there.found) in
-          pend-no_change c.world.roots hub n h.0 calm (silent hub calm facts n at h.0 h.1)
+  below_rests hub n above port = grind (arith, accounted, listed_port, pend-no_change)
 
   pends_step : (fuel : ℕ) (path : List ℕ) → length path ≤ suc fuel
       → ((hub : List ℕ) → length hub ≤ fuel → IsListedPort (roots_of c.world) c.entries hub
@@ -279,19 +230,17 @@ module _ (a c : HostState) (agrees : Agrees c.options c.entries c.addresses) (ro
 -- Devices that wait
 
 pub none_right : {A : Type 0} (P Q : Type 0) (o : Option A) → IfNone o Q → IfNone o (P ⊎ Q)
-none_right P Q None q = inr q
-none_right P Q (Some x) q = tt
+none_right P Q o q = grind arith
 
 pub full_lists : {options : HostOptions} {es : Entries} {addresses : Addresses}
     → Agrees options es addresses → IsFull addresses → ListsEach es
-full_lists agrees full address is =
-    accounts_listed agrees.rises agrees.accounts address (full address is)
+full_lists agrees full = search (accounts_listed, agrees.rises, agrees.accounts)
 
 pub none_waits : {options : HostOptions} {es : Entries} {addresses : Addresses}
     → Agrees options es addresses → (IsFull addresses ⊎ IsLast is_waiting None es) → NoneWaiting es
 none_waits agrees (inl full) path at = full_lists agrees full
 none_waits agrees (inr none) path at =
-    absurd (none path (record { finding = Refused NoAddress; found = at; fits = refl; after = tt }))
+    absurd (none path (grind arith))
 
 -- The whole round
 
@@ -302,15 +251,12 @@ at_rest a b c d roots sound hubs looks s taken sane =
     let known : HostInvariant b = rw roots.same s in
     let rooted : IsRooted c = (sound.sound known).rooted in
     let looked = looks.rest rooted refl in
-    let working : c.world.fault ≡ None = ap (λ (h : HostState). h.world.fault) (sym looked.0) ∙ sane
+    let working : c.world.fault ≡ None = grind arith
     in
-    let still : c.world.taken ≡ b.world.taken = ap (λ (h : HostState). h.world.taken) (sym looked.0)
-    ∙ taken ∙ ap (λ (h : HostState). h.world.taken) (sym roots.same) in
-    let none : changes (root_row b.world) ≡ 0 = ap (λ (h : HostState). changes (root_row h.world))
-    roots.same ∙ roots.none in
+    let still : c.world.taken ≡ b.world.taken = grind arith in
+    let none : changes (root_row b.world) ≡ 0 = grind arith in
     let ports = none_pends b c hubs.agrees rooted (hubs.calm refl working) still none
-    (hubs.silent known refl working still) in
-    record { none_pending = rw looked.0 ports; none_waiting = looked.1 }
+    (search hubs.silent) in grind arith
 
 -- Where nothing is listed, and no root port has changed, nothing is done.
 
@@ -333,74 +279,20 @@ changes-root_port w n h = changes-zero (root_row w) (n - 1) h
 -- no root port shows a change
 pub none_shows : (a b : HostState) (n : ℕ) → b ≡ a → changes (root_row a.world) ≡ 0
     → (root_port_at b.world n).connection_changed ≡ true → ⊥
-none_shows a b n same none shows =
-    let rests : (root_port_at b.world n).connection_changed ≡ false =
-    rw same (changes-root_port a.world n none) in
-    cc (shows, rests)
-
-listed_none : {kind : Finding → Bool} {last : Option (List ℕ)} {path : List ℕ}
-    → IsNext kind last [] path → ⊥
-listed_none next = cc next.stands.found
+none_shows a b n same none shows = grind (arith, changes-root_port)
 
 -- no hub comes next
 pub none_next : {kind : Finding → Bool} {last : Option (List ℕ)} {a b : HostState} {path : List ℕ}
     → b ≡ a → a.entries ≡ [] → IsNext kind last b.entries path → ⊥
-none_next same none next = listed_none (rw (ap (λ (h : HostState). h.entries) same ∙ none) at next)
-
-pub none_waits_of : {entries : Entries} → entries ≡ [] → NoneWait entries
-none_waits_of none = rw none (λ path at. cc at)
+none_next same none next = grind arith
 
 -- The parts of a round
 
 abbrev Idle : HostState → Result Round HostFault → HostState → Type 0
 Idle a result b = (result ≡ Ok Quiet) × (b ≡ a)
 
-failed_idle : (a b : HostState) (fault : HostFault) → Idle a (Err fault) b → ⊥
-failed_idle a b fault idle = cc idle.0
-
-module _ (a : HostState) (entries : a.entries ≡ []) (none : changes (root_row a.world) ≡ 0) where
-  listed_idle : {b : HostState} → b ≡ a → b.entries ≡ []
-  listed_idle same = ap (λ (h : HostState). h.entries) same ∙ entries
-
-  pub roots_idle : (b : HostState) (fault : HostFault)
-      → (changes (root_row a.world) ≡ 0 → Idle a (Err fault) b) → ⊥
-  roots_idle b fault first = failed_idle a b fault (first none)
-
-  module _ (b : HostState) (roots : Round) (first : changes (root_row a.world) ≡ 0
-      → Idle a (Ok roots) b) where
-    pub hubs_idle : (d : HostState) (fault : HostFault) → (b.entries ≡ [] → Idle b (Err fault) d)
-        → ⊥
-    hubs_idle d fault second = failed_idle b d fault (second (listed_idle (first none).1))
-
-    module _ (d : HostState) (hubs : Round) (second : b.entries ≡ [] → Idle b (Ok hubs) d) where
-      hubs_same : d ≡ a
-      hubs_same = (second (listed_idle (first none).1)).1 ∙ (first none).1
-
-      pub looks_idle : (e : HostState) (fault : HostFault)
-          → (NoneWait d.entries → Idle d (Err fault) e) → ⊥
-      looks_idle e fault third = failed_idle d e fault
-          (third (none_waits_of (listed_idle hubs_same)))
-
-      pub all_idle : (e : HostState) (looks : Round) → (NoneWait d.entries → Idle d (Ok looks) e)
-          → Idle a (Ok (either (either roots hubs) looks)) e
-      all_idle e looks third =
-          let last : Idle d (Ok looks) e =
-          third (none_waits_of (listed_idle hubs_same)) in
-          let quiet : either (either roots hubs) looks ≡ Quiet =
-          all_quiet roots hubs looks (ok_is roots Quiet (first none).0)
-          (ok_is hubs Quiet (second (listed_idle (first none).1)).0) (ok_is looks Quiet last.0) in
-          (ap (λ (r : Round). Ok r) quiet, last.1 ∙ hubs_same)
-        where
-          all_quiet : (x y z : Round) → x ≡ Quiet → y ≡ Quiet → z ≡ Quiet
-              → either (either x y) z ≡ Quiet
-          all_quiet x y z p q r = rw (p, q, r) refl
-
 -- only the host's own stop could be new
 pub round_rests : (result : Result Round HostFault) (a b : HostState) (stopped : Bool)
     → a.stopped ≡ false → stopped ≡ is_err result → Idle a result b → record b { stopped = stopped }
     ≡ a
-round_rests result a b stopped going is idle =
-    let off : stopped ≡ a.stopped = is ∙ ap (λ (r : Result Round HostFault). is_err r) idle.0 ∙ sym
-    going in
-    ap (λ (h : HostState). record h { stopped = stopped }) idle.1 ∙ ap
-    (λ (x : Bool). record a { stopped = x }) off
+round_rests result a b stopped going is idle = grind arith

@@ -1,3 +1,5 @@
+use Rattle.usb_host.proofs.host.Host.serve_ports.Goals.{then-bits-number-eq1+in_ok-handle_below}
+use Rattle.usb_host.proofs.host.Host.serve_ports.Goals.{else-bits-number-eq1}
 use Rattle.usb_host.proofs.PartCalls.{call_fails, call_next, call_none, call_then, call_wider}
 use Rattle.std.proofs.Common.{arith}
 use Rattle.usb_host.proofs.Services.{bit_not, bit_so}
@@ -5,8 +7,6 @@ use Rattle.usb_host.proofs.RoundLoops.{ports_begin, ports_clear, ports_cut, port
 use Rattle.usb_host.proofs.RoundLoops.{ports_handled}
 use Rattle.usb_host.proofs.StepSums.{handed_is}
 use Rattle.usb_host.proofs.host.Host.serve_ports.Goals as goal
-use Rattle.usb_host.proofs.host.Host.serve_ports.Goals.{then-bits-number-eq1+in_ok-handle_below}
-use Rattle.usb_host.proofs.host.Host.serve_ports.Goals.{else-bits-number-eq1}
 
 pub ports-init : goal.ports-init
 ports-init g c = record { call = call_none; so = λ known. ports_begin _ }

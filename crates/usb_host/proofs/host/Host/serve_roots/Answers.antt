@@ -1,3 +1,5 @@
+use Rattle.usb_host.proofs.host.Host.serve_roots.Goals.{then-has_changed+in_ok-handle_root}
+use Rattle.usb_host.proofs.host.Host.serve_roots.Goals.{else-has_changed}
 use Rattle.usb_host.proofs.PartCalls.{call_leaves, call_then, round_fails, round_leaves, round_none}
 use Rattle.usb_host.proofs.PartCalls.{round_wider, round_worked}
 use Rattle.std.proofs.Common.{◌∙◌, ap, arith, sym}
@@ -7,8 +9,6 @@ use Rattle.usb_host.proofs.RoundLoops.{roots_begin, roots_cut, roots_end, roots_
 use Rattle.usb_host.proofs.RoundLoops.{roots_steady}
 use Rattle.usb_host.proofs.StepSums.{handed_is}
 use Rattle.usb_host.proofs.host.Host.serve_roots.Goals as goal
-use Rattle.usb_host.proofs.host.Host.serve_roots.Goals.{then-has_changed+in_ok-handle_root}
-use Rattle.usb_host.proofs.host.Host.serve_roots.Goals.{else-has_changed}
 
 pub ports-init : goal.ports-init
 ports-init g c = record { call = round_none; so = λ known. roots_begin _ }
