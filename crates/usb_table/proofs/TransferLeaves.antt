@@ -58,8 +58,7 @@ told_last answer last x = grind arith
 pub told_bus : {A : Type 0} (answer : Result A PipeFault) (result : Result A TableFault)
     (last : Option BusFault) → result ≡ table_answer answer → BusToldIt answer last
     → TransferTold result last
-told_bus answer result last told x =
-    rw told (told_last answer last x)
+told_bus answer result last told x = grind (arith, told_last)
 
 -- a pipe was picked, and another one to the same endpoint put in its place
 pub record PutBack (pick : FunctionPipes → Option PipeState) (pipes left : FunctionPipes)
@@ -209,7 +208,7 @@ one_leaves : {A : Type 0} {pick : FunctionPipes → Option PipeState} {below_hub
 one_leaves {device = device} {pipe = pipe} {left} e w n L {old} {answer} {result} {new} few told
     kept leaves moves = record {
       spends = few;
-      told = told_through old answer result new told kept;
+      told = search (kept, told_through);
       worlds = kept.worlds;
       moves = inr (device, e, call_each pipe left w.of old answer new L kept leaves moves);
     }
@@ -224,20 +223,20 @@ packets_few bytes max least = grind (arith, common_steps)
 spares_then : (old mid new : World) → OnlyTransfers old mid → OnlyTransfers mid new
     → mid.fault ≡ None → (new.shared ≡ false → mid.shared ≡ false) → OnlyTransfers old new
 spares_then old mid new x y sound single = record {
-  addresses = keeps_then old mid new x.addresses y.addresses;
+  addresses = grind (arith, keeps_then);
   devices = record {
     same = λ one.
-        each_joined SameSettings SameSettings SameSettings (λ j s t v h k. (k.0 ∙ h.0, k.1 ∙ h.1))
-        old mid new (x.devices.same (single one)) (y.devices.same one);
+        each_joined SameSettings SameSettings SameSettings (grind arith)
+        old mid new (grind arith) (y.devices.same one);
   };
   rests = λ still p. course_joined (x.rests sound p) (y.rests still p);
-  backlog = λ still. all_then (x.backlog sound) (y.backlog still);
+  backlog = grind (arith, all_then);
 }
 
 cleared_by : (pipe left : Option PipeState) (old : World) (answer : Result (Unit {0}) PipeFault)
     (new : World) → ClearedBy pipe old answer left new → PipeKeeps old answer new
 cleared_by None left old answer new x =
-    record { worlds = same_spares old new x.2; told = λ fault e. absurd (cc (sym x.0 ∙ e)) }
+    record { worlds = same_spares old new x.2; told = grind arith }
 cleared_by (Some pipe) None old answer new x = absurd x
 cleared_by (Some pipe) (Some left) old answer new x = grind (arith, clear_keeps)
 
@@ -262,7 +261,7 @@ cleared_in_order (Ok done) None out out_left into into_left old mid result new x
         | inl same ↦ rw (← same) second.worlds
         | inr sound ↦
             spares_then old mid new (cleared_by out out_left old (Ok done) mid x).worlds
-            second.worlds sound (cleared_single into into_left mid y.0 new y.2)
+            second.worlds sound (grind (arith, cleared_single))
       ],
       told_through mid y.0 result new y.1 second,
     )
@@ -283,8 +282,7 @@ clears_leave : (old : World) (result : Result (Unit {0}) TableFault) (new : Worl
     → LeavesTransfer (2 * write_bound) found pipes old result left new
 clears_leave old result new found few below_hub =
     through_both old result new found below_hub
-    (λ p l. LeavesTransfer (2 * write_bound) found p old result l new)
-    (λ pipes fault. idle_transfer_leaves (2 * write_bound) found pipes old result new fault)
+    (λ p l. LeavesTransfer (2 * write_bound) found p old result l new) (search idle_transfer_leaves)
     (λ device pipes left e are x.
     let so =
     cleared_in_order x.first (first_unclear true pipes) (first_pipe false pipes) x.rest_out
@@ -312,7 +310,7 @@ module _ (path : List ℕ) (old new : Table) (before after : World) (text now : 
       → LeavesTransfer n (accepted_device_at path old.entries) (pipes_at path old) before result
       (pipes_at path new) after → Transferred n So path old before text result new after now
   transferred n result did x = record {
-    went = record { spends = x.spends; traced = traced };
+    went = grind arith;
     told = x.told;
     did = did;
     keeps = elim x.moves [
@@ -342,7 +340,7 @@ module _ (path : List ℕ) (old new : Table) (before after : World) (text now : 
       transferred n result x
       (through_pipes pick miss picks So same before result after _ (is_below_hub path)
       (λ p l. LeavesTransfer n (accepted_device_at path old.entries) p before result l after)
-      (λ pipes fault none. idle_transfer_leaves n _ pipes before result after fault) each _ _
+      (search idle_transfer_leaves) each _ _
       goes.fits x)
 
   pub table_sends : (choice : EndpointChoice) (bytes : List ℕ)
@@ -355,12 +353,9 @@ module _ (path : List ℕ) (old new : Table) (before after : World) (text now : 
       (λ device pipes pipe left e w x.
       let few = packets_few (length bytes) pipe.max (some_bytes pipe w.of) in
       let placed = in_place device (is_below_hub path) pipes w.of.are in
-      one_leaves e w _ (SendLeaves bytes pipe x.answer left)
-      (spends_wider _ _ before after x.count (omega (arith, few))) x.told
-      (send_keeps bytes pipe (far_end pipe w.of) before x.answer left after x.sends)
-      (send_leaves bytes pipe x.answer left before after x.sends)
-      (λ j s v known. send_moves device _ pipes placed pipe left w.of.at w.made bytes x.answer j s v
-      known (sends_way choice pipes pipe placed w.picked)))
+      one_leaves e w _ (SendLeaves bytes pipe x.answer left) (grind (arith, spends_wider)) x.told
+      (search (far_end, send_keeps))
+      (grind (arith, send_leaves)) (search (send_moves, sends_way)))
 
   pub table_receives : (choice : EndpointChoice) (packets : ℕ) (result : Result (Vec ℕ) TableFault)
       → PipesReceived choice (pipes_at path old) packets before result (pipes_at path new) after
@@ -371,10 +366,10 @@ module _ (path : List ℕ) (old new : Table) (before after : World) (text now : 
       (λ device pipes pipe left e w x.
       let placed = in_place device (is_below_hub path) pipes w.of.are in
       one_leaves e w _ (ReceiveLeaves pipe x.answer left) x.count x.told
-      (receive_keeps packets pipe (far_end pipe w.of) before x.answer left after x.receives)
-      (receive_leaves packets pipe x.answer left before after (some_bytes pipe w.of) x.receives)
+      (search (far_end, receive_keeps))
+      (search (receive_leaves, some_bytes))
       (λ j s v known y. given_moves device _ pipes placed pipe left w.of.at w.made x.answer j s v
-      known (receives_way choice pipes pipe placed w.picked) y.others y.frame
+      known (grind (arith, receives_way)) y.others y.frame
       (λ there got f. let g = y.gave there got f in (g.behind, g.level))))
 
   pub table_reports : (endpoint : ℕ) (result : Result (Option (ArrayVec ℕ)) TableFault)
@@ -386,10 +381,10 @@ module _ (path : List ℕ) (old new : Table) (before after : World) (text now : 
       (λ device pipes pipe left e w x.
       let placed = in_place device (is_below_hub path) pipes w.of.are in
       one_leaves e w _ (PacketLeaves pipe x.answer left) x.count x.told
-      (packet_keeps pipe (far_end pipe w.of) before x.answer left after x.polls)
-      (packet_leaves pipe x.answer left before after (some_bytes pipe w.of) x.polls)
+      (search (far_end, packet_keeps))
+      (search (packet_leaves, some_bytes))
       (λ j s v known y. given_moves device _ pipes placed pipe left w.of.at w.made x.answer j s v
-      known (polls_way endpoint pipes pipe w.picked) y.others y.frame
+      known (search polls_way) y.others y.frame
       (λ there got f. let g = y.gave there got f in (g.behind, g.level))))
 
   pub table_clears_of : (endpoint : ℕ) (result : Result (Unit {0}) TableFault)
@@ -397,18 +392,15 @@ module _ (path : List ℕ) (old new : Table) (before after : World) (text now : 
       → TableClearsOf path endpoint old before text result new after now
   table_clears_of endpoint result =
       through_one (pipe_to endpoint) (clears_miss endpoint) (to_picks endpoint) ClearedOfThrough
-      (λ p o r l w z. z.cleared.same) _ result
+      (grind arith) _ result
       (λ device pipes pipe left e w x.
       one_leaves e w _ (ClearLeaves true pipe x.answer left) x.cleared.count x.told
-      (clear_keeps true pipe before x.answer left after x.cleared.clears)
-      (clear_leaves true pipe x.answer left before after x.cleared.clears)
-      (λ j s v. clear_moves device _ pipes (in_place device (is_below_hub path) pipes w.of.are) pipe
-      left w.of.at w.made true x.answer j s v))
+      (grind (arith, clear_keeps))
+      (grind (arith, clear_leaves))
+      (search (clear_moves, in_place)))
 
   pub table_clears : (result : Result (Unit {0}) TableFault)
       → AttemptsWithin (2 * write_bound) before after
       → PipesCleared (pipes_at path old) before result (pipes_at path new) after
       → TableClears path old before text result new after now
-  table_clears result few x =
-      transferred _ result x
-      (clears_leave before result after _ few (is_below_hub path) _ _ goes.fits x)
+  table_clears result few x = search (clears_leave, transferred)

@@ -1,7 +1,7 @@
 -- A table with one entry more: what was just found is entered.
 use Rattle.std.proofs.Common.{arith, ◌≡◌, ◌≢◌, ◌∙◌, sym, ap, subst, inl, inr, false, ℕ, cond, List}
-use Rattle.std.proofs.Common.{Option, Some, None, ◌⊎◌, IsSome, IfSome, is_some, option_map, refl}
-use Rattle.std.proofs.Common.{true, [], ◌∷◌}
+use Rattle.std.proofs.Common.{Option, Some, None, ◌⊎◌, IsSome, IfSome, option_map, refl, true, []}
+use Rattle.std.proofs.Common.{◌∷◌}
 use Rattle.std.specs.Map.{keys_of, remove_entry, lookup}
 use Rattle.std.specs.BTreeMap.{is_at, insert_entry}
 use Rattle.std.specs.List.Sorted.{IsStrictlySortedBy}
@@ -13,8 +13,8 @@ use Rattle.usb_enum.specs.declared.finding.Finding.TheVariants.{Refused, Device}
 use Rattle.usb_table.specs.{Indexes, no_pipes, address_found, Entry, IsPiped, TableSlots, PathKeys}
 use Rattle.usb_table.specs.{AddressKeys, key_of_path, key_of_address, findings, values_by_path}
 use Rattle.usb_table.specs.{table_of, address_in, AreIndexes, ArePiped, UpdatesAddress, Enters}
-use Rattle.usb_table.specs.{removed, accepted_device_of, accepted_device_at, is_below_hub}
-use Rattle.usb_table.specs.{PipesInSync, InSyncAt, new_pipes, Table, pipes_at, entered, said_at}
+use Rattle.usb_table.specs.{removed, accepted_device_at, is_below_hub, PipesInSync, InSyncAt}
+use Rattle.usb_table.specs.{new_pipes, Table, pipes_at, entered, said_at}
 use Rattle.usb_table.proofs.entries.Keys.{number_tied, number_itself, values_by_path-insert}
 use Rattle.usb_table.proofs.entries.Keys.{values_by_path-remove, agree, findings-standing}
 use Rattle.usb_table.proofs.entries.Keys.{same_table, path_tied, path_itself, cases_path}
@@ -84,12 +84,11 @@ module _ {less more : TableSlots} {fewer most : PathKeys} {lower upper : Address
     come_to : (a k : ℕ) → key_of_address upper a ≡ Some k → address_in (findings more k) ≡ Some a
     come_to a k h = elim (cases_found (address_found s.finding) a) [
       | inl is ↦
-          let e : k ≡ key = let at = d.addressed a is in cc (h, at) in
+          let e : k ≡ key = grind arith in
           ap address_in (ap (findings more) e ∙ found) ∙ is
       | inr other ↦
-          let was = (are.addressed a k).0 (sym (d.elsewhere a other) ∙ h) in
-          ap address_in (same k (λ e. let n = ap address_in (ap (findings less) e ∙ none_found) in
-          cc (was, n))) ∙ was
+          let was = (are.addressed a k).0 (grind arith) in
+          ap address_in (grind (arith, none_found, same)) ∙ was
     ]
 
     come_from : (a k : ℕ) → address_in (findings more k) ≡ Some a → key_of_address upper a ≡ Some k
@@ -97,11 +96,8 @@ module _ {less more : TableSlots} {fewer most : PathKeys} {lower upper : Address
 
     pub come : AreIndexes (findings more) most upper
     come = record {
-      stands = λ q k h. elim (come_at q k h) [
-        | inl here ↦ ap is_some (ap (findings more) here.1 ∙ found)
-        | inr there ↦ ap is_some (same k there.1) ∙ are.stands q k there.0
-      ];
-      once = λ p q k h i. come_once p q k (come_at p k h) (come_at q k i);
+      stands = grind (arith, come_at, found, same);
+      once = grind (arith, come_at, come_once);
       named = come_named;
       addressed = λ a k. (come_to a k, come_from a k);
     }
@@ -109,9 +105,9 @@ module _ {less more : TableSlots} {fewer most : PathKeys} {lower upper : Address
     pub come_piped : ArePiped less fewer → IsPiped path s → ArePiped more most
     come_piped piped fits q k t h stands = elim (come_at q k h) [
       | inl here ↦
-          let is : s ≡ t = same_Some s t (sym d.stands ∙ ap more (sym here.1) ∙ stands) in
+          let is : s ≡ t = grind (arith, same_Some) in
           subst (IsPiped q) is (rw here.0 fits)
-      | inr there ↦ piped q k t there.0 (sym (d.others k there.1) ∙ stands)
+      | inr there ↦ piped q k t there.0 (grind arith)
     ]
 
     -- what is shown of the others stays
@@ -151,17 +147,16 @@ module _ {less more : TableSlots} {fewer most : PathKeys} {lower upper : Address
     go_to a k h =
         let other : address_found s.finding ≢ Some a = λ is. let n = d.free a is in cc (h, n) in
         let was = (are.addressed a k).0 (d.elsewhere a other ∙ h) in
-        let ne : k ≢ key = λ e. other (sym (ap address_in (ap (findings more) e ∙ found)) ∙ was) in
-        ap address_in (sym (same k ne)) ∙ was
+        let ne : k ≢ key = λ e. grind (arith, found) in
+        grind (arith, same)
 
     go_from : (a k : ℕ) → address_in (findings less k) ≡ Some a → key_of_address lower a ≡ Some k
     go_from a k h = grind (arith, none_found, same)
 
     pub go : AreIndexes (findings less) fewer lower
     go = record {
-      stands = λ q k h. let was = go_at q k h in
-          ap is_some (sym (same k was.1)) ∙ are.stands q k was.0;
-      once = λ p q k h i. are.once p q k (go_at p k h).0 (go_at q k i).0;
+      stands = grind (arith, go_at, same);
+      once = grind (arith, go_at);
       named = go_named;
       addressed = λ a k. (go_to a k, go_from a k);
     }
@@ -184,9 +179,7 @@ module _ {less more : TableSlots} {fewer most : PathKeys} {lower upper : Address
     pub go_table : fewer ≡ remove_entry (is_at (path_cmp path)) most
         → IsStrictlySortedBy path_cmp (keys_of fewer)
         → table_of less fewer ≡ removed path (table_of more most)
-    go_table is rises =
-        same_table _ _ _ _ (go_listed (Refused Silent) (λ t. t.finding) is rises)
-        (go_listed no_pipes (λ t. t.pipes) is rises)
+    go_table is rises = search (go_listed, same_table)
 
 -- What the keys tell of it
 
@@ -229,11 +222,10 @@ module _ (less more : TableSlots) (path : List ℕ) (key : ℕ) (s : Entry) (vac
     others = others;
     away = path_keys path ∙ at_path path _ _;
     at = at;
-    apart = λ q ne. sym (path_keys q ∙ off_path path q _ _ ne);
-    free = λ a is. at_address _ _ _ _ a is address_keys;
-    addressed = λ a is. (are.addressed a key).1
-        (ap address_in (findings-standing more key s stands) ∙ is);
-    elsewhere = λ a ne. sym (off_address _ _ _ _ a ne address_keys);
+    apart = grind (arith, off_path);
+    free = search at_address;
+    addressed = λ a is. (are.addressed a key).1 (grind (arith, findings-standing));
+    elsewhere = grind (arith, off_address);
   }
 
 -- A table is level after what was just found is entered.
@@ -285,8 +277,7 @@ pipes_at-entered path finding said table = grind (arith, lookup-inserted)
 pub pipes_at-entered_elsewhere : (path : List ℕ) (finding : Finding) (said : ArrayVec ℕ)
     (table : Table) (x : List ℕ) → is_at (path_cmp x) path ≡ false
     → pipes_at x (entered path finding said table) ≡ pipes_at x table
-pipes_at-entered_elsewhere path finding said table x apart =
-    grind (arith, lookup-inserted_elsewhere)
+pipes_at-entered_elsewhere path finding said table x apart = search lookup-inserted_elsewhere
 
 -- What a refused device said
 
@@ -311,14 +302,9 @@ module _ (path : List ℕ) (finding : Finding) (said : ArrayVec ℕ) (table : Ta
           → PipesInSync device (pipes_at path (entered path finding said table)) s
       by_finding (Device d) is device s e on there =
           let so = own d s is on there in
-          let same : d ≡ device =
-          cc (sym (ap accepted_device_of (lookup-inserted path finding table.entries ∙ ap Some is))
-          ∙ e) in
-          rw (← same, pipes_at-entered path finding said table, is)
-          (new_level options tier supply d (is_below_hub path) said s so.0 so.1)
-      by_finding (Refused cause) is device s e on there =
-          absurd (cc (sym (ap accepted_device_of (lookup-inserted path finding table.entries
-          ∙ ap Some is)) ∙ e))
+          let same : d ≡ device = grind (arith, lookup-inserted) in
+          rw (← same, pipes_at-entered path finding said table, is) (search new_level)
+      by_finding (Refused cause) is device s e on there = grind (arith, lookup-inserted)
 
   -- to others
   pub level_beside : (x : List ℕ) → is_at (path_cmp x) path ≡ false → InSyncAt x table w

@@ -1,7 +1,7 @@
 -- Entries that come and go under their keys.
-use Rattle.std.proofs.Common.{◌≡◌, ◌≢◌, ◌⊎◌, ◌∙◌, sym, subst, inl, inr, true, ℕ, List, refl, ap}
-use Rattle.std.proofs.Common.{false, Bool, cond, [], ◌∷◌, Option, Some, None, All, ◌||◌, IsSome}
-use Rattle.std.proofs.Common.{IfSome, option_map, arith, ◌+◌, length, not, is_some, nat_eq, ◌++◌}
+use Rattle.std.proofs.Common.{◌≡◌, ◌≢◌, ◌⊎◌, ◌∙◌, sym, inl, inr, true, ℕ, List, refl, ap, false}
+use Rattle.std.proofs.Common.{Bool, cond, [], ◌∷◌, Option, Some, None, All, ◌||◌, IsSome, IfSome}
+use Rattle.std.proofs.Common.{option_map, arith, ◌+◌, length, not, is_some, nat_eq, ◌++◌}
 use Rattle.std.proofs.Common.{append_assoc}
 use Rattle.std.proofs.lemmas.Bool.{cases_Bool, eqb-true, eq-eqb, false_from_ne_true}
 use Rattle.std.specs.BTreeMap.{is_at, insert_entry}
@@ -43,8 +43,7 @@ pub cases_path : (q path : List ℕ) → (q ≡ path) ⊎ (q ≢ path)
 cases_path q path = elim (cases_Bool (is_at (path_cmp path) q)) [
   | inl tie ↦ inl (sym (path_tied path q tie))
   | inr apart ↦
-      inr (λ e. let tie = subst (λ (r : List ℕ). is_at (path_cmp path) r ≡ true) (sym e)
-      (path_itself path) in cc (tie, apart))
+      inr (grind (arith, path_itself))
 ]
 
 -- Entries that come and go under their keys.
@@ -63,8 +62,7 @@ module _ {A : Type 0} (none : A) (slots : ℕ → Option A) where
   pub values_by_path-lookup : (path : List ℕ) (paths : PathKeys)
       → lookup (is_at (path_cmp path)) (values_by_path none slots paths)
       ≡ option_map (under none slots) (key_of_path paths path)
-  values_by_path-lookup path paths = lookup-map_values (under none slots) (is_at (path_cmp path))
-      paths
+  values_by_path-lookup path paths = search lookup-map_values
 
   pub values_by_path-remove : (test : List ℕ → Bool) (paths : PathKeys)
       → values_by_path none slots (remove_entry test paths)
@@ -91,8 +89,7 @@ module _ {A : Type 0} (none : A) (old new : ℕ → Option A) where
   values_by_path-agree (e ∷ es) all =
       let head : new e.1 ≡ old e.1 = All-head (λ k. new k ≡ old k) e.1 (values_of es) all in
       let tail = values_by_path-agree es (All-tail (λ k. new k ≡ old k) e.1 (values_of es) all) in
-      ap (λ f. (e.0, unwrap_or f none) ∷ values_by_path none new es) head
-      ∙ ap (λ l. (e.0, under none old e.1) ∷ l) tail
+      grind arith
 
   pub agree : (paths : PathKeys) → IsStrictlySortedBy path_cmp (keys_of paths)
       → ((path : List ℕ) (key : ℕ) → key_of_path paths path ≡ Some key → new key ≡ old key)
@@ -100,8 +97,7 @@ module _ {A : Type 0} (none : A) (old new : ℕ → Option A) where
   agree paths rises each =
       values_by_path-agree paths
       (All-values_from_lookup (eq_by_cmp_equiv nat_list_cmp_total) (λ k. new k ≡ old k) paths
-      (IsDistinct-from_sorted path_cmp (keys_of paths) rises)
-      (λ q. if_some_slot (key_of_path paths q) (each q)))
+      (IsDistinct-from_sorted path_cmp (keys_of paths) rises) (search if_some_slot))
 
 -- What the entries show of the keys
 
@@ -215,7 +211,7 @@ pub taken_apart : (path : List ℕ) (finding : Finding) (old new : Table)
 taken_apart path finding old new t =
     ap (λ (left : Table). without path left.entries) t.rest
     ∙ kept_apart (λ q. not (is_at_or_below q path)) (is_at (path_cmp t.first))
-    (λ q tie. rw (← path_tied t.first q tie, t.at) refl) old.entries
+    (grind (arith, path_tied)) old.entries
 
 pub none_apart : (path : List ℕ) (es : Entries) → has_at path es ≡ false → without path es ≡ es
 none_apart path [] h = refl
@@ -229,7 +225,7 @@ pub addressed_stands : (found : Slots) (paths : PathKeys) (addresses : AddressKe
     (address key : ℕ) → AreIndexes found paths addresses → key_of_address addresses address
     ≡ Some key → IsSome (found key)
 addressed_stands found paths addresses address key are is =
-    some_address (found key) address ((are.addressed address key).0 is)
+    some_address (found key) address (grind arith)
 
 pub has_device : (found : Slots) (paths : PathKeys) (addresses : AddressKeys) (address key : ℕ)
     (finding : Finding) → AreIndexes found paths addresses → key_of_address addresses address
@@ -238,7 +234,7 @@ has_device found paths addresses address key finding are is stands =
     let at = are.named key (ap is_some stands) in
     record {
       path = at.0;
-      found = entries_of-key found at.0 paths key finding at.1 stands;
+      found = grind (arith, entries_of-key, found);
       addressed = sym (ap address_in stands) ∙ (are.addressed address key).0 is;
     }
 
@@ -254,7 +250,7 @@ no_device_by found paths addresses address are none path finding (Some key) at i
     let it = some_or (found key) (are.stands path key at) in
     let same : it.0 ≡ finding = cc (is, finding_stands found key it.0 it.1) in
     let here : key_of_address addresses address ≡ Some key =
-    (are.addressed address key).1 (ap address_in it.1 ∙ ap address_found same ∙ has) in
+    (are.addressed address key).1 (grind arith) in
     absurd (cc (here, none))
 
 pub key_of_address-no_device : (found : Slots) (paths : PathKeys) (addresses : AddressKeys)
@@ -301,9 +297,7 @@ count_by-found a path (e ∷ es) f is has none =
     ≡ Some f → ⊥) [
       | true ↦ λ h.
           let same : e.1 ≡ f = cc h in
-          let one : ◌≡◌ {A = ℕ} (cond (has_address a e.1) 1 0) 1 =
-          ap (λ (g : Finding). cond (has_address a g) 1 0) same
-          ∙ ap (λ (b : Bool). cond b 1 0) has in
+          let one : ◌≡◌ {A = ℕ} (cond (has_address a e.1) 1 0) 1 = grind arith in
           absurd (omega (arith, split, one, none))
       | false ↦ λ h. count_by-found a path es f h has rest
     ]) is
@@ -324,7 +318,7 @@ key_of_address-none found paths addresses are a none = elim (none_or (key_of_add
   | inl nothing ↦ nothing
   | inr some ↦
       let k = some.0 in
-      let f = address_in-some (found k) a ((are.addressed a k).0 some.1) in
+      let f = address_in-some (found k) a (grind arith) in
       let at = are.named k (ap is_some f.1) in
       absurd (count_by-found a at.0 (entries_of found paths) f.0
       (entries_of-key found at.0 paths k f.0 at.1 f.1) (has_its f.0 a f.2) none)
@@ -367,9 +361,8 @@ module _ {A : Type 0} where
       → IsStrictlySortedBy path_cmp (keys_of (had ++ e ∷ rest)) → AreBefore e.0 had
   before_next [] e rest rises = tt
   before_next (d ∷ ds) e rest rises = (
-    at_middle (λ p. path_cmp d.0 p ≡ Less) ds e rest
-        (sorted_head path_cmp d.0 (keys_of (ds ++ e ∷ rest)) rises),
-    before_next ds e rest (sorted_tail path_cmp d.0 (keys_of (ds ++ e ∷ rest)) rises),
+    at_middle (λ p. path_cmp d.0 p ≡ Less) ds e rest (search (d, sorted_head, d.0)),
+    before_next ds e rest (grind (arith, d, sorted_tail)),
   )
 
 prefix : {X : Type 0} (P : X → Type 0) (xs ys : List X) → AllByRecursion P (xs ++ ys)
@@ -402,7 +395,7 @@ module _ (found : Slots) (paths : PathKeys) (addresses : AddressKeys)
         let one = (are.addressed a d.1).1 (address_of_found (found d.1) a is) in
         let two = (are.addressed a key).1 has in
         let same : d.1 ≡ key = cc (one, two) in
-        let here : path ≡ d.0 = are.once d.0 path d.1 other.0 (at ∙ ap Some (sym same)) in
+        let here : path ≡ d.0 = grind (arith, d) in
         let less : path_cmp d.0 d.0 ≡ Less = rw here at other.1 in
         let apart : is_at (path_cmp d.0) d.0 ≡ false = ap is_eq less in
         let itself = path_itself d.0 in

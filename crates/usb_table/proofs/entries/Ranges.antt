@@ -59,7 +59,7 @@ extends_between (x ∷ path) (y ∷ other) rest from less =
     elim (cases_order x y) [
       | inl same ↦
           let tied : nat_cmp x y ≡ Equal = sym (nat_cmp_is x y Equal same) in
-          let back : nat_cmp y x ≡ Equal = sym (nat_cmp_is y x Equal (sym same)) in
+          let back : nat_cmp y x ≡ Equal = search nat_cmp_is in
           let more = extends_between path other rest (rw tied at from) (rw back at less) in
           (more.0, ap (λ (n : ℕ). n ∷ other) (sym same) ∙ ap (λ (l : List ℕ). x ∷ l) more.1)
       | inr apart ↦ elim apart [
@@ -134,7 +134,7 @@ away_if_first above [] rises away = refl
 away_if_first above (e ∷ paths) rises away =
     grind (
       arith,
-      away_if_first above paths (sorted_tail path_cmp e.0 (keys_of paths) rises),
+      away_if_first above paths (grind (arith, sorted_tail)),
       away_step,
       sorted_tail,
     )
@@ -191,12 +191,11 @@ module _ (kind : Finding → Bool) (last : Option (List ℕ)) (e : List ℕ × F
         → (b : Bool) → is_at (path_cmp q) e.0 ≡ b → Stands kind last es q
     in_tail_by q fails s true tie =
         let same = path_tied q e.0 tie in
-        let found : Some e.1 ≡ Some s.finding = sym (lookup_head (is_at (path_cmp q)) e es tie)
-        ∙ s.found in
+        let found : Some e.1 ≡ Some s.finding = grind (arith, lookup_head) in
         let finding : s.finding ≡ e.1 = cc found in
         let kind_is : kind e.1 ≡ true = rw finding at s.fits in
         let after_is : is_after last e.0 ≡ true = if_after last e.0 (rw same at s.after) in
-        absurd (cc (and_from (is_after last e.0) (kind e.1) after_is kind_is, fails))
+        grind (arith, and_from)
     in_tail_by q fails s false tie = grind (arith, lookup_tail)
 
     in_tail : (q : List ℕ) → (is_after last e.0 && kind e.1) ≡ false → Stands kind last (e ∷ es) q
@@ -216,7 +215,7 @@ module _ (kind : Finding → Bool) (last : Option (List ℕ)) (e : List ℕ × F
         → (is_after last e.0 && kind e.1) ≡ b → cond b (Some e.0) (first_from kind last es)
         ≡ Some path → IsNext kind last (e ∷ es) path
     next_step path rises more true pass is = grind (arith, next_here)
-    next_step path rises more false fails is = next_later path rises fails (more is)
+    next_step path rises more false fails is = search next_later
 
     last_step : ((first_from kind last es) ≡ None → IsLast kind last es) → (b : Bool)
         → (is_after last e.0 && kind e.1) ≡ b → cond b (Some e.0) (first_from kind last es) ≡ None
@@ -229,7 +228,7 @@ pub next_is : (kind : Finding → Bool) (last : Option (List ℕ)) (es : Entries
 next_is kind last [] path rises is = absurd cc
 next_is kind last (e ∷ es) path rises is =
     next_step kind last e es path rises
-    (next_is kind last es path (sorted_tail path_cmp e.0 (keys_of es) rises))
+    (next_is kind last es path (grind (arith, sorted_tail)))
     (is_after last e.0 && kind e.1) refl is
 
 pub last_is : (kind : Finding → Bool) (last : Option (List ℕ)) (es : Entries)

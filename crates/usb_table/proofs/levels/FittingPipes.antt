@@ -2,11 +2,11 @@
 -- the pipes.
 use Rattle.usb_device.specs.{Location, EndpointData, EndpointState, Registers, SourceAt, PollAt}
 use Rattle.usb_device.specs.{NeverTold, OnlyStage, OnlySink, OnlySource, OnlyWrite, Spec, State}
-use Rattle.usb_device.specs.{in_data, in_end, IsSource, in_max, out_end, out_max, hub_ports}
-use Rattle.usb_device.specs.{status_length, status_number, tells_changes, text_of}
-use Rattle.std.proofs.Common.{arith, ◌≡◌, ◌∙◌, refl, sym, ap, subst, true, false, ℕ, ◌==◌, ◌≤◌}
-use Rattle.std.proofs.Common.{◌&&◌, List, [], Option, None, Some, Result, Ok, Err, IsOk, Bool}
-use Rattle.std.proofs.Common.{IfSome, eqb-true, ◌≢◌}
+use Rattle.usb_device.specs.{in_data, in_end, IsSource, in_max, out_end, out_max, status_number}
+use Rattle.usb_device.specs.{tells_changes, text_of}
+use Rattle.std.proofs.Common.{arith, ◌≡◌, ◌∙◌, refl, sym, subst, true, false, ℕ, ◌==◌, ◌&&◌, List}
+use Rattle.std.proofs.Common.{[], Option, None, Some, Result, Ok, Err, IsOk, Bool, IfSome, eqb-true}
+use Rattle.std.proofs.Common.{◌≢◌}
 use Rattle.arrayvec.specs.ArrayVec.{ArrayVec}
 use Rattle.usb_packet.specs.{Toggle}
 use Rattle.usb_tree.specs.{address_of}
@@ -46,8 +46,7 @@ FitsWay true = FitsIn
 FitsWay false = FitsOut
 
 pub way-none : (is_in : Bool) (s : State) → FitsWay is_in None s
-way-none true s = tt
-way-none false s = tt
+way-none is_in s = grind arith
 
 -- what depends on the settings alone
 same_seen : {X : Type 0} (seen : Spec → Registers → X) (s v : State) → SameSettings root s v
@@ -70,10 +69,9 @@ same_status e = grind (arith, same_seen)
 status_same : (t : Target) (ep : ℕ) (s v : State) → SameSettings root s v
     → IsStatusEndpoint t ep s → IsStatusEndpoint t ep v
 status_same t ep s v k to = record {
-  number = to.number ∙ sym (same_seen status_number s v k);
-  tells = same_seen tells_changes s v k ∙ to.tells;
-  fits = subst (λ n. n ≤ t.max)
-      (sym (same_seen (λ x g. status_length (hub_ports x.hub)) s v k)) to.fits;
+  number = grind (arith, same_seen);
+  tells = grind (arith, same_seen);
+  fits = grind (arith, same_seen);
 }
 
 pub same_in_data : (e : ℕ) (s v : State) → SameSettings root s v → in_data v e ≡ in_data s e
@@ -147,15 +145,12 @@ still_poll : (t : Toggle) (s v : State) → v.changes ≡ s.changes → v.held �
 still_poll t s v e held (PollAt.level a b) = grind arith
 still_poll t s v e held (PollAt.told bits so a b) = absurd so
 still_poll t s v e held (PollAt.ahead bits a b) =
-    PollAt.ahead bits (held ∙ a) (ap (λ (x : EndpointState). x.toggle) e ∙ b)
+    PollAt.ahead bits (held ∙ a) (grind arith)
 
 pub still_status : (pipe : Interrupt) (s v : State) → SameSettings root s v → v.changes ≡ s.changes
     → v.held ≡ s.held → StatusPipeInSync pipe s → StatusPipeInSync pipe v
-still_status pipe s v k e held f = record {
-  to = status_same pipe.target pipe.ep s v k f.to;
-  level = still_poll pipe.toggle s v e held f.level;
-  runs = ap (λ (x : EndpointState). x.halted) e ∙ f.runs;
-}
+still_status pipe s v k e held f =
+    search (status_same, still_poll, pipe.target, pipe.ep, f.to, pipe.toggle, f.level, f.runs)
 
 -- where no setting changed, the pipes that fit are level
 pub function_level : {device : Accepted} {pipes : FunctionPipes} (left : FunctionPipes)
@@ -208,9 +203,7 @@ module _ (device : Accepted) (pipes : FunctionPipes) (placed : AreInPlace pipes)
       → ((e : ℕ) → (e == left.ep) ≡ false → out_end v e ≡ out_end s e)
       → ((e : ℕ) → in_end v e ≡ in_end s e) → FunctionInSync device (with_pipe left pipes) v
   out_fits way fits outs ins = function_level (with_pipe left pipes) s v k f
-      (λ e. by_number e (e == left.ep) refl)
-      (λ e. rw (at_elsewhere left pipes true e (λ same. cc (sym way ∙ same)))
-      (fits_in-same (pipe_at true e pipes) s v k ins (f.ins e)))
+      (λ e. by_number e (e == left.ep) refl) (grind (arith, at_elsewhere, fits_in-same, way))
     where
       by_number : (e : ℕ) (b : Bool) → (e == left.ep) ≡ b
           → FitsOut (pipe_at false e (with_pipe left pipes)) v
@@ -223,8 +216,7 @@ module _ (device : Accepted) (pipes : FunctionPipes) (placed : AreInPlace pipes)
       → ((e : ℕ) → (e == left.ep) ≡ false → in_end v e ≡ in_end s e)
       → FunctionInSync device (with_pipe left pipes) v
   in_fits way fits outs ins = function_level (with_pipe left pipes) s v k f
-      (λ e. rw (at_elsewhere left pipes false e (λ same. cc (sym way ∙ same)))
-      (still_out (pipe_at false e pipes) s v k outs (f.outs e)))
+      (grind (arith, at_elsewhere, still_out, way))
       (λ e. by_number e (e == left.ep) refl)
     where
       by_number : (e : ℕ) (b : Bool) → (e == left.ep) ≡ b
@@ -268,10 +260,9 @@ pub poll_moves : (device : Accepted) (pipe left : Interrupt) (old new : World)
     → PipesMove device pipe.target.addr (IsOk result) (Hub pipe) (Hub left) j s v
 poll_moves device pipe left old new (Ok got) j s v made x ran = record {
   others = x.others;
-  same = ap (λ (g : Registers). g.address) ran.1;
+  same = grind arith;
   itself = λ e at f. record {
-    to = subst (λ (p : Interrupt). IsStatusEndpoint p.target p.ep v) (sym made)
-        (status_same pipe.target pipe.ep s v (ran.0, ran.1) f.to);
+    to = grind (arith, status_same);
     level = x.level at f.to f.level got refl;
     runs = ran.2 ∙ f.runs;
   };
@@ -290,7 +281,7 @@ module _ (device : Accepted) (ends : Type 0) (pipes : FunctionPipes) (placed : A
   number = same_number pipe left made
 
   apart_of : (e : ℕ) → (e == left.ep) ≡ false → (e == pipe.ep) ≡ false
-  apart_of e apart = ap (λ n. e == n) (sym number) ∙ apart
+  apart_of e apart = search number
 
   pub send_moves : (bytes : List ℕ) (answer : Result (Unit {0}) PipeFault) (j : Location)
       (s v : State) → (ends → pipe_known answer left ≡ left) → pipe.is_in ≡ false
@@ -299,14 +290,12 @@ module _ (device : Accepted) (ends : Type 0) (pipes : FunctionPipes) (placed : A
       s v
   send_moves bytes answer j s v is out x k = record {
     others = x.others;
-    same = ap (λ (g : Registers). g.address) k.1;
+    same = grind arith;
     itself = λ e there f.
         let level = out_of pipe at s f out in
         let frame : OnlySink pipe.ep s v = x.frame level.endpoint in
-        out_fits device pipes placed left s v k f (way ∙ out)
-        (known_itself ends answer left v OutPipeInSync is e (x.fits there level))
-        (λ a apart. frame.others a (apart_of a apart))
-        (λ a. ap (λ (d : State). in_end d a) frame.rest);
+        out_fits device pipes placed left s v k f (way ∙ out) (grind (arith, known_itself))
+        (grind (arith, apart_of)) (grind arith);
   }
 
   -- an IN pipe, by what it got then
@@ -320,15 +309,13 @@ module _ (device : Accepted) (ends : Type 0) (pipes : FunctionPipes) (placed : A
       s v
   given_moves answer j s v is into others frame gave k = record {
     others = others;
-    same = ap (λ (g : Registers). g.address) k.1;
+    same = grind arith;
     itself = λ e there f.
         let level = in_of pipe at s f into in
         let only : OnlySource pipe.ep s v = frame level.1.endpoint in
         in_fits device pipes placed left s v k f (way ∙ into)
         (known_itself ends answer left v (λ b w. FitsIn (Some b) w) is e
-        (gave there level.0 level.1))
-        (λ a. ap (λ (d : State). out_end d a) only.rest)
-        (λ a apart. only.others a (apart_of a apart));
+        (gave there level.0 level.1)) (grind arith) (grind (arith, apart_of));
   }
 
   pub clear_moves : (is_sent : Bool) (answer : Result (Unit {0}) PipeFault) (j : Location)
@@ -338,7 +325,7 @@ module _ (device : Accepted) (ends : Type 0) (pipes : FunctionPipes) (placed : A
       s v
   clear_moves is_sent answer j s v is x k = record {
     others = x.others;
-    same = ap (λ (g : Registers). g.address) k.1;
+    same = grind arith;
     itself = by_way pipe.is_in refl;
   }
     where
@@ -346,20 +333,19 @@ module _ (device : Accepted) (ends : Type 0) (pipes : FunctionPipes) (placed : A
           → FunctionInSync device pipes s → FunctionInSync device (with_pipe left pipes) v
       by_way false out e there f =
           let level = out_of pipe at s f out in
-          let only = out_cleared pipe.ep s v (x.only_sink out level.endpoint) in
-          out_fits device pipes placed left s v k f (way ∙ out)
-          (known_itself ends answer left v OutPipeInSync is e (x.sink there out level).0)
-          (λ a apart. only.others a (apart_of a apart)) only.ins
+          let only = out_cleared pipe.ep s v (grind arith) in
+          out_fits device pipes placed left s v k f (way ∙ out) (grind (arith, known_itself))
+          (grind (arith, apart_of)) only.ins
       by_way true into e there f =
           let level = in_of pipe at s f into in
           let got : ℕ = got_after is_sent level.0 answer (in_end s pipe.ep).place in
-          let only = in_cleared pipe.ep s v (x.only_source into level.1.endpoint) in
+          let only = in_cleared pipe.ep s v (grind arith) in
           in_fits device pipes placed left s v k f (way ∙ into) (
             got,
             known_itself ends answer left v (λ b w. InPipeInSync b got w) is e
                 (x.source there into level.0 level.1).0,
           )
-          only.outs (λ a apart. only.others a (apart_of a apart))
+          only.outs (grind (arith, apart_of))
 
 -- What transfers leave of the pipes to a device.
 
@@ -392,6 +378,5 @@ module _ {device : Accepted} {below_hub : Bool} {pipes : FunctionPipes} (pipe le
   call_each old answer new L kept leaves moves =
       subst (λ a. EachMoves device a (new.fault ≡ None) (Function pipes)
       (Function (with_pipe left pipes)) old new) (addressed pipe of)
-      (λ single. each_joint L SameSettings _
-      (λ j s v. moves j s v (sound_known old answer left new kept)) old new (leaves single)
-      (kept.worlds.devices.same single))
+      (λ single. each_joint L SameSettings _ (grind (arith, sound_known)) old new (leaves single)
+      (grind arith))

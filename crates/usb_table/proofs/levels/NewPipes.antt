@@ -1,7 +1,7 @@
 -- New pipes to a device that was just configured, and its endpoint 0.
 use Rattle.std.proofs.Common.{◌≡◌, ap, true, ℕ, List, Option, None, Some, is_some, arith, ◌≤◌, ◌<◌}
-use Rattle.std.proofs.Common.{Bool, ◌∙◌, refl, sym, false, ◌==◌, ◌&&◌, not, if◌then◌else◌, []}
-use Rattle.std.proofs.Common.{length, get_or, slice_index, slice_index_or}
+use Rattle.std.proofs.Common.{Bool, ◌∙◌, refl, sym, false, ◌==◌, not, if◌then◌else◌, [], length}
+use Rattle.std.proofs.Common.{get_or, slice_index, slice_index_or}
 use Rattle.usb_descriptor.specs.{status_endpoint_of, UsableEndpoint, max_of_usable}
 use Rattle.usb_descriptor.specs.{default_settings}
 use Rattle.usb_enum.specs.{Accepted, HasFacts, HubFacts, configuration_of, target_of, IsAs}
@@ -21,9 +21,8 @@ use Rattle.std.proofs.lemmas.List.FromFn.{get_or-range_with_len}
 use Rattle.arrayvec.specs.ArrayVec.{ArrayVec}
 use Rattle.usb_descriptor.proofs.Interface.{length-default_settings, status_endpoint-wide}
 use Rattle.usb_descriptor.proofs.Interface.{usable_under-small}
-use Rattle.usb_device.specs.{rested, EndpointState, served_at, tells_changes, text_of, hub_ports}
-use Rattle.usb_device.specs.{number_or_one, status_length, status_number, PollAt, SourceAt, State}
-use Rattle.usb_device.specs.{IsSpec, in_end}
+use Rattle.usb_device.specs.{rested, served_at, tells_changes, text_of, hub_ports, status_length}
+use Rattle.usb_device.specs.{State, IsSpec, in_end}
 use Rattle.usb_tree.proofs.Interface.{and_false}
 use Rattle.usb_hub.specs.{IsFresh}
 use Rattle.usb_enum.specs.declared.finding.Finding.TheVariants.{Device}
@@ -100,7 +99,7 @@ new_fits target false e (Some end) s new =
     let x = new end refl in
     record {
       endpoint = record { endpoint = x.most; not_zero = x.far };
-      level = λ ready. ap (λ (p : EndpointState). p.toggle) x.rests;
+      level = grind arith;
       halted = λ halts. cc halts;
     }
 new_fits target true e (Some end) s new =
@@ -110,10 +109,9 @@ new_fits target true e (Some end) s new =
         endpoint = record {
           endpoint = x.most;
           not_zero = x.far;
-          alone = ap (λ b. e == status_number s.spec s.registers && b) x.quiet
-              ∙ and_false (e == status_number s.spec s.registers);
+          alone = grind (arith, and_false);
         };
-        level = λ ready. SourceAt.level refl (ap (λ (p : EndpointState). p.toggle) x.rests);
+        level = grind arith;
         halted = λ halts. cc halts;
       },
     )
@@ -124,8 +122,7 @@ new_function_fits device below_hub function = record {
   function = function;
   settings = default_settings;
   all = length-default_settings;
-  each = λ is_in e. rw (new_lost device below_hub is_in e, new_at device below_hub is_in e)
-      (new_pipe_fits device below_hub is_in e (usable_end device is_in e));
+  each = search (new_at, new_lost, new_pipe_fits);
   first = by_way;
 }
   where
@@ -147,10 +144,10 @@ module _ (options : HostOptions) (tier supply : ℕ) (device : Accepted) (below_
   wide = options.wide_hubs
 
   accepted : AcceptsChosen s.spec options supply device.chosen
-  accepted = accepts s.spec options tier supply device.chosen own.0.0
+  accepted = search accepts
 
   chosen : HasChosen s.spec device.chosen
-  chosen = has_chosen s.spec supply device.chosen accepted
+  chosen = search (accepted, has_chosen)
 
   text_is : configuration_of device ≡ slice_index_or (texts_of s.spec) device.chosen []
   text_is = grind (arith, listed)
@@ -193,13 +190,9 @@ module _ (options : HostOptions) (tier supply : ℕ) (device : Accepted) (below_
         → PipesInSync device (new_status device below_hub o) s
     status_level None is = tt
     status_level (Some endpoint) is = record {
-      to = record {
-        number = sym (ap number_or_one (ap (status_endpoint_of true) text_same ∙ is));
-        tells = tells;
-        fits = holds endpoint is;
-      };
-      level = PollAt.level fresh.held (ap (λ (p : EndpointState). p.toggle) fresh.changes);
-      runs = ap (λ (p : EndpointState). p.halted) fresh.changes;
+      to = grind (arith, holds, tells, text_same);
+      level = grind (arith, fresh);
+      runs = grind (arith, fresh);
     }
 
   -- A function
@@ -229,12 +222,7 @@ module _ (options : HostOptions) (tier supply : ℕ) (device : Accepted) (below_
         → FitsWay is_in (pipe_at is_in e (new_function device below_hub)) s
     level is_in e = rw (new_at device below_hub is_in e)
         (new_fits (target_of device below_hub) is_in e (usable_end device is_in e) s
-        (λ end usable. record {
-          most = ap max_of_usable (served_is is_in e ∙ usable);
-          far = not_zero is_in e end usable;
-          rests = rests is_in e;
-          quiet = quiet;
-        }))
+        (grind (arith, not_zero, quiet, rests, served_is)))
 
   by_kind : (b : Bool) → is_some device.hub ≡ b → PipesInSync device
       (if b then new_status device below_hub
@@ -252,4 +240,4 @@ module _ (options : HostOptions) (tier supply : ℕ) (device : Accepted) (below_
 
   -- of a device whose finding is its own, and that keeps the rules of devices
   pub new_level : PipesInSync device (new_pipes (Device device) below_hub said) s
-  new_level = by_kind (is_some device.hub) refl
+  new_level = search by_kind

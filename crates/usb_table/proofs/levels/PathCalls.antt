@@ -16,9 +16,9 @@ use Rattle.usb_table.specs.{accepted_device_of, accepted_device_at, address_in, 
 use Rattle.usb_table.specs.{InSyncAt, AllInSync, IsHeld, KeepsLevels, finding_at, entry_address}
 use Rattle.usb_table.specs.{Table, pipes_at, GoesThrough, Indexes, SetOrRefused, interface_asked}
 use Rattle.usb_table.specs.{pipes_set, said_at, said_in, said_of, no_pipes, Entry, IsPiped}
-use Rattle.usb_table.specs.{TableSlots, PathKeys, AddressKeys, key_of_path, under, entries_of}
-use Rattle.usb_table.specs.{findings, pipings, table_of, AreIndexes, ArePiped, is_below_hub}
-use Rattle.usb_table.specs.{AreAbsent, pipes_made, ArePipesAt}
+use Rattle.usb_table.specs.{TableSlots, PathKeys, AddressKeys, key_of_path, under, findings}
+use Rattle.usb_table.specs.{pipings, table_of, AreIndexes, ArePiped, is_below_hub, AreAbsent}
+use Rattle.usb_table.specs.{pipes_made, ArePipesAt}
 use Rattle.usb_table.proofs.levels.StandingPipes.{IsPipeOf, Picks, PickedAt, in_place, pipe_of}
 use Rattle.usb_table.proofs.levels.StandingPipes.{same_keep}
 use Rattle.std.proofs.lemmas.Bool.{false_from_ne_true, cases_eq}
@@ -100,19 +100,12 @@ module _ {A : Type 0} (pick : FunctionPipes → Option PipeState)
       → AreFunctionPipes device below_hub pipes → (o rest : Option PipeState) → pick pipes ≡ o
       → ThroughIf So (miss pipes) o old result rest new
       → R (Function pipes) (Function (with_rest rest pipes))
-  one_picked device pipes e are None rest is x =
-      rw x.1 (idle (Function pipes) (miss pipes) is x.0 x.2)
+  one_picked device pipes e are None rest is x = search (x.1, x.0, x.2)
   one_picked device pipes e are (Some pipe) None is x = absurd x
   one_picked device pipes e are (Some pipe) (Some left) is x =
-      let at : PickedAt pick pipes pipe =
-      picks pipes pipe (in_place device below_hub pipes are) is in
+      let at : PickedAt pick pipes pipe = search in_place in
       let made = same pipe old result left new x in
-      went device pipes pipe left e (record {
-        picked = is;
-        of = pipe_of device below_hub pipes pipe are at.at;
-        made = made;
-        again = at.again left made;
-      }) x
+      went device pipes pipe left e (grind (arith, pipe_of)) x
 
   picked_there : (device : Accepted) (pipes left : Pipes) → found ≡ Some device
       → ArePipesTo device below_hub pipes → PipesThrough pick miss So pipes old result left new
@@ -140,8 +133,7 @@ module _ (old : World) (result : Result (Unit {0}) TableFault) (new : World)
       (pipes left : FunctionPipes)
       → AreFunctionPipes device below_hub pipes → ClearedIf why pipes old result left new
       → R (Function pipes) (Function left)
-  both_if device e (Some why) pipes left are x =
-      both_idle (Function pipes) (Function left) why (x.0, ap Function x.1, x.2)
+  both_if device e (Some why) pipes left are x = search (both_idle, x.0, x.1, x.2)
   both_if device e None pipes left are x = went device pipes left e are x
 
   both_there : (device : Accepted) (pipes left : Pipes) → found ≡ Some device
@@ -195,11 +187,8 @@ pub stands_there : (path : List ℕ) (table : Table) (w : World) → IsHeld tabl
     → a ≡ device.address → (j : Location) (s : State) → reach_on w.roots j ≡ true
     → state_on w.roots j ≡ Some s → (address_of s == a) ≡ true → path ≡ path_to j
 stands_there path table w held device found a is j s on there at =
-    let own : entry_address (path_to j) table.entries ≡ Some (address_of s) =
-    sym (held.own (path_to j) on) ∙ ap (option_map address_of) there in
-    sym (entry_address-one_path table w (path_to j) path device.address held
-    (own ∙ ap Some (equal_same (address_of s) a at ∙ is)) (address_found path table.entries device
-    found))
+    let own : entry_address (path_to j) table.entries ≡ Some (address_of s) = grind arith in
+    grind (arith, address_found, entry_address-one_path, equal_same)
 
 -- what stands at a location stands at its path
 pub stood_at : {R : Relation} (path : List ℕ) (old : World) (j : Location) (v : State)
@@ -208,8 +197,7 @@ pub stood_at : {R : Relation} (path : List ℕ) (old : World) (j : Location) (v 
 stood_at path old j v e w = grind arith
 
 apart_or : (path x : List ℕ) → is_at (path_cmp path) x ≡ false → x ≢ path
-apart_or path x apart e = false_true (sym apart
-    ∙ rw e (path_itself path))
+apart_or path x apart = grind (arith, false_true, path_itself)
 
 module _ (path : List ℕ) (device : Accepted) (ends : Type 0) (pipes left : Pipes) (old new : Table)
     (before after : World) (stands : accepted_device_at path old.entries ≡ Some device)
@@ -218,8 +206,7 @@ module _ (path : List ℕ) (device : Accepted) (ends : Type 0) (pipes left : Pip
     (moves : after.shared ≡ false → EachWas (PipesMove device device.address ends pipes left) before
     after) where
   pub single : IsHeld old before → after.shared ≡ false
-  single held = (addresses.kept (λ x. entry_address x old.entries)
-      (record { so = λ h. held; single = held.single })).single
+  single held = (addresses.kept (λ x. entry_address x old.entries) (grind arith)).single
 
   same_device : (x : List ℕ) (d : Accepted) → accepted_device_at x new.entries ≡ Some d
       → accepted_device_at x old.entries ≡ Some d
@@ -232,13 +219,11 @@ module _ (path : List ℕ) (device : Accepted) (ends : Type 0) (pipes left : Pip
       at : InSyncFrom x new after
       at j e d s found on there =
           let w : Was (PipesMove device device.address ends pipes left) before j s =
-          moves (single held) j s on there in
+          search single in
           let stood = stood_at x before j s e w in
           let kept : s ≡ w.before = w.so.others (false_from_ne_true _
-          (λ at. apart_or path x apart (e ∙ sym (stands_there path old before held device stands
-          device.address refl j w.before w.on w.stands at)))) in
-          rw (goes.others x apart, kept)
-          (l.level d w.before (same_device x d found) stood.0 stood.1)
+          (λ at. apart_or path x apart (e ∙ sym (search stands_there)))) in
+          grind (arith, same_device)
 
   itself : IsHeld old before → ends → InSyncAt path old before → InSyncAt path new after
   itself held e l = at_some_port new after path at
@@ -246,12 +231,10 @@ module _ (path : List ℕ) (device : Accepted) (ends : Type 0) (pipes left : Pip
       at : InSyncFrom path new after
       at j x d s found on there =
           let w : Was (PipesMove device device.address ends pipes left) before j s =
-          moves (single held) j s on there in
+          search single in
           let stood = stood_at path before j s x w in
           let has = held_address old before path device w.before held stands stood.0 stood.1 in
-          rw (← same_Some device d (sym stands ∙ same_device path d found), is)
-          (w.so.itself e (eq-eqb (address_of w.before) device.address has)
-          (rw was at (l.level device w.before stands stood.0 stood.1)))
+          grind (arith, eq-eqb, same_Some, same_device)
 
   pub moved_levels : (Worlds : World → World → Type 0) → Worlds before after
       → KeepsLevels Worlds path ends old before new after
@@ -287,9 +270,7 @@ module _ (table : Table) (old new : World) where
       at : InSyncFrom x table new
       at j e d s found on there =
           let w : Was StaysAs old j s = was j e s on there in
-          let stood = stood_at x old j s e w in
-          still_level d (pipes_at x table) w.before s w.so (l.level d w.before found stood.0
-          stood.1)
+          let stood = stood_at x old j s e w in search (still_level, l.level)
 
   -- where each device stays as it was
   pub level_stays : EachWas StaysAs old new → (x : List ℕ) → InSyncAt x table old
@@ -329,9 +310,8 @@ pub said_found : (standings : TableSlots) (path : List ℕ) (paths : PathKeys) (
     → said_at path (table_of standings paths) ≡ said_of (Some s.finding) s.pipes
 said_found standings path paths key s at stands =
     ap (λ o. said_of o (pipes_at path (table_of standings paths)))
-    (entries_of-key (findings standings) path paths key s.finding at
-    (findings-standing standings key s stands))
-    ∙ ap (said_of (Some s.finding)) (pipes_found standings path paths key s at stands)
+    (entries_of-key (findings standings) path paths key s.finding at (search findings-standing))
+    ∙ ap (said_of (Some s.finding)) (grind (arith, pipes_found))
 
 pub said_none : (standings : TableSlots) (path : List ℕ) (paths : PathKeys)
     → key_of_path paths path ≡ None → said_at path (table_of standings paths) ≡ None
@@ -353,11 +333,11 @@ module _ (standings : TableSlots) (paths : PathKeys) (addresses : AddressKeys)
     where
       by_entry : (o : Option Entry) → standings key ≡ o
           → AreTo (finding_at path (table_of standings paths).entries)
-      by_entry None none = let some = are.stands path key at in absurd (cc some)
+      by_entry None none = grind arith
       by_entry (Some s) stands =
           rw (
             entries_of-key (findings standings) path paths key s.finding at
-                (findings-standing standings key s stands),
+                (search findings-standing),
             pipes_found standings path paths key s at
                 stands,
           ) (piped path key s at stands).1
@@ -372,7 +352,7 @@ pub device_found : (standings : TableSlots) (path : List ℕ) (paths : PathKeys)
     ≡ accepted_device_of (Some s.finding)
 device_found standings path paths key s at stands =
     ap accepted_device_of (entries_of-key (findings standings) path paths key s.finding at
-    (findings-standing standings key s stands))
+    (search findings-standing))
 
 pub device_none : (standings : TableSlots) (path : List ℕ) (paths : PathKeys)
     → key_of_path paths path ≡ None
@@ -430,8 +410,8 @@ module _ (path : List ℕ) {standings after : TableSlots} {paths : PathKeys}
   still_piped q k x h stands = elim (cases_eq k key) [
     | inl e ↦
         let is =
-        same_Some (record s { pipes = left }) x (sym changed ∙ ap after (sym e) ∙ stands) in
-        let there : path ≡ q = are.0.once q path key (h ∙ ap Some e) at in
+        same_Some (record s { pipes = left }) x (grind arith) in
+        let there : path ≡ q = grind arith in
         subst (IsPiped q) is (
           (are.1 path key s at held).0,
           rw there at fits,
@@ -455,14 +435,14 @@ module _ (path : List ℕ) {standings after : TableSlots} {paths : PathKeys}
         indexes = rw found are.0;
         piped = still_piped;
         goes = record {
-          fits = are_pipes_at standings paths addresses are.0 are.1 path;
-          entries = ap (λ f. entries_of f paths) found;
-          others = λ other apart. other_pipes other apart (key_of_path paths other) refl;
+          fits = grind (arith, are_pipes_at);
+          entries = grind arith;
+          others = grind (arith, other_pipes);
           said = said_found after path paths key _ at changed ∙ said
-              ∙ sym (said_found standings path paths key s at held);
+              ∙ sym (grind (arith, said_found));
         };
-        was = pipes_found standings path paths key s at held;
-        is = pipes_found after path paths key _ at changed;
+        was = grind (arith, pipes_found);
+        is = grind (arith, pipes_found);
       }
 
 -- to the same device
@@ -476,7 +456,7 @@ pub set_slot : {path : List ℕ} (slab : Slab Entry) {paths : PathKeys} {address
     addresses s.pipes left
 set_slot {path} slab {key = key} {s} {left} are at held fits said =
     let updates = Updates-with_value slab key (record s { pipes = left }) (ap is_some held) in
-    goes_through path are at held updates.changed updates.others fits said
+    search goes_through
 
 -- to the same endpoints
 pub through_slot : {path : List ℕ} (slab : Slab Entry) {paths : PathKeys} {addresses : AddressKeys}
@@ -497,8 +477,7 @@ pub through_none : (path : List ℕ) (standings : TableSlots) (paths : PathKeys)
     → AreIndexes (findings standings) paths addresses × ArePiped standings paths
     → key_of_path paths path ≡ None
     → CallThrough path standings standings paths addresses no_pipes no_pipes
-through_none path standings paths addresses are none =
-    grind (arith, are_pipes_at, others, pipes_none)
+through_none path standings paths addresses are none = search (are_pipes_at, others, pipes_none)
 
 -- the pipes of an entry stand in their places
 pub placed_at : (path : List ℕ) (slab : Slab Entry) (paths : PathKeys) {key : ℕ} {s : Entry}

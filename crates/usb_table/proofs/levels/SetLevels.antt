@@ -1,16 +1,16 @@
 -- What SET_INTERFACE makes of the pipes to a function: they are as far as the endpoints at their
 -- other ends.
 use Rattle.std.proofs.Common.{◌≡◌, ◌∙◌, refl, ap, arith, Bool, true, false, ℕ, zero, suc, ◌+◌, ◌<◌}
-use Rattle.std.proofs.Common.{◌≤◌, List, [], ◌∷◌, length, get_or, if◌then◌else◌, Option, Some, None}
-use Rattle.std.proofs.Common.{◌==◌, eq-eqb, IfSome}
+use Rattle.std.proofs.Common.{◌≤◌, List, [], ◌∷◌, length, get_or, Option, Some, None, ◌==◌, eq-eqb}
+use Rattle.std.proofs.Common.{IfSome}
 use Rattle.std.proofs.lemmas.Bool.{cases_lt}
 use Rattle.std.proofs.lemmas.List.{get_or_past}
 use Rattle.usb_descriptor.specs.{names_in, EndpointTable, IsTableOf, end_at, usable_under}
 use Rattle.usb_descriptor.specs.{EndpointKind, UsableEndpoint, default_settings, settable_in}
 use Rattle.usb_descriptor.specs.{with_setting, max_of_usable}
-use Rattle.usb_device.specs.{numbered_from, InEnd, State, begun_if, in_data, in_end, in_max}
-use Rattle.usb_device.specs.{is_of_setting, out_end, out_max, rested, rested_in, rested_out}
-use Rattle.usb_device.specs.{served_at, set_to, tells_changes, text_of, with_interface}
+use Rattle.usb_device.specs.{numbered_from, State, begun_if, in_data, in_end, in_max, is_of_setting}
+use Rattle.usb_device.specs.{out_end, out_max, rested, rested_in, rested_out, served_at, set_to}
+use Rattle.usb_device.specs.{tells_changes, text_of, with_interface}
 use Rattle.usb_table.specs.{replaced_if, replaced_row, AreFunctionPipes, AreWhole, FunctionPipes}
 use Rattle.usb_table.specs.{IsPlace, cleared_row, end_under, first_endpoint, first_number}
 use Rattle.usb_table.specs.{number_of, lost_at, lost_function, lost_row, mark_of, marked_row}
@@ -196,7 +196,7 @@ module _ (device : Accepted) (below_hub : Bool) (interface setting : ℕ) (pipes
 
         -- what is nowhere said to stand
         past : 16 ≤ e → Place (end_under now device is_in e) None None
-        past h = rw (none_at now device is_in e h) tt
+        past h = search none_at
 
         set_place : length (row_at is_in pipes) ≡ 16 → Place (end_under now device is_in e)
             (lost_at is_in e after_set) (pipe_at is_in e after_set)
@@ -227,18 +227,17 @@ module _ (device : Accepted) (below_hub : Bool) (interface setting : ℕ) (pipes
         loss_place : length (lost_row is_in pipes) ≡ 16
             → Place (end_under are.settings device is_in e) (lost_at is_in e after_loss)
             (pipe_at is_in e after_loss)
-        loss_place size =
-            grind (
-              arith,
-              cases_lt,
-              loss-elsewhere,
-              loss-named,
-              loss_mark-elsewhere,
-              loss_mark-named,
-              loss_mark-past,
-              marked,
-              old_past,
-            )
+        loss_place size = grind (
+          arith,
+          cases_lt,
+          loss-elsewhere,
+          loss-named,
+          loss_mark-elsewhere,
+          loss_mark-named,
+          loss_mark-past,
+          marked,
+          old_past,
+        )
 
       set_size : AreWhole after_set → (is_in : Bool) → length (row_at is_in pipes) ≡ 16
       set_size whole is_in = grind (arith, length-replaced_row)
@@ -250,8 +249,8 @@ module _ (device : Accepted) (below_hub : Bool) (interface setting : ℕ) (pipes
       set_fits whole = record {
         function = are.function;
         settings = now;
-        all = length-with_setting interface setting are.settings ∙ are.all;
-        each = λ is_in e. set_place is_in e (set_size whole is_in);
+        all = grind (arith, length-with_setting);
+        each = grind (arith, set_place, set_size);
         first = by_way;
       }
         where
@@ -349,10 +348,9 @@ module _ (device : Accepted) (below_hub : Bool) (interface setting : ℕ) (pipes
       let there : names_in interface true pipe.ep text ≡ false = rw place.1 apart in
       let end = in_stays pipe.ep there in (
         got,
-        source_level pipe got s v (in_most pipe.ep
-            ∙ in_max-elsewhere s interface setting pipe.ep (apart_there true pipe.ep there))
-            (alone_is pipe.ep) (data_is pipe.ep) (ap (λ (x : InEnd). x.place) end)
-            (same_halts _ _ (ap (λ (x : InEnd). x.state) end)) fit,
+        source_level pipe got s v (grind (arith, apart_there, in_max-elsewhere, in_most))
+            (alone_is pipe.ep) (data_is pipe.ep) (grind arith)
+            (grind (arith, same_halts)) fit,
       )
 
   way_beside : (is_in : Bool) (e : ℕ) → names_in interface is_in e text ≡ false
@@ -365,10 +363,9 @@ module _ (device : Accepted) (below_hub : Bool) (interface setting : ℕ) (pipes
       → FitsWay is_in (pipe_at is_in e left) v) → FunctionInSync device left v
   level_by left fits = record {
     text = text_is ∙ f.text;
-    low = ap (λ (d : State). d.spec.low) took.is ∙ f.low;
+    low = grind arith;
     quiet = tells_is ∙ f.quiet;
-    settings = ap (λ (d : State). length d.registers.settings) took.is
-        ∙ length-with_setting interface setting s.registers.settings ∙ f.settings;
+    settings = grind (arith, length-with_setting);
     outs = fits false;
     ins = fits true;
   }
@@ -376,8 +373,7 @@ module _ (device : Accepted) (below_hub : Bool) (interface setting : ℕ) (pipes
   -- The interface's pipes are lost
 
   pub loss_level : FunctionInSync device (lost_function device interface pipes) v
-  loss_level = level_by (lost_function device interface pipes)
-      (λ is_in. lost_way device below_hub interface setting pipes v is_in (way_beside is_in))
+  loss_level = search (level_by, lost_way, way_beside)
 
   -- Or they are new, where its setting is known
 
@@ -422,4 +418,4 @@ module _ (device : Accepted) (below_hub : Bool) (interface setting : ℕ) (pipes
         grind (arith, cases_lt, new_way, set-elsewhere, set-named, set-past, way-none, way_beside)
 
     pub set_level : FunctionInSync device (set_function device below_hub interface setting pipes) v
-    set_level = level_by (set_function device below_hub interface setting pipes) set_way
+    set_level = search (level_by, set_way)

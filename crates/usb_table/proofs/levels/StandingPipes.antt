@@ -1,7 +1,7 @@
 -- Pipes of a function that stand in their places, and those that are picked among them.
-use Rattle.std.proofs.Common.{◌≡◌, ◌≢◌, ◌∙◌, refl, sym, ap, subst, arith, Bool, true, false, ℕ}
-use Rattle.std.proofs.Common.{zero, suc, ◌==◌, ◌≤◌, ◌<◌, not, List, [], ◌∷◌, length, get_or}
-use Rattle.std.proofs.Common.{slice_set, Option, Some, None, IfSome, if◌then◌else◌, inl, inr, ◌⊎◌}
+use Rattle.std.proofs.Common.{◌≡◌, ◌≢◌, ◌∙◌, refl, sym, ap, arith, Bool, true, false, ℕ, zero, suc}
+use Rattle.std.proofs.Common.{◌==◌, ◌≤◌, ◌<◌, not, List, [], ◌∷◌, length, get_or, slice_set, Option}
+use Rattle.std.proofs.Common.{Some, None, IfSome, if◌then◌else◌, inl, inr, ◌⊎◌}
 use Rattle.std.specs.Option.{option_map}
 use Rattle.usb_descriptor.specs.{EndpointKind, UsableEndpoint}
 use Rattle.usb_descriptor.proofs.Interface.{usable_under-small}
@@ -119,7 +119,7 @@ place_of pipes placed is_in e pipe at = grind arith
 pub placed_made : (pipes left : FunctionPipes) → function_made left ≡ function_made pipes
     → AreInPlace pipes → AreInPlace left
 placed_made pipes left same placed is_in e =
-    by_pipe (pipe_at is_in e pipes) (pipe_at is_in e left) (at_made is_in e pipes left same)
+    by_pipe (pipe_at is_in e pipes) (pipe_at is_in e left) (search at_made)
     (placed is_in e)
   where
     by_pipe : (was now : Option PipeState)
@@ -128,9 +128,7 @@ placed_made pipes left same placed is_in e =
         → IfSome now (λ (p : PipeState). (p.is_in ≡ is_in) × (p.ep ≡ e))
     by_pipe was None made place = tt
     by_pipe None (Some left) made place = absurd (cc made)
-    by_pipe (Some pipe) (Some left) made place =
-        let made_same : pipe_made left ≡ pipe_made pipe = cc made in
-        (same_way pipe left made_same ∙ place.0, same_number pipe left made_same ∙ place.1)
+    by_pipe (Some pipe) (Some left) made place = grind (arith, same_number, same_way)
 
 -- one stands in its place, and what is left of it is picked again
 pub record PickedAt (pick : FunctionPipes → Option PipeState) (pipes : FunctionPipes)
@@ -166,12 +164,7 @@ only_picks : (test : PipeState → Bool) → ((pipe left : PipeState)
     → Picks (λ pipes. only_if test (pick pipes))
 only_picks test still pick picks pipes pipe placed h =
     let one = only_some test (pick pipes) pipe h in
-    let x = picks pipes pipe placed one.0 in
-    record {
-      at = x.at;
-      again = λ left same. ap (only_if test) (x.again left same)
-          ∙ ap (λ b. if b then Some left else None) (still pipe left same ∙ one.1);
-    }
+    let x = picks pipes pipe placed one.0 in grind arith
 
 pub first_picks : (is_in : Bool) → Picks (first_pipe is_in)
 first_picks is_in = grind (arith, number_picks, only_picks)
@@ -195,12 +188,12 @@ first_way is_in pipes pipe placed h = grind (arith, only_some, place_of)
 
 pub sends_way : (choice : EndpointChoice) (pipes : FunctionPipes) (pipe : PipeState)
     → AreInPlace pipes → sends_through choice pipes ≡ Some pipe → pipe.is_in ≡ false
-sends_way FirstBulk pipes pipe placed h = first_way false pipes pipe placed h
+sends_way FirstBulk pipes pipe placed h = search first_way
 sends_way (At a) pipes pipe placed h = grind (arith, not-true, only_some)
 
 pub receives_way : (choice : EndpointChoice) (pipes : FunctionPipes) (pipe : PipeState)
     → AreInPlace pipes → receives_through choice pipes ≡ Some pipe → pipe.is_in ≡ true
-receives_way FirstBulk pipes pipe placed h = first_way true pipes pipe placed h
+receives_way FirstBulk pipes pipe placed h = search first_way
 receives_way (At a) pipes pipe placed h = grind (arith, both, only_some)
 
 pub polls_way : (a : ℕ) (pipes : FunctionPipes) (pipe : PipeState)
@@ -227,10 +220,7 @@ pub pipe_of : (device : Accepted) (below_hub : Bool) (pipes : FunctionPipes) (pi
     → IsPipeOf device below_hub pipes pipe
 pipe_of device below_hub pipes pipe are at =
     by_end (end_under are.settings device pipe.is_in pipe.ep) refl
-    (lost_at pipe.is_in pipe.ep pipes)
-    (subst (IsPlace device below_hub pipe.is_in pipe.ep
-    (end_under are.settings device pipe.is_in pipe.ep) (lost_at pipe.is_in pipe.ep pipes)) at
-    (are.each pipe.is_in pipe.ep))
+    (lost_at pipe.is_in pipe.ep pipes) (grind arith)
   where
     by_end : (o : Option UsableEndpoint) → end_under are.settings device pipe.is_in pipe.ep ≡ o
         → (lost : Option EndpointKind)
@@ -361,10 +351,8 @@ function_to device below_hub pipes left same are = record {
   settings = are.settings;
   all = are.all;
   each = λ is_in e.
-      rw (same_lost is_in pipes left same)
-      (place_to device below_hub is_in e _ _ _ _ (at_made is_in e pipes left same)
-      (are.each is_in e));
-  first = λ is_in. same_first is_in pipes left same ∙ are.first is_in;
+      rw (same_lost is_in pipes left same) (grind (arith, at_made, place_to));
+  first = grind (arith, same_first);
 }
 
 status_to : (device : Accepted) (below_hub : Bool) (pipe left : Interrupt)

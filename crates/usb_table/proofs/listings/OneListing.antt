@@ -1,7 +1,6 @@
 -- What is plugged has one right listing, but for addresses.
-use Rattle.std.proofs.Common.{◌≡◌, ◌≤◌, ◌<◌, ◌+◌, ℕ, zero, suc, List, length, Option, None, Some}
-use Rattle.std.proofs.Common.{refl, sym, ◌∙◌, arith, IsSome, IsSomeAnd, subst, true, false, [], ◌∷◌}
-use Rattle.std.proofs.Common.{take}
+use Rattle.std.proofs.Common.{◌≡◌, ◌<◌, ◌+◌, ℕ, zero, suc, List, length, Option, None, Some, refl}
+use Rattle.std.proofs.Common.{sym, ◌∙◌, arith, IsSome, IsSomeAnd, subst, true, false, [], ◌∷◌, take}
 use Rattle.usb_port.specs.{parent_of, port_on_hub, path_cmp}
 use Rattle.usb_device.specs.{Spec}
 use Rattle.usb_enum.specs.{Finding, HostOptions, HubFacts, IsFindingOf, IsRight, Silent, Accepted}
@@ -9,8 +8,7 @@ use Rattle.usb_enum.specs.{texts_of, strings_of, facts_of, usual_options}
 use Rattle.usb_enum.specs.declared.finding.Finding.TheVariants.{Device, Refused}
 use Rattle.usb_table.specs.{Entries, SpecTree, finding_at, hub_facts_in, hub_facts_at, IsPortBelow}
 use Rattle.usb_table.specs.{IsListedPort, tier_of, supply_at, ListsEach, Lists, NoneWaits}
-use Rattle.usb_table.specs.{IsFoundLike, ListsLike, tree_after, tree_in, Matches, Rises}
-use Rattle.usb_table.specs.{entry_address}
+use Rattle.usb_table.specs.{IsFoundLike, ListsLike, tree_after, Matches, Rises, entry_address}
 use Rattle.usb_table.proofs.entries.Ranges.{parent_shorter}
 use Rattle.usb_world.specs.{PlanData, IsPlan, AtPorts, AnyStep, Course, opening, World, roots_of}
 use Rattle.usb_world.proofs.Interface.{devices_left, new_long}
@@ -48,8 +46,7 @@ listed_finding options roots tree entries l none path spec port t =
         (IsRight (ListsEach entries) spec options (tier_of path) (supply_at tree path))
         → IsSomeAnd o (IsFindingOf spec options (tier_of path) (supply_at tree path))
     pick None at h = h
-    pick (Some f) at h = by_description entries none path spec f options (tier_of path)
-        (supply_at tree path) at h
+    pick (Some f) at h = grind (arith, by_description)
 
 -- Ports
 
@@ -80,9 +77,7 @@ port_moved roots a b path like h = record {
     pick : (o : Option (List ℕ)) → parent_of path ≡ o → IsPortBelow roots a o (port_on_hub path)
         → IsPortBelow roots b o (port_on_hub path)
     pick None e h = h
-    pick (Some p) e h = is_some_and-moved (hub_facts_at p a) (hub_facts_at p b)
-        (λ facts. (1 ≤ port_on_hub path) × (port_on_hub path ≤ facts.ports))
-        (λ hub at. same_hub a b p hub (like p (parent_shorter path p e)) at) h
+    pick (Some p) e h = grind (arith, is_some_and-moved, parent_shorter, same_hub)
 
 -- of two right listings
 
@@ -95,15 +90,14 @@ module _ (options : HostOptions) (roots : ℕ) (tree : SpecTree) (a b : Entries)
   same_here path f found move = pick (tree path) refl (x.nothing_else path f found).1
     where
       port : IsListedPort roots a path
-      port = (x.nothing_else path f found).0
+      port = grind arith
 
       both : (spec : Spec) (u : Option Finding)
           → IsSomeAnd (Some f) (IsFindingOf spec options (tier_of path) (supply_at tree path))
           → IsSomeAnd u (IsFindingOf spec options (tier_of path) (supply_at tree path))
           → IsSomeAnd u (IsFoundLike f)
       both spec None g h = h
-      both spec (Some e) g h =
-          found_like spec options (tier_of path) (supply_at tree path) f e g h
+      both spec (Some e) g h = grind (arith, found_like)
 
       pick : (o : Option Spec) → tree path ≡ o → IsSome o
           → IsSomeAnd (finding_at path b) (IsFoundLike f)
@@ -138,8 +132,7 @@ pub lists_of_plan : (plan : PlanData) → IsPlan plan → AtPorts plan.events �
     → Matches options w entries → Lists options plan.roots (tree_after plan w.taken) entries
 lists_of_plan plan is paths w c options entries m =
     let number : roots_of w ≡ plan.roots = (course_later c).roots ∙ new_long plan.roots in
-    lists_moved options (roots_of w) plan.roots (tree_in w) (tree_after plan w.taken) entries number
-    (devices_left plan is paths w c) m.lists
+    search (devices_left, lists_moved, plan.roots, w.taken, m.lists)
 
 -- A listing: a hub at a root port, and a device that is silent at the hub's second port.
 
@@ -229,8 +222,7 @@ listed =
       there = λ path spec port. by_path IsFoundAt found_first found_second example_elsewhere path
           spec;
       nothing_else = by_path IsAlone alone_first alone_second alone_none;
-      addresses = λ path address at. (by_path HasExamplePath address_first address_second
-          address_none path address at).1;
+      addresses = grind (arith, address_first, address_none, address_second, by_path);
       differ = λ path other address at same.
           (by_path HasExamplePath address_first address_second address_none path address at).0
           ∙ sym (by_path HasExamplePath address_first address_second address_none other address

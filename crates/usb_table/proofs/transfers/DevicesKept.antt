@@ -1,7 +1,7 @@
 -- Transfers through pipes leave each device with its description and registers, ask nothing of
 -- ports, and add nothing to what is left to do.
 use Rattle.std.proofs.Common.{arith, ◌≡◌, ◌≢◌, ◌⊎◌, inl, inr, ℕ, ◌==◌, true, false, List, Option}
-use Rattle.std.proofs.Common.{None, Result, Ok, Err, refl, ap, sym, subst, ◌∙◌, Bool}
+use Rattle.std.proofs.Common.{None, Result, Ok, Err, refl, subst, Bool}
 use Rattle.std.specs.Global.{Vec}
 use Rattle.std.proofs.lemmas.Bool.{cases_eq}
 use Rattle.arrayvec.specs.ArrayVec.{ArrayVec}
@@ -73,15 +73,14 @@ each_far : (a : Attempt) (w : World) → IsBulkAttempt a → IsMade a w → (aft
 each_far a w (into i far) m single = each_wider (DidIn a w) RanAs (λ j s v. did_in a w j s v far) w
     (after (attempt a) w) (each_in a w m i single)
 each_far a w (out t bytes i far) m single =
-    each_wider (DidOut a t bytes w) RanAs (λ j s v. did_out a t bytes w j s v far) w
+    each_wider (DidOut a t bytes w) RanAs (search did_out) w
     (after (attempt a) w) (each_out a w t bytes m i single)
 
 each_itself : (w : World) → EachWas RanAs w w
 each_itself w = grind (arith, each_none)
 
 each_ran_then : (u w v : World) → EachWas RanAs u w → EachWas RanAs w v → EachWas RanAs u v
-each_ran_then u w v x y = each_joined RanAs RanAs RanAs
-    (λ j s t v h k. (k.0 ∙ h.0, k.1 ∙ h.1, k.2 ∙ h.2)) u w v x y
+each_ran_then u w v x y = each_joined RanAs RanAs RanAs (grind arith) u w v x y
 
 each_ran_at : (u w v : World) → w.roots ≡ v.roots → EachWas RanAs u w → EachWas RanAs u v
 each_ran_at u w v e x = grind arith
@@ -101,13 +100,8 @@ step_stays : (a : Attempt) (w : World) → IsBulkAttempt a → IsSettled w.roots
 step_stays a w far settled single = pick (attempt_cases a w)
   where
     pick : MadeOrNot a w (after (attempt a) w) → Stayed w (after (attempt a) w)
-    pick (inl e) = record {
-      before = sym (ap (λ x. x.shared) e) ∙ single;
-      each = each_ran_at w w (after (attempt a) w) (sym (ap (λ x. x.roots) e)) (each_itself w);
-    }
-    pick (inr m) =
-        let made : IsMade a w = made_here a w m.0 settled in
-        record { before = made_single a w made single; each = each_far a w far made single }
+    pick (inl e) = grind (arith, each_itself, each_ran_at)
+    pick (inr m) = search (each_far, made_here, made_single)
 
 -- Over all attempts of a call
 
@@ -130,34 +124,26 @@ any_rests s w x (a, e, far) settled = rw e (data_asks_nothing a w x (far_kind a 
 
 any_keeps : (m v r : PortMark) (few : Few v r) (s : Step) (w : World) → IsFarStep s
     → IsSettled w.roots → KeepsStep m v r few s w
-any_keeps m v r few s w (a, e, far) settled = rw e (λ ports.
-    keeps-attempt m v r few a w ports (data_allows m r a w (far_kind a far) settled))
+any_keeps m v r few s w (a, e, far) settled = rw e (search (data_allows, far_kind, keeps-attempt))
 
 module _ (K : Step → World → Type 0) (far : (s : Step) (w : World) → K s w → IsFarStep s) where
   course_stays : {w v : World} → Course K w v → IsSettled w.roots → v.shared ≡ false → Stayed w v
   course_stays (here w) settled single = grind (arith, each_itself)
   course_stays (step s {w} {v} k c) settled single =
       let rest = course_stays c (settled_after s w settled) single in
-      let first = any_stays s w (far s w k) settled rest.before in
-      record { before = first.before; each = each_ran_then w (after s w) v first.each rest.each }
+      let first = any_stays s w (far s w k) settled rest.before in search each_ran_then
 
   course_rests : (x : List ℕ) {w v : World} → Course K w v → IsSettled w.roots
       → Course (LeavesPortAlone x) w v
   course_rests x c = settled_wider (λ s w k. any_rests s w x (far s w k)) c
 
   course_backlog : {w v : World} → Course K w v → IsSettled w.roots → KeepsAll w v
-  course_backlog c settled = record {
-    all = λ ports m v r few.
-        keeps-chain m v r few ports
-        (settled_wider (λ s w k. any_keeps m v r few s w (far s w k)) c settled);
-  }
+  course_backlog c settled = search (any_keeps, keeps-chain, settled_wider)
 
   cut_stays : (old : World) (fault : BusFault) (new : World) → GivenUp K old fault new
       → IsSettled old.roots → new.shared ≡ false → EachWas RanAs old new
   cut_stays old fault new g settled single =
-      pick
-      (cut_or_same g.last g.mid fault new g.fits (settled_course g.course settled) g.refused g.fails
-      single)
+      pick (grind (arith, cut_or_same, settled_course))
     where
       pick : AttemptCut g.last g.mid new → EachWas RanAs old new
       pick (unmade h each) =
@@ -180,14 +166,14 @@ module _ (K : Step → World → Type 0) (far : (s : Step) (w : World) → K s w
       → IsSettled old.roots → TransferAttempts K old result new → Spared old new
   attempts_spare old result new settled x = elim (attempts_cases old result new x) [
     | inl c ↦ record {
-      ran = λ single. (course_stays c settled single).each;
+      ran = grind (arith, course_stays);
       rests = λ sound p. course_rests p c settled;
       backlog = λ sound. course_backlog c settled;
     }
     | inr g ↦ record {
-      ran = λ single. cut_stays old g.0 new g.1 settled single;
-      rests = λ sound. let told = g.1.refused.ends.told in absurd (cc (told, sound));
-      backlog = λ sound. let told = g.1.refused.ends.told in absurd (cc (told, sound));
+      ran = search cut_stays;
+      rests = grind arith;
+      backlog = grind arith;
     }
   ]
 
@@ -213,8 +199,7 @@ pub polls_spare : (pipe : Interrupt) → pipe.ep ≢ 0 → (old : World)
     (result : Result (Option (ArrayVec ℕ)) PipeFault) (left : Interrupt) (new : World)
     → IsSettled old.roots → Polls pipe old result left new → Spared old new
 polls_spare pipe far old result left new settled x =
-    attempts_spare (IsOnly (in_attempt pipe.target pipe.ep)) (only_far pipe.target pipe.ep far) old
-    result new settled (poll_attempts pipe result left old new x)
+    search (attempts_spare, only_far, poll_attempts, pipe.target, pipe.ep)
 
 spared_if : {old new : World} → IsSettled old.roots ⊎ (new ≡ old)
     → (IsSettled old.roots → Spared old new) → Spared old new
@@ -238,9 +223,7 @@ same_spares old new e = rw e (only_transfers old old (keeps_none old) (spared_no
 pub polls_only : (pipe : Interrupt) → pipe.ep ≢ 0 → (old : World)
     (result : Result (Option (ArrayVec ℕ)) PipeFault) (left : Interrupt) (new : World)
     → IsSettled old.roots → Polls pipe old result left new → OnlyTransfers old new
-polls_only pipe far old result left new settled x =
-    only_transfers old new (polls_keep pipe far old result left new x)
-    (polls_spare pipe far old result left new settled x)
+polls_only pipe far old result left new settled x = search (only_transfers, polls_keep, polls_spare)
 
 -- what a call through a pipe leaves of all devices and ports; the bus tells its own fault
 pub record PipeKeeps {A : Type 0} (old : World) (answer : Result A PipeFault) (new : World)
@@ -300,16 +283,15 @@ module _ (pipe : PipeState) (far : pipe.ep ≢ 0) (old : World)
     | inl broken ↦
         let idle = x.broken broken in
         record {
-          worlds = same_spares old new idle.world_kept;
-          told = λ fault e. absurd (cc (sym idle.answer ∙ e));
+          worlds = search same_spares;
+          told = grind arith;
         }
     | inr works ↦
         let y = x.asked works in
         let a = poll_attempts (polled_pipe pipe) answer (polled_pipe left) old new y.polls in
         record {
-          worlds = polls_only (polled_pipe pipe) far old answer (polled_pipe left) new y.settled
-              y.polls;
-          told = λ fault e. (a.cut fault e).refused.ends;
+          worlds = search polls_only;
+          told = grind arith;
         }
   ]
 
@@ -365,20 +347,18 @@ module _ (endpoint : ℕ) where
 cleared_ordered : (pipe : PipeState) (old : World) (result : Result (Unit {0}) PipeFault)
     (left : PipeState) (new : World) → Cleared pipe old result left new
     → Commanded pipe.target (clear_endpoint_halt (halt_address pipe.ep pipe.is_in)) old result new
-cleared_ordered pipe old result left new x = record {
-  settled = x.settled;
-  ends = x.ends;
-  stages = x.stages;
-  room = x.room;
-  rests = λ plain sound. write_rests pipe.target
-      (clear_endpoint_halt (halt_address pipe.ep pipe.is_in)) result old new x.settled x.stages
-      plain sound;
-  backlog = λ plain sound. write_backlog pipe.target
-      (clear_endpoint_halt (halt_address pipe.ep pipe.is_in)) result old new x.settled x.stages
-      plain sound;
-  elsewhere = order_elsewhere pipe.target (clear_endpoint_halt (halt_address pipe.ep pipe.is_in))
-      result old new x.stages;
-}
+cleared_ordered pipe old result left new x = search (
+  order_elsewhere,
+  write_backlog,
+  write_rests,
+  x.settled,
+  x.ends,
+  x.stages,
+  x.room,
+  pipe.target,
+  pipe.ep,
+  pipe.is_in,
+)
 
 cleared_keeps_settings : (pipe : PipeState) (old : World) (result : Result (Unit {0}) PipeFault)
     (left : PipeState) (new : World) → Cleared pipe old result left new → KeepsSettings old new
@@ -410,14 +390,10 @@ module _ (is_sent : Bool) (pipe : PipeState) (old : World)
         let ordered = cleared_ordered pipe old answer left new sent in
         let which = halt_address pipe.ep pipe.is_in in
         record {
-          addresses = clears_keep is_sent pipe old answer left new x;
-          devices = cleared_keeps_settings pipe old answer left new sent;
-          rests = λ sound.
-              ordered.rests (clear_asks_no_port which)
-              (ends_without_fault 2 answer old new sent.ends sound);
-          backlog = λ sound.
-              ordered.backlog (clear_sets_none which)
-              (ends_without_fault 2 answer old new sent.ends sound);
+          addresses = grind (arith, clears_keep);
+          devices = search cleared_keeps_settings;
+          rests = grind (arith, clear_asks_no_port, ends_without_fault);
+          backlog = grind (arith, clear_sets_none, ends_without_fault);
         }
   ]
 

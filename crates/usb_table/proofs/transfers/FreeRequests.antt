@@ -1,7 +1,6 @@
 -- Requests and calls that leave endpoints as they were.
-use Rattle.std.proofs.Common.{◌≡◌, ◌⊎◌, inl, inr, refl, ◌∙◌, ap, ℕ, ◌==◌, ◌≤◌, nat_lt, Bool, true}
-use Rattle.std.proofs.Common.{sym, false, arith, ◌&&◌, if◌then◌else◌, List, Option, None, Some}
-use Rattle.std.proofs.Common.{subst, eq-eqb, get_or}
+use Rattle.std.proofs.Common.{◌≡◌, ◌⊎◌, refl, ℕ, ◌==◌, ◌≤◌, nat_lt, Bool, true, sym, false, arith}
+use Rattle.std.proofs.Common.{◌&&◌, if◌then◌else◌, List, Option, None, Some, subst, eq-eqb, get_or}
 use Rattle.std.proofs.lemmas.Bool.{lt-ltb}
 use Rattle.std.proofs.lemmas.Bool.Decides.{nat_tests}
 use Rattle.usb_tree.proofs.Interface.{neither}
@@ -13,11 +12,10 @@ use Rattle.usb_request.specs.{INTERFACE_OUT, SET_INTERFACE, is_reserved}
 use Rattle.usb_device.specs.{Is, Outcome, Registers, Spec, stalled, halts, unhalts, tells_port}
 use Rattle.usb_device.specs.{outcome, on_endpoint, endpoint_of, ServedEndpoint, told_port}
 use Rattle.usb_device.specs.{asked_descriptor, asked_hub_descriptor, answers_taken, takes}
-use Rattle.usb_device.specs.{tells_halt, told_halt, asked_endpoint_status, items_at, BulkIn}
-use Rattle.usb_device.specs.{BulkOut, in_end, InEnd, no_in, no_out, NothingMoved, out_end, OutEnd}
-use Rattle.usb_device.specs.{State, with_at, OnlyChanges, OnlyStage, Location}
+use Rattle.usb_device.specs.{tells_halt, told_halt, asked_endpoint_status, BulkIn, BulkOut, in_end}
+use Rattle.usb_device.specs.{InEnd, no_in, no_out, NothingMoved, out_end, OutEnd, State, with_at}
+use Rattle.usb_device.specs.{OnlyChanges, OnlyStage, Location}
 use Rattle.usb_device.specs.Request.{answers}
-use Rattle.usb_descriptor.specs.{has_interface}
 use Rattle.usb_device.proofs.Interface.{asked_own-any, at_each}
 use Rattle.usb_world.specs.{asks_no_port, is_harmless}
 use Rattle.usb_pipe.specs.{OnlyEndpoint}
@@ -117,34 +115,21 @@ module _ (to_hub : Bool) where
   unfolding outcome
   outcome_fine s g r free =
       either_fine (Is r DEVICE_IN GET_DESCRIPTOR) _ _ (descriptor_fine s r.value)
-      (either_fine (Is r DEVICE_IN GET_STATUS) _ _
-      (either_fine s.stalls.status _ _ tt
-      (either_fine (r.value == 0 && r.index == 0) _ _ tt tt))
+      (either_fine (Is r DEVICE_IN GET_STATUS) _ _ (grind (arith, either_fine))
       (either_fine (Is r DEVICE_IN GET_CONFIGURATION) _ _ tt
       (not_asked (Is r DEVICE_OUT SET_ADDRESS) _ _ free.address
       (not_asked (Is r DEVICE_OUT SET_CONFIGURATION) _ _ free.configuration
-      (either_fine (Is r INTERFACE_IN GET_STATUS) _ _
-      (either_fine (r.value == 0 && has_interface r.index (items_at s g)) _ _ tt tt)
-      (either_fine (Is r INTERFACE_IN GET_INTERFACE) _ _
-      (either_fine (r.value == 0 && has_interface r.index (items_at s g)) _ _ tt tt)
+      (either_fine (Is r INTERFACE_IN GET_STATUS) _ _ (grind (arith, either_fine))
+      (either_fine (Is r INTERFACE_IN GET_INTERFACE) _ _ (grind (arith, either_fine))
       (not_asked (Is r INTERFACE_OUT SET_INTERFACE) _ _ free.interface
       (either_fine (Is r ENDPOINT_IN GET_STATUS) _ _ (endpoint_fine s g r)
-      (where_asked (Is r ENDPOINT_OUT CLEAR_FEATURE) _ _ (λ e. clear_fine s g r
-      (ap (λ b. b && r.value == ENDPOINT_HALT) (sym e) ∙ free.halt))
-      (where_asked (Is r ENDPOINT_OUT SET_FEATURE) _ _ (λ e. halt_fine _ (elim free.reads [
-        | inl host ↦ absurd (cc (
-          request_type-other r.request_type ENDPOINT_OUT
-              (r.request == SET_FEATURE) host refl,
-          e,
-        ))
-        | inr function ↦ function
-      ]))
+      (where_asked (Is r ENDPOINT_OUT CLEAR_FEATURE) _ _ (grind (arith, clear_fine))
+      (where_asked (Is r ENDPOINT_OUT SET_FEATURE) _ _
+      (grind (arith, halt_fine, request_type-other))
       (either_fine (Is r HUB_IN GET_DESCRIPTOR) _ _
       (either_fine s.stalls.hub _ _ tt (hub_fine s r))
       (either_fine (Is r PORT_IN GET_STATUS) _ _ (port_fine _)
-      (not_asked (Is r PORT_OUT SET_FEATURE) _ _ free.sets_port
-      (not_asked (Is r PORT_OUT CLEAR_FEATURE) _ _ free.clears_port
-      (asked_own-any Fine tt s.requests g r (λ bytes. tt) tt (λ kept. tt))))))))))))))))
+      (grind (arith, asked_own-any, not_asked))))))))))))))
 
 -- A clear of the halt of one endpoint moves no byte, and leaves all others.
 
@@ -163,14 +148,14 @@ out_moved s v e end sink until_halt outs ins = record {
       × ((get_or row a no_out).pace.until_halt ≡ (out_end s a).pace.until_halt)) (sym outs)
       (at_each no_out (λ x y. (y.sink ≡ x.sink) × (y.pace.until_halt ≡ x.pace.until_halt))
       (λ x. (refl, refl)) e end s.outs (sink, until_halt));
-  given = (same_rows-moved s (record s { ins = v.ins }) refl ins).given;
+  given = grind (arith, same_rows-moved);
 }
 
 pub in_moved : (s v : State) (e : ℕ) (end : InEnd) → end.place ≡ (in_end s e).place
     → end.pace.until_halt ≡ (in_end s e).pace.until_halt → v.outs ≡ s.outs
     → v.ins ≡ with_at no_in e end s.ins → NothingMoved s v
 in_moved s v e end place until_halt outs ins = record {
-  taken = (same_rows-moved s (record s { outs = v.outs }) outs refl).taken;
+  taken = grind (arith, same_rows-moved);
   given = subst (λ row. (a : ℕ) → ((get_or row a no_in).place ≡ (in_end s a).place)
       × ((get_or row a no_in).pace.until_halt ≡ (in_end s a).pace.until_halt)) (sym ins)
       (at_each no_in (λ x y. (y.place ≡ x.place) × (y.pace.until_halt ≡ x.pace.until_halt))

@@ -5,10 +5,10 @@ use Rattle.std.proofs.Common.{List, Option, Some, None, IfSome, is_some, Result,
 use Rattle.std.proofs.Common.{IfOk, IsOk, MatchResult}
 use Rattle.std.proofs.lemmas.Option.{same_Some}
 use Rattle.arrayvec.specs.ArrayVec.{ArrayVec}
-use Rattle.usb_device.specs.{State, Spec, place, reach, Location, path_to, state_there, reach_on}
-use Rattle.usb_device.specs.{change_bytes, hub_ports, state_on, told_bits}
+use Rattle.usb_device.specs.{State, reach, Location, path_to, state_there, reach_on, change_bytes}
+use Rattle.usb_device.specs.{hub_ports, state_on, told_bits}
 use Rattle.usb_world.specs.{Attempt, Outcome, is_setup, Was, EachWas, LeavesPortAlone, Course, here}
-use Rattle.usb_world.specs.{at_attempt, Relation, World}
+use Rattle.usb_world.specs.{Relation, World}
 use Rattle.usb_tree.specs.{address_of, IsSettled}
 use Rattle.usb_world.proofs.Interface.{course_then, data_asks_nothing, each_none}
 use Rattle.usb_bus.specs.{StepRun}
@@ -66,14 +66,14 @@ module _ (path : List ℕ) (device : Accepted) (pipe rest : Interrupt) (old new 
   ran = (polls_spare pipe far before result rest after x.settled x.polls).ran
 
   keeps : OnlyTransfers before after
-  keeps = polls_only pipe far before result rest after x.settled x.polls
+  keeps = search (far, polls_only)
 
   moves : EachMoves device device.address (IsOk result) (Hub pipe) (Hub rest) before after
   moves unshared =
       subst (λ a. EachWas (PipesMove device a (IsOk result) (Hub pipe) (Hub rest)) before after)
       addressed (each_joint (PollLeaves pipe before result rest after) RanAs
       (PipesMove device pipe.target.addr (IsOk result) (Hub pipe) (Hub rest))
-      (λ j s v. poll_moves device pipe rest before after result j s v made) before after
+      (search (made, poll_moves)) before after
       (leaves unshared) (ran unshared))
 
   hub_levels : KeepsInSync path (IsOk result) old before new after
@@ -94,9 +94,7 @@ module _ (path : List ℕ) (device : Accepted) (pipe rest : Interrupt) (old new 
   fits held level j v is w =
       let stood = stood_at path before j v is w in (
         rw was at (level.level device w.before stands stood.0 stood.1),
-        eq-eqb (address_of w.before) pipe.target.addr
-            (held_address old before path device w.before held stands stood.0 stood.1
-            ∙ sym addressed),
+        eq-eqb (address_of w.before) pipe.target.addr (grind (arith, addressed, held_address)),
       )
 
   -- the bits that were told
@@ -108,7 +106,7 @@ module _ (path : List ℕ) (device : Accepted) (pipe rest : Interrupt) (old new 
     port = told.told.b;
     state = told.told.s;
     ports = told.told.below;
-    stood = ap (place (at_attempt told.told.mid).roots) is ∙ told.told.stood;
+    stood = grind arith;
     told = told.told.told;
     since = λ y. trail_rests y refl told.told.since (trail_settled told.told.trail x.settled);
     came = told.came;
@@ -117,12 +115,7 @@ module _ (path : List ℕ) (device : Accepted) (pipe rest : Interrupt) (old new 
   tells_of : (j : Location) → path ≡ path_to j → (r : Result (Option (ArrayVec ℕ)) PipeFault)
       → PollTells (ToldOf pipe before after j) r → PollTells (BitsOf path before after) r
   tells_of j is (Ok None) t = bits_of j 0 is t
-  tells_of j is (Ok (Some packet)) t = record {
-    bits = t.bits;
-    some = t.some;
-    so = bits_of j t.bits is t.so;
-    is = t.is;
-  }
+  tells_of j is (Ok (Some packet)) t = search (bits_of, t.bits, t.some, t.so, t.is)
   tells_of j is (Err fault) t = tt
 
   -- whoever has the address of the path is the hub
@@ -146,7 +139,7 @@ module _ (path : List ℕ) (device : Accepted) (pipe rest : Interrupt) (old new 
       is = there held who.spot who.before who.was_on who.stood who.at
 
       was_so : Was (PollLeaves pipe before result rest after) before who.spot who.now
-      was_so = leaves (unshared held) who.spot who.now who.on who.stands
+      was_so = grind (arith, leaves, unshared)
 
       fitted : Fitted was_so.before
       fitted = fits held level who.spot who.now is was_so
@@ -154,17 +147,15 @@ module _ (path : List ℕ) (device : Accepted) (pipe rest : Interrupt) (old new 
       told : PollTells (ToldOf pipe before after who.spot) result
       told = was_so.so.tells fitted.1 fitted.0.to fitted.0.level
 
-      -- it is the one that stands there in the end, and that has the description that it had
       same_ports : (s : State) → state_there after.roots path ≡ Some s
           → hub_ports was_so.before.spec.hub ≡ hub_ports s.spec.hub
       same_ports s at =
           let now : state_there after.roots path ≡ Some who.now =
           ap (state_there after.roots) is ∙ who.stands in
-          let ran_it : Was RanAs before who.spot who.now =
-          ran (unshared held) who.spot who.now who.on who.stands in
+          let ran_it : Was RanAs before who.spot who.now = grind (arith, ran, unshared) in
           ap (λ (d : State). hub_ports d.spec.hub)
-          (same_Some was_so.before ran_it.before (sym was_so.stands ∙ ran_it.stands))
-          ∙ sym (ap (λ (d : Spec). hub_ports d.hub) ran_it.so.0)
+          (same_Some was_so.before ran_it.before (grind arith))
+          ∙ sym (grind arith)
           ∙ ap (λ (d : State). hub_ports d.spec.hub) (same_Some who.now s (sym now ∙ at))
 
       whole : (s : State) → state_there after.roots path ≡ Some s
@@ -183,8 +174,8 @@ module _ (path : List ℕ) (device : Accepted) (pipe rest : Interrupt) (old new 
       → (b : Bool) → is_at x.before pipe.target ≡ b → SparesBulk j x.before v
   spared_by held level j v x false e = spares-same j x.before v (x.so.others e)
   spared_by held level j v x true e =
-      let fitted = fits held level j v (there held j x.before x.on x.stands e) x in
-      spares-changes j x.before v (x.so.frame fitted.0.to)
+      let fitted = fits held level j v (grind (arith, there)) x in
+      grind (arith, fitted, spares-changes)
 
   hub_spares : IsHeld old before → InSyncAt path old before → EachWas SparesBulk before after
   hub_spares held level j v on there =
@@ -204,7 +195,7 @@ module _ (path : List ℕ) (device : Accepted) (pipe rest : Interrupt) (old new 
     before_it = grind (arith, ran, unshared)
 
     fitted : Fitted before_it.before
-    fitted = fits held level heard.spot heard.state heard.is before_it
+    fitted = search (before_it, fits)
 
     listened : Listens pipe.target heard.spot before_it.before
     listened = grind (arith, before_it, fitted)
@@ -222,7 +213,7 @@ module _ (path : List ℕ) (device : Accepted) (pipe rest : Interrupt) (old new 
 
         answered_at : PollingFailure pipe result heard.spot before_it.before heard.state
         answered_at = subst (λ s. PollingFailure pipe result heard.spot s heard.state)
-            (same_Some cause.before before_it.before (sym cause.stands ∙ before_it.stands)) cause.so
+            (grind (arith, before_it, same_Some)) cause.so
 
     served_by : (r : Result (Option (ArrayVec ℕ)) PipeFault) → result ≡ r → NoHubFailed r
     served_by (Err why.Stalled) e = never why.Stalled tt e
@@ -254,12 +245,10 @@ module _ (path : List ℕ) (old new : Table) (before after : World)
       → NotPolled (pipes_at path old) before result (pipes_at path new) after
       → KeepsPolled path old before result new after
   none_polled none x = record {
-    levels =
-        still_levels OnlyTransfers path (IsOk result) old new before after goes x.1 x.2
-        (same_spares before after x.2);
-    told = λ held level d e hub ok. absurd (none d e hub);
-    why = λ held level three d e hub heard. absurd (none d e hub);
-    spares = λ held level. rw x.2 (each_none SparesBulk (λ j s. spares-same j s s refl) before);
+    levels = search (same_spares, still_levels, x.1, x.2);
+    told = grind arith;
+    why = grind arith;
+    spares = grind (arith, each_none, spares-same);
   }
 
   polled_to : (device : Accepted) (pipes left : Pipes)
@@ -297,7 +286,7 @@ pub table_polls : (path : List ℕ) (old new : Table) (before after : World)
     → TablePolls path old before text result new after now
 table_polls path old new before after text now result goes went x = record {
   went = went;
-  took = polled_took (pipes_at path old) (pipes_at path new) before result after x;
+  took = grind (arith, polled_took);
   polled = x;
   keeps = polled_by path old new before after result goes _ refl goes.fits x;
 }

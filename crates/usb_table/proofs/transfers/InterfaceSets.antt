@@ -1,5 +1,5 @@
 -- SET_INTERFACE to the device at a path: what it leaves of all devices and pipes.
-use Rattle.std.proofs.Common.{arith, ◌≡◌, refl, ap, inl, inr, Bool, true, false, ℕ, ◌<◌, ◌&&◌, not}
+use Rattle.std.proofs.Common.{arith, ◌≡◌, refl, inl, inr, Bool, true, false, ℕ, ◌<◌, ◌&&◌, not}
 use Rattle.std.proofs.Common.{if◌then◌else◌, List, Option, Some, None, Result, Ok, Err, is_some}
 use Rattle.std.proofs.lemmas.Bool.{and_parts}
 use Rattle.usb_request.specs.{PORT_OUT, SET_FEATURE, set_interface}
@@ -61,9 +61,9 @@ module _ (interface setting : ℕ) where
   sets_only t answer old new is each addresses = record {
     addresses = addresses;
     devices = λ single. each_wider (InterfaceAsked t interface setting answer) SameDevice
-        (same_device t interface setting answer) old new (each single);
-    rests = λ sound. is.rests asks_none (ends_without_fault 2 answer old new is.ends sound);
-    backlog = λ sound. is.backlog sets_no_port (ends_without_fault 2 answer old new is.ends sound);
+        (search same_device) old new (each single);
+    rests = grind (arith, asks_none, ends_without_fault);
+    backlog = grind (arith, ends_without_fault, sets_no_port);
   }
 
 same_sets : (old new : World) → new ≡ old → OnlySets old new
@@ -71,11 +71,7 @@ same_sets old new e =
     let same = same_spares old new e in
     record {
       addresses = same.addresses;
-      devices = λ single. each_wider SameSettings SameDevice (λ j s v k. record {
-        spec = k.0;
-        address = ap (λ (g : _). g.address) k.1;
-        configuration = ap (λ (g : _). g.configuration) k.1;
-      }) old new (same.devices.same single);
+      devices = λ single. each_wider SameSettings SameDevice (grind arith) old new (grind arith);
       rests = same.rests;
       backlog = same.backlog;
     }
@@ -90,16 +86,13 @@ module _ (device : Accepted) (below_hub : Bool) (interface setting : ℕ) (pipes
       → is_at s (target_of device below_hub) ≡ true → FunctionInSync device pipes s
       → FunctionInSync device (function_set device below_hub interface setting answer pipes) v
   level_after (Ok done) j s v x at f =
-      let took = x.done at refl in
-      set_level device below_hub interface setting pipes (in_place device below_hub pipes are) s v
-      took.2 f has byte took.1
+      let took = x.done at refl in search (in_place, set_level)
   level_after (Err pipe_fault.Stalled) j s v x at f =
       still_level device (Function pipes) s v (x.stalled at refl).0 f
   level_after (Err _) j s v x at f = elim x.either [
     | inl only ↦ loss_kept device below_hub interface setting pipes v
         (still_level device (Function pipes) s v only f)
-    | inr took ↦ loss_level device below_hub interface setting pipes
-        (in_place device below_hub pipes are) s v took f
+    | inr took ↦ loss_level device below_hub interface setting pipes (search in_place) s v took f
   ]
 
   set_moves : (ends : Type 0) (answer : Result (Unit {0}) PipeFault) (j : Location) (s v : State)
@@ -108,8 +101,8 @@ module _ (device : Accepted) (below_hub : Bool) (interface setting : ℕ) (pipes
       (Function (function_set device below_hub interface setting answer pipes)) j s v
   set_moves ends answer j s v x = record {
     others = x.others;
-    same = (same_device (target_of device below_hub) interface setting answer j s v x).address;
-    itself = λ e at f. level_after answer j s v x at f;
+    same = grind (arith, same_device);
+    itself = search level_after;
   }
 
 -- At a path
@@ -133,8 +126,7 @@ module _ (path : List ℕ) (interface setting : ℕ) (byte : interface < 256) (o
     went = went;
     told = rw x.0 tt;
     did = rw asks x;
-    keeps = still_levels OnlySets path (after.fault ≡ None) old new before after goes x.1 x.2
-        (same_sets before after x.2);
+    keeps = search (same_sets, still_levels, x.1, x.2);
   }
 
   -- it was
@@ -156,8 +148,7 @@ module _ (path : List ℕ) (interface setting : ℕ) (byte : interface < 256) (o
     moves single =
         each_wider
         (InterfaceAsked (target_of device (is_below_hub path)) interface setting x.answer) _
-        (set_moves device (is_below_hub path) interface setting pipes are byte has
-        (after.fault ≡ None) x.answer) before after (x.each single)
+        (search set_moves) before after (x.each single)
 
     made : InterfaceSet path interface setting old (target_of device (is_below_hub path)) before
         result new after
@@ -170,20 +161,15 @@ module _ (path : List ℕ) (interface setting : ℕ) (byte : interface < 256) (o
           changes_there path old before held device found device.address refl
           (InterfaceAsked (target_of device (is_below_hub path)) interface setting x.answer)
           (SettingLeft interface setting x.answer) after (λ j s v y. y.others)
-          (λ s on there j v y at. setting_left (target_of device (is_below_hub path)) interface
-          setting x.answer j s v y at) (x.each single);
+          (grind (arith, setting_left)) (x.each single);
     }
 
     sent : Told
     sent = record {
       went = went;
-      told = told_answer x.answer result after x.told
-          (bus_told 2 x.answer before after x.is.ends);
+      told = grind (arith, bus_told, told_answer);
       did = rw asks made;
-      keeps = moved_levels path device (after.fault ≡ None) (Function pipes) _ old new before after
-          found goes was left_is x.addresses moves OnlySets
-          (sets_only interface setting (target_of device (is_below_hub path)) x.answer before after
-          x.is x.each x.addresses);
+      keeps = search (left_is, moved_levels, moves, sets_only);
     }
 
   sent_to : (device : Accepted) → accepted_device_at path old.entries ≡ Some device

@@ -1,8 +1,7 @@
 -- A transfer through the pipes to the device at a path: no other device is changed, and its bytes
 -- are given or taken there.
-use Rattle.std.proofs.Common.{arith, ◌≡◌, ◌≢◌, ◌∙◌, refl, sym, ap, true, false, ℕ, ◌==◌, eq-eqb}
-use Rattle.std.proofs.Common.{List, Option, None, Some, Result, Ok, Err, is_ok, Bool, is_some}
-use Rattle.std.proofs.Common.{append-nil, []}
+use Rattle.std.proofs.Common.{arith, ◌≡◌, ◌≢◌, refl, ap, true, false, ℕ, ◌==◌, eq-eqb, List, Option}
+use Rattle.std.proofs.Common.{None, Some, Result, Ok, Err, is_ok, Bool, is_some, append-nil, []}
 use Rattle.std.proofs.lemmas.Bool.{false_from_ne_true}
 use Rattle.usb_device.specs.{State, reach, Location, path_to, state_there}
 use Rattle.usb_world.specs.{BusFault, Relation, Was, EachWas, World}
@@ -69,15 +68,7 @@ none_changes : (path : List ℕ) (So : State → State → Type 0) (old new : Wo
 none_changes path So old new same so = rw same each
   where
     each : EachWas (ChangesAt path So) old old
-    each j s on there = record {
-      before = s;
-      on = on;
-      stands = there;
-      so = record {
-        itself = λ e. so s (ap (reach old.roots) e ∙ on) (ap (state_there old.roots) e ∙ there);
-        others = λ far. refl;
-      };
-    }
+    each j s on there = grind arith
 
 module _ (path : List ℕ) (table : Table) (old : World) (held : IsHeld table old) (device : Accepted)
     (found : accepted_device_at path table.entries ≡ Some device) (a : ℕ) (is : a ≡ device.address)
@@ -99,14 +90,10 @@ module _ (path : List ℕ) (table : Table) (old : World) (held : IsHeld table ol
         w = each j v on there
 
         itself : path ≡ path_to j → So w.before v
-        itself e =
-            let was = stood_at path old j v e w in
-            let has = held_address table old path device w.before held found was.0 was.1 in
-            so w.before was.0 was.1 j v w.so (eq-eqb (address_of w.before) a (has ∙ sym is))
+        itself e = grind (arith, eq-eqb, held_address, stood_at)
 
         apart : path ≢ path_to j → v ≡ w.before
-        apart far = others j w.before v w.so (false_from_ne_true _ (λ at. far
-            (stands_there path table old held device found a is j w.before w.on w.stands at)))
+        apart far = grind (arith, false_from_ne_true, stands_there)
 
     -- what is so of each device is so of the one there, and any other is as it was
     pub leaves_there : (L : Relation) (new : World)
@@ -118,11 +105,7 @@ module _ (path : List ℕ) (table : Table) (old : World) (held : IsHeld table ol
           before = w.before;
           on = w.on;
           stands = w.stands;
-          so = record {
-            itself = λ e. w.so;
-            others = λ far. others j w.before v w.so (false_from_ne_true _ (λ at. far
-                (stands_there path table old held device found a is j w.before w.on w.stands at)));
-          };
+          so = grind (arith, false_from_ne_true, stands_there);
         }
 
     -- who answered is reached there
@@ -172,12 +155,10 @@ module _ (path : List ℕ) (old : Table) (before after : World) where
       → MovesThere done asked So
   moved_there answer done same held device found t is asked L So others so each who = record {
     each = record {
-      each = changes_there path old before held device found t.addr is L So after others so each;
+      each = search (changes_there, t.addr);
       known = λ e. ap is_some found;
     };
-    there = λ e some.
-        answers_there path old before held device found t.addr is t after refl
-        (who (same ∙ e) some);
+    there = grind (arith, answers_there);
   }
 
   -- it tries nothing, or goes through the pipe that is picked
@@ -202,7 +183,7 @@ module _ (path : List ℕ) (old : Table) (before after : World) where
         (λ p l. Synced p → R p l) idle
         (λ device pipes pipe left e w x l.
         went device pipes pipe left e w x (reaches_synced path before device _ e _ l))
-        (pipes_at path old) left are x (levels_there path old before level are)
+        (pipes_at path old) left are x (search levels_there)
 
 -- Bytes that are sent through the pipes at a path are taken by the device there.
 
@@ -241,19 +222,17 @@ module _ (path bytes : List ℕ) (old new : Table) (before after : World) where
       (sends_through choice) (sends_miss choice) (sends_picks choice) (λ p. SentThrough p bytes)
       (λ p o r l w z. z.same)
       (λ pipes fault none e same l. none_there path old before after result fault e same _ _
-      (λ s on there. rw (ap is_ok e) (none_taken bytes (through (sends_through choice) pipes) s)))
+      (grind (arith, none_taken)))
       (λ device pipes pipe left found w y l.
-      let out = sends_way choice pipes pipe (in_place device _ pipes w.of.are) w.picked in
+      let out = sends_way choice pipes pipe (search in_place) w.picked in
       rw (w.picked, ← done_through y.answer result y.told)
       (moved_there path old before after y.answer (is_ok y.answer) refl held device found
       pipe.target (addressed pipe w.of) _ (SendLeaves bytes pipe y.answer left) _
       (λ j s v x. x.others)
       (λ s on there j v x. taken bytes pipe y.answer left j s v x
-      (out_of pipe w.of.at s (l s on there) out))
-      (send_leaves bytes pipe y.answer left before after y.sends single)
-      (who_takes pipe y.answer left y.sends single)))
-      (pipes_at path new) x in
-      record { took = t.each; there = t.there }
+      (out_of pipe w.of.at s (l s on there) out)) (grind (arith, send_leaves))
+      (grind (arith, who_takes))))
+      (pipes_at path new) x in grind arith
 
 -- Bytes that are received through the pipes at a path are given by the device there.
 
@@ -291,20 +270,17 @@ module _ (path : List ℕ) (packets : ℕ) (old new : Table) (before after : Wor
       (receives_through choice) (receives_miss choice) (receives_picks choice)
       (λ p. ReceivedThrough p packets) (λ p o r l w z. z.same)
       (λ pipes fault none e same l. none_there path old before after result fault e same _ _
-      (λ s on there. rw (e, none) (refl, refl)))
+      (grind arith))
       (λ device pipes pipe left found w y l.
-      let into = receives_way choice pipes pipe (in_place device _ pipes w.of.are) w.picked in
-      let known = known_left y.answer left (not_bus y.answer result y.told other) in
+      let into = receives_way choice pipes pipe (search in_place) w.picked in
+      let known = known_left y.answer left (grind (arith, not_bus)) in
       rw (w.picked, w.again, ← bytes_through y.answer result y.told)
       (moved_there path old before after y.answer (is_ok result)
-      (done_through y.answer result y.told) held device found pipe.target (addressed pipe w.of) _
+      (search done_through) held device found pipe.target (addressed pipe w.of) _
       (ReceiveLeaves pipe y.answer left) _ (λ j s v x. x.others)
-      (λ s on there j v x. given pipe y.answer left known j s v x
-      (in_of pipe w.of.at s (l s on there) into))
-      (receive_leaves packets pipe y.answer left before after (some_bytes pipe w.of) y.receives
-      single) (who_gives pipe y.answer left y.receives single)))
-      (pipes_at path new) x in
-      record { gave = g.each; there = g.there }
+      (λ s on there j v x. given pipe y.answer left known j s v x (grind (arith, in_of)))
+      (search (receive_leaves, some_bytes)) (grind (arith, who_gives))))
+      (pipes_at path new) x in grind arith
 
 -- A packet that a poll of an endpoint at a path tells is given by the device there.
 
@@ -330,8 +306,7 @@ gave_report : (pipe : PipeState) (answer : Answer) (result : Told) → result �
 gave_report pipe answer result told left known j s v x fit at = record {
   had = fit;
   next = λ got f. rw (packets_through answer result told, known) at (x.gave at got f);
-  none = λ naks each none.
-      x.none at fit.1.endpoint naks each (none_through answer result told none);
+  none = grind (arith, none_through);
   rest = x.frame fit.1.endpoint;
 }
 
@@ -359,17 +334,15 @@ module _ (path : List ℕ) (old new : Table) (before after : World) where
       (polls_through endpoint) (polls_miss endpoint) (polls_picks endpoint) ReportedThrough
       (λ p o r l w z. z.same)
       (λ pipes fault none e same l. none_there path old before after result fault e same _ _
-      (λ s on there. rw (none, e) (refl, refl)))
+      (grind arith))
       (λ device pipes pipe left found w y l.
       let into = polls_way endpoint pipes pipe w.picked in
-      let known = known_left y.answer left (not_bus y.answer result y.told other) in
+      let known = known_left y.answer left (grind (arith, not_bus)) in
       rw (w.picked, w.again)
       (moved_there path old before after y.answer (is_ok result)
-      (done_through y.answer result y.told) held device found pipe.target (addressed pipe w.of) _
+      (search done_through) held device found pipe.target (addressed pipe w.of) _
       (PacketLeaves pipe y.answer left) _ (λ j s v x. x.others)
       (λ s on there j v x. gave_report pipe y.answer result y.told left known j s v x
-      (in_of pipe w.of.at s (l s on there) into))
-      (packet_leaves pipe y.answer left before after (some_bytes pipe w.of) y.polls single)
-      (λ done u. who_tells pipe y.answer left y.polls single done)))
-      (pipes_at path new) x in
-      record { gave = g.each; there = λ done. g.there done tt }
+      (grind (arith, in_of))) (search (packet_leaves, some_bytes))
+      (grind (arith, who_tells))))
+      (pipes_at path new) x in grind arith

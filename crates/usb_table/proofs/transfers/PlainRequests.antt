@@ -1,16 +1,15 @@
 -- Control transfers of a driver's own are plain: they change no description, no register and no
 -- toggle.
-use Rattle.std.proofs.Common.{◌≡◌, ◌∙◌, refl, ap, arith, true, false, ℕ, ◌==◌, List, None, Option}
-use Rattle.std.proofs.Common.{Some, Result, Ok, Err, is_ok, Bool, subst, is_some, OnOk, ◌≢◌, length}
-use Rattle.std.proofs.Common.{◌+◌, sym}
+use Rattle.std.proofs.Common.{◌≡◌, refl, arith, true, false, ℕ, ◌==◌, List, None, Option, Some}
+use Rattle.std.proofs.Common.{Result, Ok, Err, is_ok, Bool, subst, is_some, OnOk, ◌≢◌, length, ◌+◌}
+use Rattle.std.proofs.Common.{sym}
 use Rattle.usb_request.specs.{Setup, IsToHost, IsToDevice, is_reserved}
-use Rattle.usb_device.specs.{Location, Registers, State, accepted, begun, BulkIn, BulkOut, Changes}
-use Rattle.usb_device.specs.{ending, first_stage, OnlyControl, OnlyStage, Outcome, outcome, Stage}
+use Rattle.usb_device.specs.{Location, State, accepted, begun, BulkIn, BulkOut, Changes, ending}
+use Rattle.usb_device.specs.{first_stage, OnlyControl, OnlyStage, Outcome, outcome, Stage}
 use Rattle.usb_device.specs.{answers_taken, takes, tells_halt, halted, halts, in_end, no_in, no_out}
 use Rattle.usb_device.specs.{NothingMoved, out_end, stalled, tells_port}
 use Rattle.usb_world.specs.{BusFault, EachWas, HasFault, Relation, World, is_harmless}
 use Rattle.usb_world.proofs.Interface.{each_wider}
-use Rattle.usb_tree.specs.{address_of}
 use Rattle.usb_bus.specs.{StepRun}
 use Rattle.usb_bus.proofs.Interface.{went_wider}
 use Rattle.usb_transaction.specs.{Answerer, Target, is_at}
@@ -25,10 +24,10 @@ use Rattle.usb_table.specs.{accepted_device_at, ArePipesAt, ControlledAt, contro
 use Rattle.usb_table.specs.{is_below_hub, KeepsMoved, OnlyTransfers, pipes_at, PipesInSync}
 use Rattle.usb_table.specs.{SameSettings, Table, TableFault, target_asked, Transfer, TransferFault}
 use Rattle.usb_table.specs.{TransferIs, TransferLeaves, TransferMade, table_answer, Absent}
-use Rattle.usb_table.specs.{ArePipesTo, FitsIn, FitsOut, Function, Hub, pipe_at, Pipes}
-use Rattle.usb_table.specs.{without_bytes, control_target, of_pipe, ReadIf, ReadLeftIf, ReadMade}
-use Rattle.usb_table.specs.{TableReads, TableWrites, unreserved, WriteIf, WriteLeftIf, WriteMade}
-use Rattle.usb_table.specs.{write_asked, write_target, WriteLeft, ReadLeft, SparesBulk}
+use Rattle.usb_table.specs.{ArePipesTo, FitsIn, FitsOut, Function, Hub, Pipes, without_bytes}
+use Rattle.usb_table.specs.{control_target, of_pipe, ReadIf, ReadLeftIf, ReadMade, TableReads}
+use Rattle.usb_table.specs.{TableWrites, unreserved, WriteIf, WriteLeftIf, WriteMade, write_asked}
+use Rattle.usb_table.specs.{write_target, WriteLeft, ReadLeft, SparesBulk}
 use Rattle.usb_table.proofs.TransferLeaves.{told_through}
 use Rattle.usb_table.proofs.levels.PathCalls.{moved_levels, still_levels}
 use Rattle.usb_table.proofs.transfers.DevicesKept.{same_spares}
@@ -103,19 +102,15 @@ module _ {A : Type 0} (Leaves : TransferLeaves A) (path : List ℕ) (request : S
       same = λ single.
           each_wider (Leaves t answer old new) SameSettings x.settings old new (x.each single);
     };
-    rests = λ still. x.rests (x.sound still);
-    backlog = λ still. x.backlog (x.sound still);
+    rests = grind arith;
+    backlog = grind arith;
   }
 
   plain_moves : EachMoves asked.device asked.device.address (new.fault ≡ None)
       (pipes_at path table) (pipes_at path table) old new
   plain_moves single =
       each_wider (Leaves t answer old new) _
-      (λ j s v y. record {
-        others = λ far. x.others j s v y (ap (λ n. address_of s == n) addressed ∙ far);
-        same = ap (λ (g : Registers). g.address) (x.settings j s v y).1;
-        itself = λ e at f. x.level asked.device j s v y f;
-      }) old new (x.each single)
+      (grind (arith, addressed, asked)) old new (x.each single)
 
   plain_keeps : KeepsMoved path table old table new
   plain_keeps = moved_levels path asked.device (new.fault ≡ None) (pipes_at path table)
@@ -131,9 +126,7 @@ module _ {A : Type 0} (Leaves : TransferLeaves A) (path : List ℕ) (request : S
     left = λ held single.
         leaves_there path table old held asked.device asked.is t.addr addressed
         (Leaves t answer old new) new x.others (x.each single);
-    there = λ held single done.
-        answers_there path table old held asked.device asked.is t.addr addressed t new refl
-        (x.who done single);
+    there = grind (arith, addressed, answers_there, asked);
   }
 
   -- it was made
@@ -154,12 +147,10 @@ pub refused_controls : {A : Type 0} (Is : TransferIs A) (Leaves : TransferLeaves
     → ControlledAt Is Leaves path target request table old text result new now
 refused_controls Is Leaves path target request table fits {old} {result = result} {new} fault asks e
     same went = record {
-      went = went_wider 0 (control_most request.length) went (omega arith);
+      went = grind (arith, went_wider);
       told = rw e tt;
       did = rw asks (e, same);
-      keeps = still_levels OnlyTransfers path _ table table old new (goes_nowhere path table fits)
-          refl same
-          (same_spares old new same);
+      keeps = search (goes_nowhere, same_spares, still_levels);
     }
 
 -- Control transfers of a driver's own are plain: reads, and what has no data.
@@ -180,13 +171,12 @@ read_is_plain path table t request old answer new host x = record {
       (reads_other request host) 3 1 old new answer x.ends x.stages;
   each = x.what;
   others = λ j s v y. y.others;
-  settings = λ j s v y.
-      (ap (λ (d : State). d.spec) y.frame, ap (λ (d : State). d.registers) y.frame);
-  level = λ d j s v y. still_level d (pipes_at path table) s v y.frame;
+  settings = grind arith;
+  level = grind (arith, still_level);
   sound = ends_without_fault 3 answer old new x.ends;
   told = bus_told 3 answer old new x.ends;
-  rests = reads_rests t request answer old new host x.settled x.stages;
-  backlog = reads_backlog t request answer old new host x.settled x.stages;
+  rests = grind (arith, reads_rests);
+  backlog = grind (arith, reads_backlog);
   who = answered answer x.who;
 }
   where
@@ -211,7 +201,7 @@ same_rows-kept s v same outs ins = grind (arith, same_halts, same_rows-moved)
 
 module _ (s : State) (row : List PortState) (n : ℕ) where
   ends_kept : (stage : Stage) → KeepsEnds s (record s { naks = s.spec.naks; stage = stage })
-  ends_kept stage = same_rows-kept s _ (refl, refl) refl refl
+  ends_kept stage = search same_rows-kept
 
   began_ends : (to_hub : Bool) (o : Outcome) → IsAllowed to_hub o → KeepsEnds s (begun s row n
       o)
@@ -229,7 +219,7 @@ module _ (s : State) (row : List PortState) (n : ℕ) where
     into = at_each no_in (λ x y. MayHalt x.state y.state) (λ x. (refl, λ h. h)) a
         (record (in_end s a) { state = halted (in_end s a).state }) s.ins (refl, λ h. refl);
   }
-  began_ends to_hub (halts Changes) fine = same_rows-kept s _ (refl, refl) refl refl
+  began_ends to_hub (halts Changes) fine = search same_rows-kept
   began_ends to_hub stalled fine = ends_kept _
   began_ends to_hub (answers bytes) fine = ends_kept _
   began_ends to_hub (tells_port i) fine = ends_kept _
@@ -256,13 +246,11 @@ ends_on s u v x frame same = grind (arith, moved_then, same_rows-kept)
 module _ {to_hub : Bool} (t : Target) (request : Setup) (free : IsFree to_hub request)
     (old new : World) (j : Location) (s v : State) where
   fine : IsAllowed to_hub (outcome s.spec s.registers request)
-  fine = outcome_fine to_hub s.spec s.registers request free
+  fine = search (free, outcome_fine)
 
   accepted_ends : (row : List PortState) → OnlyControl (accepted s row request) v
       → v.registers ≡ (accepted s row request).registers → KeepsEnds s v
-  accepted_ends row frame same =
-      ends_on s (accepted s row request) v (began_ends s row request.length to_hub _ fine) frame
-      same
+  accepted_ends row frame same = search (began_ends, ends_on, fine)
 
   free_so : (Q : Type 0) → ((row : List PortState) → OnlyControl (accepted s row request) v
       → v.registers ≡ (accepted s row request).registers → Q)
@@ -271,8 +259,7 @@ module _ {to_hub : Bool} (t : Target) (request : Setup) (free : IsFree to_hub re
   free_so Q accepts rests =
       write_so t request old new j s v Q accepts
       (λ row address is frame given. accepts row frame
-      (given_registers address (accepted s row request) v
-      (allowed_address s row request.length to_hub _ address fine is) given)) rests
+      (grind (arith, allowed_address, fine, given_registers))) rests
 
 -- The pipes to it
 
@@ -305,14 +292,10 @@ module _ {A : Type 0} (path : List ℕ) (table : Table) (t : Target) (request : 
       let stage = began_stage s row request.length (outcome s.spec s.registers request)
       (subst (λ b. IsAllowed b (outcome s.spec s.registers request)) are.0
       (fine t request free old new j s v)) in
-      still_status pipe s v ends.settings
-      (ap (λ (d : State). d.changes) frame ∙ ap (λ (d : State). d.changes) stage)
-      (ap (λ (d : State). d.held) frame ∙ ap (λ (d : State). d.held) stage) f
+      still_status pipe s v ends.settings (grind arith) (grind arith) f
   accepted_level of j s v (Function pipes) are row frame same f =
       let ends = accepted_ends t request free old new j s v row frame same in
-      function_level pipes s v ends.settings f
-      (λ e. out_kept (pipe_at false e pipes) s v ends (f.outs e))
-      (λ e. in_kept (pipe_at true e pipes) s v ends (f.ins e))
+      grind (arith, function_level, in_kept, out_kept)
   accepted_level of j s v (Absent said) are row frame same f = absurd are
 
   only_stage : (s v : State) → OnlyControl s v → v.registers ≡ s.registers → OnlyStage s v
@@ -322,15 +305,14 @@ module _ {A : Type 0} (path : List ℕ) (table : Table) (t : Target) (request : 
   none_settings j s v =
       free_so t request free old new j s v (SameSettings j s v)
       (λ row frame same. (accepted_ends t request free old new j s v row frame same).settings)
-      (λ frame same. (ap (λ (d : State). d.spec) frame, same)) (without_bytes answer)
+      (grind arith) (without_bytes answer)
 
   none_level : (of : Accepted) (j : Location) (s v : State) → Left j s v
       → PipesInSync of (pipes_at path table) s → PipesInSync of (pipes_at path table) v
   none_level of j s v =
       free_so t request free old new j s v
       (PipesInSync of (pipes_at path table) s → PipesInSync of (pipes_at path table) v)
-      (accepted_level of j s v (pipes_at path table) are)
-      (λ frame same. still_level of (pipes_at path table) s v (only_stage s v frame same))
+      (search accepted_level) (grind (arith, only_stage, still_level))
       (without_bytes answer)
 
   none_is_plain : ControlWrite t request old (without_bytes answer) new
@@ -338,18 +320,14 @@ module _ {A : Type 0} (path : List ℕ) (table : Table) (t : Target) (request : 
   none_is_plain x = record {
     addresses = write_keeps t request (same_setup request) (free_is_harmless request free)
         free.address 2 1 old new (without_bytes answer) x.ends x.stages;
-    each = λ single.
-        spared_all t request Left old new (free_is_harmless request free) (x.what single);
+    each = grind (arith, free, free_is_harmless, spared_all);
     others = λ j s v y. y.others;
     settings = none_settings;
     level = none_level;
-    sound = λ still. bytes_back answer
-        (ends_without_fault 2 (without_bytes answer) old new x.ends still);
-    told = told_back answer (bus_told 2 (without_bytes answer) old new x.ends);
-    rests = λ sound. write_rests t request (without_bytes answer) old new x.settled x.stages
-        (free_asks_no_port request free) (bytes_off answer sound);
-    backlog = λ sound. write_backlog t request (without_bytes answer) old new x.settled x.stages
-        free.sets_port (bytes_off answer sound);
+    sound = grind (arith, ends_without_fault);
+    told = grind (arith, bus_told);
+    rests = grind (arith, free, free_asks_no_port, write_rests);
+    backlog = grind (arith, free, write_backlog);
     who = who_back answer x.who;
   }
     where
@@ -364,13 +342,12 @@ module _ {A : Type 0} (path : List ℕ) (table : Table) (t : Target) (request : 
       told_back : (r : Result A PipeFault) → ((fault : BusFault) → without_bytes r
           ≡ Err (pipe_fault.Bus fault) → HasFault fault new) → (fault : BusFault)
           → r ≡ Err (pipe_fault.Bus fault) → HasFault fault new
-      told_back r told fault e = told fault (ap without_bytes e)
+      told_back r told fault e = grind arith
 
       who_back : (r : Result A PipeFault) → OnOk (without_bytes r)
           ((is_harmless request ≡ false → t.addr ≢ 0) → new.shared ≡ false → Answerer t old new)
           → is_ok r ≡ true → new.shared ≡ false → Answerer t old new
-      who_back (Ok bytes) who done =
-          who (λ harm. absurd (cc (free_is_harmless request free, harm)))
+      who_back (Ok bytes) who done = grind (arith, free, free_is_harmless)
       who_back (Err why) who done = absurd (cc done)
 
 -- What has data to the device
@@ -383,25 +360,22 @@ module _ (path : List ℕ) (table : Table) (t : Target) (request : Setup) (bytes
   put_is_plain x = record {
     addresses = put_keeps t request (same_setup request) (free_is_harmless request free)
         free.address (div_ceil (length bytes) t.max + 2) 1 old new bytes answer x.ends x.stages;
-    each = λ single. spared_all t request (DataWriteLeaves t request bytes answer old new) old new
-        (free_is_harmless request free) (x.what single);
+    each = grind (arith, free, free_is_harmless, spared_all);
     others = λ j s v y. y.others;
-    settings = λ j s v y.
-        (ap (λ (d : State). d.spec) y.frame, ap (λ (d : State). d.registers) y.frame);
-    level = λ d j s v y. written_level d (pipes_at path table) s v y.frame;
-    sound = ends_without_fault (div_ceil (length bytes) t.max + 2) answer old new x.ends;
-    told = bus_told (div_ceil (length bytes) t.max + 2) answer old new x.ends;
+    settings = grind arith;
+    level = grind (arith, written_level);
+    sound = grind (arith, ends_without_fault);
+    told = grind (arith, bus_told);
     rests = put_rests t request (free_asks_no_port request free) bytes answer old new x.settled
         x.stages;
-    backlog = put_backlog t request bytes answer old new x.settled x.stages free.sets_port;
+    backlog = grind (arith, free, put_backlog);
     who = answered answer x.who;
   }
     where
       answered : (r : Result (Unit {0}) PipeFault) → OnOk r
           ((is_harmless request ≡ false → t.addr ≢ 0) → new.shared ≡ false → Answerer t old new)
           → is_ok r ≡ true → new.shared ≡ false → Answerer t old new
-      answered (Ok bytes) who done =
-          who (λ harm. absurd (cc (free_is_harmless request free, harm)))
+      answered (Ok bytes) who done = grind (arith, free, free_is_harmless)
       answered (Err why) who done = absurd (cc done)
 
 -- What a read of the device at a path tells of the table.
@@ -416,8 +390,7 @@ asked_pipes : (path : List ℕ) (table : Table) (t : Target)
     → ArePipesAt path table
     → (x : IsAsked (is_below_hub path) (accepted_device_at path table.entries) t)
     → ArePipesTo x.device (is_below_hub path) (pipes_at path table)
-asked_pipes path table t fits x =
-    rw x.is at fits
+asked_pipes path table t fits x = grind arith
 
 module _ (path : List ℕ) (request : Setup) (host : IsToHost request) (table : Table)
     (fits : ArePipesAt path table) {old : World} {text : Option (List ℕ)}
@@ -426,7 +399,7 @@ module _ (path : List ℕ) (request : Setup) (host : IsToHost request) (table : 
     (answer : Result (Vec ℕ) PipeFault) (told : result ≡ table_answer answer)
     (went : StepRun (control_most request.length) old text new now) where
   pub asked : IsAsked (is_below_hub path) (accepted_device_at path table.entries) t
-  asked = asked_of (is_below_hub path) (accepted_device_at path table.entries) t asks
+  asked = search asked_of
 
   reads_by : (b : Bool) → ReadIf b request t old answer new
       → ControlledAt (ReadIf b request) (ReadLeftIf b request) path
@@ -434,13 +407,9 @@ module _ (path : List ℕ) (request : Setup) (host : IsToHost request) (table : 
   reads_by true x =
       made_controls (ReadLeftIf true request) path request table fits t asked _ asks answer
       (none_is_plain path table t request asked.device
-      (asked_pipes path table t fits asked)
-      (read_is_free (is_some asked.device.hub) request host) old answer new x.0)
+      (asked_pipes path table t fits asked) (search (asked, read_is_free)) old answer new x.0)
       (ReadIf true request) result went x told
-  reads_by false x =
-      made_controls (ReadLeftIf false request) path request table fits t asked _ asks answer
-      (read_is_plain path table t request old answer new host x) (ReadIf false request) result went
-      x told
+  reads_by false x = search (asked, made_controls, read_is_plain)
 
   pub table_reads : ReadMade request t old answer new
       → TableReads path request table old text result new now
@@ -478,7 +447,7 @@ module _ (path : List ℕ) (request : Setup) (bytes : List ℕ) (writes : IsToDe
     (answer : Result (Unit {0}) PipeFault) (told : result ≡ table_answer answer)
     (went : StepRun (control_most request.length) old text new now) where
   pub written : IsWritten (is_below_hub path) request (accepted_device_at path table.entries) t
-  written = written_of (is_below_hub path) request (accepted_device_at path table.entries) t asks
+  written = search written_of
 
   pub free : IsFree (is_some written.asked.device.hub) request
   free = grind (arith, unreserved_is_free, written)
@@ -495,7 +464,7 @@ module _ (path : List ℕ) (request : Setup) (bytes : List ℕ) (writes : IsToDe
       (WriteIf true request bytes) result went x told
   writes_by false x =
       made_controls (WriteLeftIf false request bytes) path request table fits t written.asked _ asks
-      answer (put_is_plain path table t request bytes free old answer new x)
+      answer (search (free, put_is_plain))
       (WriteIf false request bytes) result went x told
 
   pub table_writes : WriteMade request bytes t old answer new
@@ -522,10 +491,8 @@ module _ (t : Target) (request : Setup) (to_hub : Bool) (free : IsFree to_hub re
 
   left_still : (b : Bool) → WriteLeftIf b request bytes t answer old new j s v → StillEnds s v
   left_still true left = free_so t request free old new j s v (StillEnds s v)
-      (λ row frame kept.
-      still_ends s v (accepted_ends t request free old new j s v row frame kept))
-      (λ frame kept.
-      rows_still (ap (λ (d : State). d.outs) frame) (ap (λ (d : State). d.ins) frame)) answer left
+      (search (accepted_ends, free, still_ends))
+      (grind (arith, rows_still)) answer left
   left_still false left = grind (arith, rows_still)
 
 -- so it is of a device that is asked what the host alone need not send
@@ -535,9 +502,9 @@ pub write_still : (path : List ℕ) (request : Setup) (bytes : List ℕ) → IsT
     → SameSettings j s v → WriteLeft request bytes t answer old new j s v → StillEnds s v
 write_still path request bytes writes table t asks answer old new j s v same left =
     let w : IsWritten (is_below_hub path) request (accepted_device_at path table.entries) t =
-    written_of (is_below_hub path) request (accepted_device_at path table.entries) t asks in
+    search (written_of, table.entries) in
     left_still t request (is_some w.asked.device.hub)
-    (unreserved_is_free (is_some w.asked.device.hub) request writes w.unreserved) bytes answer old
+    (grind (arith, unreserved_is_free)) bytes answer old
     new j s v same (request.length == 0) left
 
 -- A request that reads leaves bulk endpoints as they were.
@@ -553,10 +520,8 @@ module _ (t : Target) (request : Setup) (host : IsToHost request)
   left_stage : (b : Bool) → ReadLeftIf b request t answer old new j s v → OnlyStage s v
   left_stage true left =
       free_so t request (read_is_free true request host) old new j s v (OnlyStage s v)
-      (λ row frame kept. stage_on s (accepted s row request) v
-      (began_stage s row request.length (outcome s.spec s.registers request)
-      (outcome_fine true s.spec s.registers request (read_is_free true request host))) frame same.1)
-      (λ frame kept. stage_on s s v refl frame same.1) (without_bytes answer) left
+      (search (began_stage, outcome_fine, read_is_free, stage_on))
+      (grind (arith, stage_on)) (without_bytes answer) left
   left_stage false left = left.frame
 
   pub read_spares : ReadLeft request t answer old new j s v → SparesBulk j s v

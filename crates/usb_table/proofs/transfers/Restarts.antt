@@ -1,9 +1,7 @@
 -- The halts that are cleared through the pipes at a path are those of the device there.
 use Rattle.std.proofs.Common.{arith, ◌≡◌, ◌≢◌, ◌∙◌, refl, sym, ap, subst, Bool, true, false, ℕ}
 use Rattle.std.proofs.Common.{◌==◌, List, Option, None, Some, Result, Ok, Err, is_ok, is_some}
-use Rattle.std.proofs.Common.{if◌then◌else◌}
-use Rattle.usb_device.specs.{EndpointState as End, in_end, InEnd, Location, NothingMoved, out_end}
-use Rattle.usb_device.specs.{OutEnd, State}
+use Rattle.usb_device.specs.{EndpointState as End, InEnd, Location, NothingMoved, OutEnd, State}
 use Rattle.usb_world.specs.{BusFault, EachWas, World}
 use Rattle.usb_tree.specs.{address_of}
 use Rattle.usb_world.proofs.Interface.{each_joined, each_none, each_wider}
@@ -14,10 +12,10 @@ use Rattle.usb_enum.proofs.Interface.{each_joint}
 use Rattle.usb_table.specs.{SameSettings, TableFault, Transfer, TransferFault, FunctionPipes, Pipes}
 use Rattle.usb_table.specs.{Function, AreFunctionPipes, AreInPlace, EndsCleared, FunctionInSync}
 use Rattle.usb_table.specs.{HaltCleared, HaltClearedBy, TransfersAt, Restarted, RestartedOf}
-use Rattle.usb_table.specs.{accepted_device_at, first_pipe, pipe_to, clears_miss, first_unclear}
-use Rattle.usb_table.specs.{is_below_hub, IsHeld, InSyncAt, Table, through, way_to, pipes_at}
-use Rattle.usb_table.specs.{ArePipesAt, ClearedBy, ClearedAfter, ClearedInOrder, ClearedOfThrough}
-use Rattle.usb_table.specs.{PipesCleared, PipesClearedOf, table_answer, with_pipe, with_rest}
+use Rattle.usb_table.specs.{accepted_device_at, first_pipe, pipe_to, clears_miss, is_below_hub}
+use Rattle.usb_table.specs.{IsHeld, InSyncAt, Table, way_to, pipes_at, ArePipesAt, ClearedBy}
+use Rattle.usb_table.specs.{ClearedAfter, ClearedInOrder, ClearedOfThrough, PipesCleared}
+use Rattle.usb_table.specs.{PipesClearedOf, table_answer, with_pipe, with_rest}
 use Rattle.usb_pipe.specs.declared.fault.PipeFault.TheVariants as pipe_fault
 use Rattle.usb_enum.specs.{Accepted}
 use Rattle.usb_table.specs.declared.fault.TableFault.TheVariants as table_fault
@@ -106,22 +104,7 @@ module _ (device : Accepted) (ends : Type 0) (is_sent : PipeState → Bool) (don
   steps_then was now pipes mid left =
       each_joined (ClearStep (one_way false (was false)) (one_way false (now false)) pipes mid)
       (ClearStep (one_way true (was true)) (one_way true (now true)) mid left)
-      (ClearStep was now pipes left)
-      (λ j s t v x y. record {
-        others = λ h. y.others (ap (λ n. n == device.address) x.same ∙ h) ∙ x.others h;
-        same = y.same ∙ x.same;
-        itself = λ e at level.
-            let p = x.itself e at level in
-            let q = y.itself e (ap (λ n. n == device.address) x.same ∙ at) p.level in
-            record {
-              moved = moved_then s t v p.moved q.moved;
-              out = subst (HaltClearedBy is_sent done (was false) (now false) (state_at false s))
-                  (sym (fun_ext q.out)) p.out;
-              into = subst (λ b. HaltClearedBy is_sent done (was true) (now true) b
-                  (state_at true v)) (fun_ext p.into) q.into;
-              level = q.level;
-            };
-      })
+      (ClearStep was now pipes left) (grind (arith, fun_ext, moved_then, state_at))
 
   -- Through one pipe of a device that was found
 
@@ -138,23 +121,23 @@ module _ (device : Accepted) (ends : Type 0) (is_sent : PipeState → Bool) (don
     ends_at false way j s v a at level after =
         let fits = out_of pipe of.at s level way in
         let leaves = a.sink at way fits in
-        let c = out_cleared pipe.ep s v (a.only_sink way fits.endpoint) in
+        let c = out_cleared pipe.ep s v (grind arith) in
         record {
           moved = c.moved;
           out = (
             begun_ends (is_sent pipe) done pipe old answer left new so.less x _ _ leaves.2,
             λ e apart. ap (λ (o : OutEnd). o.state) (c.others e apart),
           );
-          into = λ e. ap (λ (o : InEnd). o.state) (c.ins e);
+          into = grind arith;
           level = after;
         }
     ends_at true way j s v a at level after =
         let fits = in_of pipe of.at s level way in
         let leaves = a.source at way fits.0 fits.1 in
-        let c = in_cleared pipe.ep s v (a.only_source way fits.1.endpoint) in
+        let c = in_cleared pipe.ep s v (grind arith) in
         record {
           moved = c.moved;
-          out = λ e. ap (λ (o : OutEnd). o.state) (c.outs e);
+          out = grind arith;
           into = (
             begun_ends (is_sent pipe) done pipe old answer left new so.less x _ _ leaves.2,
             λ e apart. ap (λ (o : InEnd). o.state) (c.others e apart),
@@ -168,16 +151,15 @@ module _ (device : Accepted) (ends : Type 0) (is_sent : PipeState → Bool) (don
     one_step way is =
         each_joint (ClearLeaves (is_sent pipe) pipe answer left) SameSettings _
         (λ j s v a k.
-        let m = clear_moves device ends pipes (in_place device below_hub pipes of.are) pipe left
+        let m = clear_moves device ends pipes (grind (arith, in_place)) pipe left
         of.at made (is_sent pipe) answer j s v (λ e. known_left answer left (so.sure e)) a k in
         let at = ap (λ n. address_of s == n) (addressed pipe of) in
         record {
           others = λ far. m.others (at ∙ far);
           same = m.same;
-          itself = λ e here level. ends_at way is j s v a (at ∙ here) level
-              (m.itself e (at ∙ here) level);
-        }) old new (clear_leaves (is_sent pipe) pipe answer left old new x single)
-        ((clear_keeps (is_sent pipe) pipe old answer left new x).worlds.devices.same single)
+          itself = grind (arith, ends_at);
+        }) old new (grind (arith, clear_leaves))
+        (grind (arith, clear_keeps))
 
 -- Through the pipes to the first bulk endpoints
 
@@ -198,8 +180,7 @@ module _ (device : Accepted) (ends : Type 0) (done : Bool) where
       → new.shared ≡ false → ClearedBy pipe old answer left new
       → Steps (one_way way pipe) (one_way way left) pipes (with_rest left pipes) old new
   first_step way pipes are None left at old answer new so single x =
-      rw (x.1, x.2)
-      (none_step device ends needs_clear done (one_way way None) pipes (idle way) old)
+      rw (x.1, x.2) (search (idle, none_step, one_way))
   first_step way pipes are (Some pipe) None at old answer new so single x = absurd x
   first_step {below_hub} way pipes are (Some pipe) (Some left) at old answer new so single x =
       let placed = in_place device below_hub pipes are in
@@ -215,7 +196,7 @@ module _ (device : Accepted) (ends : Type 0) (done : Bool) where
       (sure : ends → (why : BusFault) → result ≢ Err (table_fault.Bus why))
       (less : done ≡ true → is_ok result ≡ true) where
     placed : AreInPlace pipes
-    placed = in_place device below_hub pipes are
+    placed = search in_place
 
     abbrev rests : Bool → Option PipeState
     rests true = y.rest_in
@@ -269,11 +250,7 @@ module _ (device : Accepted) (ends : Type 0) (done : Bool) where
         → Steps (one_way true (first_pipe true pipes)) (one_way true y.rest_in) between
         (with_rest y.rest_in between) mid new
         → Steps (λ b. first_pipe b pipes) rests pipes (with_rest y.rest_in between) old new
-    first_then first mid so single x =
-        steps_then device ends needs_clear done (λ b. first_pipe b pipes) rests pipes between
-        (with_rest y.rest_in between) old mid new
-        (first_step false pipes are (first_pipe false pipes) y.rest_out refl old first mid so
-        single x)
+    first_then first mid so single x h = search (first_step, steps_then)
 
     -- the second one is not cleared
     kept_step : is_ok result ≡ false → y.rest_in ≡ first_pipe true pipes
@@ -284,14 +261,11 @@ module _ (device : Accepted) (ends : Type 0) (done : Bool) where
           kept,
           rest_same (first_pipe true) (first_picks true) between placed_between
               (first_pipe true pipes) same_in,
-        )
-        (none_step device ends needs_clear done (one_way true (first_pipe true pipes)) between
-        by_way new)
+        ) (grind (arith, none_step, one_way))
       where
         by_way : (b : Bool) (e : ℕ → End) → HaltClearedBy needs_clear done
             (one_way true (first_pipe true pipes) b) (one_way true (first_pipe true pipes) b) e e
-        by_way true e = none_ends needs_clear done (first_pipe true pipes)
-            (λ is. let ok = less is in cc (ok, failed)) e
+        by_way true e = grind (arith, none_ends)
         by_way false e = λ n. refl
 
     in_turn : (first : Result (Unit {0}) PipeFault) (why : Option TransferFault)
@@ -300,12 +274,11 @@ module _ (device : Accepted) (ends : Type 0) (done : Bool) where
         → new.shared ≡ false
         → Steps (λ b. first_pipe b pipes) rests pipes (with_rest y.rest_in between) old new
     in_turn (Ok u) None x z single =
-        first_then (Ok u) y.mid (record { sure = λ e why f. cc f; less = λ e. refl })
-        (cleared_single (first_pipe true pipes) y.rest_in y.mid z.0 new z.2 single) x
-        (first_step true between are_between (first_pipe true pipes) y.rest_in same_in y.mid
-        z.0 new (pipe_answers z.0 z.1) single z.2)
+        first_then (Ok u) y.mid (grind arith)
+        (grind (arith, cleared_single)) x
+        (search (are_between, first_step, pipe_answers, same_in, z.0, z.1, z.2))
     in_turn (Ok u) (Some why) x z single =
-        first_then (Ok u) new (record { sure = λ e why f. cc f; less = λ e. refl }) single
+        first_then (Ok u) new (grind arith) single
         (rw z.2 x) (kept_step (ap is_ok z.0) z.1)
     in_turn (Err fault) why x z single =
         first_then (Err fault) new (pipe_answers (Err fault) z.0) single (rw z.2 x)
@@ -315,7 +288,7 @@ module _ (device : Accepted) (ends : Type 0) (done : Bool) where
         → Steps (λ b. first_pipe b pipes) rests pipes left old new
     both_steps single =
         subst (λ l. Steps (λ b. first_pipe b pipes) rests pipes l old new) (sym y.left_is)
-        (in_turn y.first (first_unclear true pipes) y.out y.into single)
+        (search in_turn)
 
     pub in_turn_moves : EachMoves device device.address ends (Function pipes) (Function left) old
         new
@@ -334,16 +307,9 @@ module _ (path : List ℕ) (old : Table) (before after : World) where
     not_cleared : (pipes : Pipes) (fault : TransferFault) → result ≡ Err (Transfer fault)
         → after ≡ before → Synced path old before after pipes → Cleared pipes pipes
     not_cleared pipes fault e same level =
-        let not : is_ok result ≡ true → ⊥ = λ done. let no = ap is_ok e in cc (no, done) in
+        let not : is_ok result ≡ true → ⊥ = λ done. grind arith in
         (none_there path old before after result fault e same (Unit {0}) _
-        (λ s on there. record {
-          moved = same_rows-moved s s refl refl;
-          out = none_ends is_sent (is_ok result) (through (pick false) pipes) not
-              (λ e. (out_end s e).state);
-          into = none_ends is_sent (is_ok result) (through (pick true) pipes) not
-              (λ e. (in_end s e).state);
-          level = level s on there;
-        })).each
+        (grind (arith, none_ends, same_rows-moved))).each
 
     -- the pipes were picked so, before and behind
     cleared_there : IsHeld old before → (device : Accepted)
@@ -357,14 +323,7 @@ module _ (path : List ℕ) (old : Table) (before after : World) where
       each = changes_there path old before held device found device.address refl _
           (EndsCleared is_sent (is_ok result) pick (accepted_device_at path old.entries)
           (Function pipes) (Function left)) after (λ j s v z. z.others)
-          (λ s on there j v z at.
-          let c = z.itself tt at (level s on there) in
-          record {
-            moved = c.moved;
-            out = rw (picked false, again false) c.out;
-            into = rw (picked true, again true) c.into;
-            level = synced_if device _ found (Function left) v c.level;
-          }) each;
+          (grind (arith, again, synced_if)) each;
       known = λ done. ap is_some found;
     }
 
@@ -376,15 +335,14 @@ module _ (path : List ℕ) (old : Table) (before after : World) where
   cleared_restarts new result other held level single are x =
       through_both before result after (accepted_device_at path old.entries) (is_below_hub path)
       (λ p l. Synced path old before after p → Cleared needs_clear first_pipe result p l)
-      (not_cleared needs_clear first_pipe result)
+      (search not_cleared)
       (λ device pipes left found to y l.
       cleared_there needs_clear first_pipe result held device found pipes left _ _ (λ b. refl)
-      (again device (Unit {0}) (is_ok result) pipes to before result left after y (λ e. other)
-      (λ e. e))
+      (search again)
       (both_steps device (Unit {0}) (is_ok result) pipes to before result left after y (λ e. other)
       (λ e. e) single)
       (reaches_synced path before device _ found (Function pipes) l))
-      (pipes_at path old) (pipes_at path new) are x (levels_there path old before level are)
+      (pipes_at path old) (pipes_at path new) are x (search levels_there)
 
   -- the halt of one endpoint, by its address
 
@@ -396,16 +354,13 @@ module _ (path : List ℕ) (old : Table) (before after : World) where
   cleared_restarts_of a new result other held level single are x =
       through_path path old before after
       (Cleared (λ pipe. true) (λ is_in. way_to is_in a) result) level are
-      (pipe_to a) (clears_miss a) (to_picks a) ClearedOfThrough (λ p o r l n z. z.cleared.same)
-      (λ pipes fault none. not_cleared (λ pipe. true) (λ is_in. way_to is_in a) result pipes fault)
+      (pipe_to a) (clears_miss a) (to_picks a) ClearedOfThrough (grind arith)
+      (search not_cleared)
       (λ device pipes pipe left found w y l.
       cleared_there (λ pipe. true) (λ is_in. way_to is_in a) result held device found pipes
-      (with_pipe left pipes) _ _ (λ b. way_to-one b a pipes pipe w.picked)
-      (λ b. way_to-one b a (with_pipe left pipes) left w.again
-      ∙ ap (λ way. one_way way (Some left) b) (same_way pipe left w.made))
+      (with_pipe left pipes) _ _ (search way_to-one)
+      (grind (arith, one_way, same_way, way_to-one))
       (one_step device (Unit {0}) (λ pipe. true) (is_ok result) pipe left w.of w.made before
-      y.answer after (record {
-        sure = λ e. not_bus y.answer result y.told other;
-        less = λ e. done_through y.answer result y.told ∙ e;
-      }) single y.cleared.clears pipe.is_in refl) l)
+      y.answer after (grind (arith, done_through, not_bus)) single y.cleared.clears pipe.is_in
+      refl) l)
       (pipes_at path new) x
