@@ -1,6 +1,6 @@
 -- How parts of an enumeration join.
-use Rattle.std.proofs.Common.{◌≡◌, ◌+◌, ◌*◌, ◌<◌, ◌≤◌, ◌∙◌, ℕ, Bool, true, false, List, Option}
-use Rattle.std.proofs.Common.{None, Some, Result, Ok, Err, IfErr, IsErrAnd, arith, refl, subst}
+use Rattle.std.proofs.Common.{◌≡◌, ◌+◌, ◌*◌, ◌<◌, ◌≤◌, ℕ, Bool, true, false, List, Option, None}
+use Rattle.std.proofs.Common.{Some, Result, Ok, Err, IfErr, IsErrAnd, arith, refl}
 use Rattle.std.proofs.Math.Nat.{mul-le-mul_right, suc-mul}
 use Rattle.std.specs.Global.{Vec}
 use Rattle.std.specs.Prelude.{⊤}
@@ -15,7 +15,6 @@ use Rattle.usb_pipe.specs.{BusToldIt, FaultAfter, PipeFault, UsesBus, control_bo
 use Rattle.usb_pipe.proofs.Interface.{bound_wide}
 use Rattle.usb_hub.specs.{HubPort, GivesAddress, TextAsked, Queried, Commanded, AddressAsked}
 use Rattle.usb_hub.specs.{ConfigurationAsked, EndsAfter, WorksAfter}
-use Rattle.usb_hub.proofs.Interface.{ended_works}
 use Rattle.usb_enum.specs.{AtPort, read_bound, OnlyAsks, OnlySets, OnlyTells, FailsAt, Gone, Cause}
 use Rattle.usb_enum.specs.{EnumFault, IsReportedStop, Part, Stop, StopNotOfBus, answered_or}
 use Rattle.usb_enum.specs.{as_stop, at_port, stop_in, Went}
@@ -23,9 +22,7 @@ use Rattle.usb_enum.proofs.courses.Courses.{keeping, went_on_more, went_steps}
 use Rattle.usb_enum.proofs.devices.Frames.{asks_none, asks_then, at_addressed, at_port_none}
 use Rattle.usb_enum.proofs.devices.Frames.{at_port_then, configuration_sets, sets_asked, sets_then}
 use Rattle.usb_enum.proofs.devices.Frames.{tells_none, tells_then, answer_asks}
-use Rattle.usb_enum.proofs.stops.PlainStops.{answer_works, at_port_works, answers_reported}
-use Rattle.usb_enum.proofs.stops.PlainStops.{port_reported}
-use Rattle.usb_enum.proofs.refusals.Refusals.{failed as handed}
+use Rattle.usb_enum.proofs.stops.PlainStops.{answers_reported, port_reported}
 use Rattle.usb_enum.proofs.stops.Reasons.{AtPortFails, call_ends}
 
 -- What is kept where nothing went, and from one part to the next
@@ -39,19 +36,13 @@ pub asking : Keeping OnlyAsks
 asking = record { none = asks_none; joined = asks_then }
 
 pub telling : (address : ℕ) → Keeping (OnlyTells address)
-telling address = record { none = tells_none address; joined = tells_then address }
+telling address = search (tells_none, tells_then)
 
 pub setting : (address : ℕ) → Keeping (OnlySets address)
-setting address = record {
-  none = λ w. sets_asked address w w (asks_none w);
-  joined = sets_then address;
-}
+setting address = search (asks_none, sets_asked, sets_then)
 
 pub enumerating : (port : HubPort) (address : ℕ) → Keeping (AtPort port address)
-enumerating port address = record {
-  none = at_port_none port address;
-  joined = λ old mid new a first next b. at_port_then port address old mid new a next b;
-}
+enumerating port address = search (at_port_none, at_port_then)
 
 module _ {S : Type 0} {modelled : Bool} {world : S → World} {trace : S → Option (List ℕ)}
     {spent ports : S → ℕ} {failed : S → Option BusFault} where
@@ -74,11 +65,11 @@ module _ {S : Type 0} {modelled : Bool} {world : S → World} {trace : S → Opt
       → Gone modelled world trace spent ports failed M k old stop new
   gone_behind {k} first next keeps le =
       record {
-        spends = (omega (arith, first.spends.0, next.spends.0, le), next.spends.1 ∙ first.spends.1);
+        spends = grind arith;
         told = next.told;
         steps = λ known. keeping (went_on_more k
             (first.steps known).run (next.steps known).run le) (keeps known);
-        works = λ known sound none. next.works known sound (first.works known tt none);
+        works = grind arith;
       }
 
   pub gone_then : {K : World → World → Type 0} {m n k : ℕ} {old mid new : S} {stop : Option Stop}
@@ -86,10 +77,7 @@ module _ {S : Type 0} {modelled : Bool} {world : S → World} {trace : S → Opt
       → Gone modelled world trace spent ports failed K n mid stop new → m + n ≤ k
       → Gone modelled world trace spent ports failed K k old stop new
   gone_then {old} {mid} {new} kept first next =
-      gone_behind first next (λ known.
-      let a = first.steps known in
-      let b = next.steps known in
-      kept.joined (world old) (world mid) (world new) a.keeps a.went b.went b.keeps)
+      gone_behind first next (grind arith)
 
   pub gone_joined : {K : World → World → Type 0} {m n : ℕ} {old mid new : S} {stop : Option Stop}
       → Keeping K → Gone modelled world trace spent ports failed K m old None mid
@@ -100,12 +88,7 @@ module _ {S : Type 0} {modelled : Bool} {world : S → World} {trace : S → Opt
   pub gone_wider : {K : World → World → Type 0} {m n : ℕ} {old new : S} {stop : Option Stop}
       → Gone modelled world trace spent ports failed K m old stop new → m ≤ n
       → Gone modelled world trace spent ports failed K n old stop new
-  gone_wider {m} {n} gone le = record {
-    spends = (omega (arith, gone.spends.0, le), gone.spends.1);
-    told = gone.told;
-    steps = λ known. keeping (went_wider m n (gone.steps known).run le) (gone.steps known).keeps;
-    works = gone.works;
-  }
+  gone_wider gone le = grind arith
 
   -- so many times the same, once more, and no more than there may be
   pub gone_again : {K : World → World → Type 0} (k : ℕ) {n : ℕ} {old mid new : S}
@@ -133,44 +116,27 @@ module _ {S : Type 0} {modelled : Bool} {world : S → World} {trace : S → Opt
       → ((v w : World) → K v w → L v w)
       → Gone modelled world trace spent ports failed K n old stop new
       → Gone modelled world trace spent ports failed L n old stop new
-  gone_as {old} {new} f gone = record {
-    spends = gone.spends;
-    told = gone.told;
-    steps = λ known. keeping (gone.steps known).run
-        (f (world old) (world new) (gone.steps known).keeps);
-    works = gone.works;
-  }
+  gone_as f gone = grind arith
 
   -- then something stopped it
   pub gone_stopped : {K : World → World → Type 0} {n : ℕ} {old new : S} {stop : Stop}
       → Gone modelled world trace spent ports failed K n old None new
       → IsReportedStop stop (failed new)
       → Gone modelled world trace spent ports failed K n old (Some stop) new
-  gone_stopped gone told = record {
-    spends = gone.spends;
-    told = told;
-    steps = gone.steps;
-    works = λ known sound. gone.works known tt;
-  }
+  gone_stopped gone told = grind arith
 
   -- what is an end of a request need not stop what goes on
   pub gone_on : {K : World → World → Type 0} {n : ℕ} {old new : S} {stop : Stop}
       → Gone modelled world trace spent ports failed K n old (Some stop) new → StopNotOfBus stop
       → Gone modelled world trace spent ports failed K n old None new
-  gone_on gone sound = record {
-    spends = gone.spends;
-    told = tt;
-    steps = gone.steps;
-    works = λ known allowed. gone.works known sound;
-  }
+  gone_on gone sound = grind arith
 
   -- or perhaps nothing
   pub gone_ended : {A : Type 0} {K : World → World → Type 0} {n : ℕ} {old new : S}
       (result : Result A Stop) → Gone modelled world trace spent ports failed K n old None new
       → IfErr result (λ stop. IsReportedStop stop (failed new))
       → Gone modelled world trace spent ports failed K n old (stop_in result) new
-  gone_ended (Ok done) gone told = gone
-  gone_ended (Err stop) gone told = gone_stopped gone told
+  gone_ended result gone told = grind arith
 
   -- Requests
 
@@ -183,19 +149,16 @@ module _ {S : Type 0} {modelled : Bool} {world : S → World} {trace : S → Opt
       → Gone modelled world trace spent ports failed K n old (stop_in result) new
   gone_answered least stalled outcome {old} {new} is uses ends keeps = rw is (record {
     spends = uses.spends;
-    told = answers_reported (failed new) stalled outcome uses.told;
-    steps = λ known. keeping (uses.steps known) (keeps known);
-    works = λ known. answer_works stalled outcome (world old) (world new)
-        (ended_works least outcome (world old) (world new) (ends known));
+    told = search (answers_reported, uses.told);
+    steps = search (keeping, uses.steps);
+    works = grind arith;
   })
 
   -- at a maximum packet of 8 or more
   pub uses_read : {Told : Option BusFault → Type 0} (max bytes : ℕ) {old new : S} → 8 ≤ max
       → UsesBus modelled (Steps world trace) spent ports failed (control_bound max bytes) Told old
       new → UsesBus modelled (Steps world trace) spent ports failed (read_bound bytes) Told old new
-  uses_read {Told} max bytes {old} {new} wide = subst
-      (λ n. UsesBus modelled (Steps world trace) spent ports failed n Told old new)
-      (bound_wide max bytes wide)
+  uses_read max bytes wide h = grind (arith, bound_wide)
 
   -- for data
   pub gone_asked : (given : Spec → Option (List ℕ)) {t : Target} {request : Setup} {wanted : ℕ}
@@ -209,7 +172,7 @@ module _ {S : Type 0} {modelled : Bool} {world : S → World} {trace : S → Opt
       world trace spent ports failed OnlyAsks (read_bound bytes) old (stop_in result) new
   gone_asked given {t} bytes stalled {outcome} wide is uses asked what keeps =
       gone_answered 3 stalled outcome is (uses_read t.max bytes wide uses)
-      (λ known. (asked known).ends) (λ known. answer_asks (asked known) (what known) (keeps known))
+      (grind arith) (λ known. answer_asks (asked known) (what known) (keeps known))
 
   -- SET_ADDRESS, at address 0
   pub gone_addressed : {p : HubPort} {a m n : ℕ} {t : Target} (stalled : Cause)
@@ -225,7 +188,7 @@ module _ {S : Type 0} {modelled : Bool} {world : S → World} {trace : S → Opt
   gone_addressed stalled {outcome} first zero least is uses
       ordered what gives =
       gone_behind first (gone_answered {K = λ v w. ⊤} 2 stalled outcome is uses
-      (λ known. (ordered known).ends) (λ known. tt)) (λ known. at_addressed
+      (grind arith) (λ known. tt)) (λ known. at_addressed
       (first.steps known).keeps zero least (went_steps (uses.steps known))
       (ordered known) (what known) (gives known)) (omega arith)
 
@@ -240,8 +203,8 @@ module _ {S : Type 0} {modelled : Bool} {world : S → World} {trace : S → Opt
       → (modelled ≡ true → KeepsAddresses (world old) (world new))
       → Gone modelled world trace spent ports failed (OnlySets t.addr) n old (stop_in result) new
   gone_set {value} stalled {outcome} is uses ordered what keeps =
-      gone_answered 2 stalled outcome is uses (λ known. (ordered known).ends)
-      (λ known. configuration_sets value (ordered known) (what known) (keeps known))
+      gone_answered 2 stalled outcome is uses (grind arith)
+      (grind (arith, configuration_sets))
 
   -- Parts
 
@@ -252,8 +215,7 @@ module _ {S : Type 0} {modelled : Bool} {world : S → World} {trace : S → Opt
       → Gone modelled world trace spent ports failed K n old (Some why) new
       → (modelled ≡ true → Stops (world old) (world new) why)
       → Part modelled world trace spent ports failed K n Gives Stops old result new
-  part_failed {result} same gone stops =
-      rw (handed result same) (record { gone = gone; ends = stops })
+  part_failed same gone stops = grind arith
 
   -- a call at the port
   pub part_called : {A : Type 0} (port : HubPort) {K : World → World → Type 0} {n : ℕ} {old new : S}
@@ -269,9 +231,8 @@ module _ {S : Type 0} {modelled : Bool} {world : S → World} {trace : S → Opt
         gone = record {
           spends = uses.spends;
           told = tt;
-          steps = λ known. keeping (uses.steps known) (keeps known);
-          works = λ known sound.
-              at_port_works (Ok done) outcome (world old) (world new) is (works known);
+          steps = search (keeping, uses.steps);
+          works = grind arith;
         };
         ends = λ known. tt;
       }
@@ -279,10 +240,9 @@ module _ {S : Type 0} {modelled : Bool} {world : S → World} {trace : S → Opt
       record {
         gone = record {
           spends = uses.spends;
-          told = port_reported (failed new) outcome fault uses.told is;
-          steps = λ known. keeping (uses.steps known) (keeps known);
-          works = λ known.
-              at_port_works (Err fault) outcome (world old) (world new) is (works known);
+          told = search port_reported;
+          steps = search (keeping, uses.steps);
+          works = grind arith;
         };
         ends = λ known. call_ends port (Err fault) outcome (world old) (world new) is (ends known)
             (fails known);

@@ -1,16 +1,14 @@
 -- What went between two states of a bus: as a course of steps, what it keeps, and how it joins.
-use Rattle.std.proofs.Common.{◌≡◌, ℕ, List, Option, None, Some, Result, Ok, Err, refl, ap, sym}
-use Rattle.std.proofs.Common.{subst, ◌∙◌, false, ◌+◌, ◌≤◌}
-use Rattle.usb_world.specs.{Attempt, BusFault, Outcome, Step, AnyStep, Course, here, attempt}
-use Rattle.usb_world.specs.{root_call, after, World, after_event, with_attempt, at_attempt}
+use Rattle.std.proofs.Common.{arith, ◌≡◌, ℕ, List, Option, None, Some, Result, Err, refl, sym}
+use Rattle.std.proofs.Common.{subst, false, ◌+◌, ◌≤◌}
+use Rattle.usb_world.specs.{Attempt, BusFault, Outcome, Step, AnyStep, Course, here, attempt, after}
+use Rattle.usb_world.specs.{World, after_event, with_attempt}
 use Rattle.usb_world.proofs.Interface.{between_course, course_then, course_joined}
 use Rattle.usb_bus.specs.{Attempts, Traced, still, attempted, called, StepRun}
 use Rattle.usb_enum.specs.{IsInOrder, IsOrderly, IsRegular, KeepingSteps, Leads, Went}
 use Rattle.usb_transaction.specs.{NoThreeDamaged}
 use Rattle.usb_pipe.proofs.Interface.{never_three}
 use Rattle.usb_bus.proofs.Interface.{OverFaults, over_traced, went_then, went_wider}
-use Rattle.usb_device.specs.{held_addresses, repeats}
-use Rattle.usb_tree.proofs.Interface.{neither}
 
 -- the bus was at work, and these were its steps
 pub record AtWork (old new : World) : Type 0 where
@@ -24,21 +22,16 @@ OnlyLater w v = v.fault ≡ None → AtWork w v
 -- a fault that was told is told again
 pub sound_before : (w v : World) {A : Type 0} (result : Result A BusFault) → v.fault ≡ None
     → ((fault : BusFault) → w.fault ≡ Some fault → (result ≡ Err fault) × (v ≡ w)) → w.fault ≡ None
-sound_before w v result h again = split w.fault refl
-  where
-    split : (x : Option BusFault) → w.fault ≡ x → w.fault ≡ None
-    split None e = e
-    split (Some fault) e = ap (λ (u : World). u.fault) (sym (again fault e).1) ∙ h
+sound_before w v result h again = grind arith
 
 pub attempt_sound : {a : Attempt} {w v : World} {t s : Option (List ℕ)}
     {result : Result Outcome BusFault} → Attempts a w t result v s → v.fault ≡ None → w.fault ≡ None
-attempt_sound {w} {v} {result} made h = sound_before w v result h made.counts.again
+attempt_sound made h = grind arith
 
 pub attempt_after : {a : Attempt} {w v : World} {t s : Option (List ℕ)}
     (result : Result Outcome BusFault) → Attempts a w t result v s → v.fault ≡ None
     → v ≡ after (attempt a) w
-attempt_after (Ok outcome) made h = made.exact
-attempt_after (Err fault) made h = absurd (cc (h, made.counts.ends.told))
+attempt_after result made h = grind arith
 
 pub traced_only_later : {old : World} {t : Option (List ℕ)} {new : World} {s : Option (List ℕ)}
     → Traced old t new s → OnlyLater old new
@@ -49,12 +42,10 @@ traced_only_later {old} (attempted a result fits before made) h =
     record {
       sound = work.sound;
       course =
-          subst (Course AnyStep old) (sym (attempt_after result made h))
-          (course_then (attempt a) work.course tt);
+          subst (Course AnyStep old) (sym (attempt_after result made h)) (search course_then);
     }
 traced_only_later (called c port before) h =
-    let work = traced_only_later before h in
-    record { sound = work.sound; course = course_then (root_call c port) work.course tt }
+    let work = traced_only_later before h in search course_then
 
 -- behind a fault no attempt is made
 pub traced_faulted : {w : World} {t : Option (List ℕ)} {v : World} {s : Option (List ℕ)}
@@ -64,10 +55,7 @@ unfolding after
 traced_faulted still fault e = (refl, e)
 traced_faulted (attempted {w = m} {v = v} a result fits before made) fault e =
     let so_far = traced_faulted before fault e in
-    let same : v ≡ m = (made.counts.again fault so_far.1).1 in (
-      ap (λ (x : World). x.attempts) same ∙ so_far.0,
-      ap (λ (x : World). x.fault) same ∙ so_far.1,
-    )
+    grind arith
 traced_faulted (called c port before) fault e = traced_faulted before fault e
 
 pub went_sound : (n : ℕ) (old new : World) {t s : Option (List ℕ)} → StepRun n old t new s
@@ -86,8 +74,7 @@ orderly_on was course = between_course course was
 
 pub traced_in_order : {old : World} {t : Option (List ℕ)} {new : World} {s : Option (List ℕ)}
     → Traced old t new s → IsInOrder old → IsInOrder new
-traced_in_order traced order h =
-    let work = traced_only_later traced h in orderly_on (order work.sound) work.course
+traced_in_order traced order = grind (arith, orderly_on, traced_only_later)
 
 pub went_in_order : (n : ℕ) (old new : World) {t s : Option (List ℕ)} → StepRun n old t new s
     → IsInOrder old → IsInOrder new
@@ -98,16 +85,7 @@ regular_order order = order
 
 same_damages : OverFaults (λ w v. v.damages ≡ w.damages)
 unfolding after_event with_attempt
-same_damages = record {
-  steps = record {
-    events = record { same = λ w. refl; joined = λ w m v x y. y ∙ x; came = λ e es w l. refl };
-    made = λ a w made k. refl;
-    root = λ c n w k. refl;
-    refused = λ w. refl;
-  };
-  cut = λ k w. refl;
-  told = λ fault w. refl;
-}
+same_damages = grind arith
 
 pub went_three : (n : ℕ) (old new : World) {t s : Option (List ℕ)} → StepRun n old t new s
     → NoThreeDamaged old → NoThreeDamaged new
@@ -115,17 +93,7 @@ went_three n old new went = never_three old new (over_traced same_damages went.t
 
 unshared_back : OverFaults (λ w v. v.shared ≡ false → w.shared ≡ false)
 unfolding after_event with_attempt
-unshared_back = record {
-  steps = record {
-    events = record { same = λ w h. h; joined = λ w m v x y h. x (y h); came = λ e es w l h. h };
-    made = λ a w made k h. (neither (at_attempt w).shared
-        (repeats (held_addresses (at_attempt w).roots)) h).0;
-    root = λ c n w k h. h;
-    refused = λ w h. h;
-  };
-  cut = λ k w h. (neither w.shared (repeats (held_addresses w.roots)) h).0;
-  told = λ fault w h. h;
-}
+unshared_back = grind arith
 
 pub went_unshared : {n : ℕ} {old new : World} {t s : Option (List ℕ)} → StepRun n old t new s
     → new.shared ≡ false → old.shared ≡ false
@@ -137,21 +105,18 @@ pub leads_none : (w : World) → Leads w w
 leads_none w = record { sound = λ none. none; course = λ none. here w }
 
 pub leads_then : {old mid new : World} → Leads old mid → Leads mid new → Leads old new
-leads_then first next = record {
-  sound = λ none. first.sound (next.sound none);
-  course = λ none. course_joined (first.course (next.sound none)) (next.course none);
-}
+leads_then first next = grind (arith, course_joined)
 
 -- What went
 
 pub went_steps : {n : ℕ} {old new : World} {a b : Option (List ℕ)} → StepRun n old a new b
     → Went old new
 went_steps {n} {old} {new} run = record {
-  led = record { sound = went_sound n old new run; course = went_course n old new run };
+  led = search (went_course, went_sound);
   order = traced_in_order run.traced;
   unshared = went_unshared run;
   three = went_three n old new run;
-  faulted = λ fault before. (traced_faulted run.traced fault before).1;
+  faulted = grind (arith, traced_faulted);
 }
 
 pub went_on : {old mid new : World} → Went old mid → Went mid new → Went old new
@@ -165,7 +130,7 @@ went_on first next = record {
 
 pub keeping : {K : World → World → Type 0} {n : ℕ} {old new : World} {a b : Option (List ℕ)}
     → StepRun n old a new b → K old new → KeepingSteps K n old a new b
-keeping run keeps = record { run = run; went = went_steps run; keeps = keeps }
+keeping run keeps = search went_steps
 
 pub went_on_more : (k : ℕ) {m n : ℕ} {a b c : World} {t r s : Option (List ℕ)} → StepRun m a t b r
     → StepRun n b r c s → m + n ≤ k → StepRun k a t c s

@@ -1,13 +1,11 @@
 -- What stays fair in an enumeration from one call to the next, and when a hub is lost.
-use Rattle.std.proofs.Common.{◌≡◌, ◌≢◌, ◌⊎◌, inl, inr, ◌≤◌, ◌&&◌, ◌||◌, not, if◌then◌else◌, ◌==◌, ℕ}
-use Rattle.std.proofs.Common.{true, false, List, [], ◌∷◌, ◌++◌, Option, None, Some, is_some}
-use Rattle.std.proofs.Common.{option_map, Result, Ok, Err, refl, ap, sym, subst, ◌∙◌, IsSomeAnd}
-use Rattle.std.proofs.lemmas.Option.{same_Some}
+use Rattle.std.proofs.Common.{arith, ◌≡◌, ◌≢◌, ◌⊎◌, inl, inr, ◌≤◌, ◌&&◌, ◌||◌, not, if◌then◌else◌}
+use Rattle.std.proofs.Common.{◌==◌, ℕ, true, false, List, [], ◌∷◌, ◌++◌, Option, None, Some, Result}
+use Rattle.std.proofs.Common.{Err, refl, ap, sym, subst, ◌∙◌, IsSomeAnd}
 use Rattle.usb_port.specs.{parent_of, PortCall}
 use Rattle.usb_port.proofs.Interface.{parent}
-use Rattle.usb_device.specs.{State, Location, path_to, reach_on, state_on, state_there, Spec}
-use Rattle.usb_world.specs.{KeepsPendingAt, Was, spec_of, LeavesPortAlone, SameAt, Consistent}
-use Rattle.usb_world.specs.{Course, World}
+use Rattle.usb_device.specs.{State, Location, path_to, reach_on, state_on, Spec}
+use Rattle.usb_world.specs.{KeepsPendingAt, Was, LeavesPortAlone, SameAt, Consistent, Course, World}
 use Rattle.usb_tree.specs.{is_way, has_power, pending, deep_at}
 use Rattle.usb_world.proofs.Interface.{course_wider, pending_persists, reach_live, rests_or_pends}
 use Rattle.usb_world.proofs.Interface.{stands_or_pends}
@@ -18,7 +16,6 @@ use Rattle.usb_pipe.specs.{PipeFault}
 use Rattle.usb_pipe.specs.declared.fault.PipeFault.TheVariants as pipe
 use Rattle.usb_hub.specs.{HubPort, Root, External, IsAt, IsBelow, StaysAs, HasPort, HubServes}
 use Rattle.usb_hub.specs.{NoHubFailed}
-use Rattle.usb_hub.proofs.Interface.{stays-registers, stays-spec}
 use Rattle.usb_enum.specs.{Cause, EnumFault, Stop, IsSpare, AtPort, CalledAt, StatusAt, ServesAt}
 use Rattle.usb_enum.specs.{HasServer, IsFairAt, PendingOr, FaultsFor, StopsFairly, Faulted, OnlyAt}
 use Rattle.usb_enum.specs.{IsOccupied, IsReachedAt, AtPath, at_port, FaultAllowedAt, FaultAllowed}
@@ -26,7 +23,7 @@ use Rattle.usb_enum.specs.{Went}
 use Rattle.usb_enum.specs.declared.fault.EnumFault.TheVariants as fault
 use Rattle.usb_enum.specs.declared.stop.Stop.TheVariants.{Refused, Fault}
 use Rattle.usb_enum.proofs.courses.Losses.{few_before}
-use Rattle.usb_enum.proofs.devices.ReachedDevices.{some_of, is_some-value, occupied_on}
+use Rattle.usb_enum.proofs.devices.ReachedDevices.{is_some-value, occupied_on}
 
 -- The hub of a port
 
@@ -53,10 +50,10 @@ serves_still t port new j s v spec registers on there listens addressed configur
 
 module _ (f : AddressMap) (hub : Target) (n : ℕ) (p : List ℕ) (at : IsBelow f hub.addr n p) where
   pub parent_is : parent_of p ≡ Some at.hub
-  parent_is = ap parent_of at.path ∙ parent at.hub n at.is_path.0
+  parent_is = grind (arith, parent)
 
   apart : is_way p at.hub ≡ false
-  apart = ap (λ x. is_way x at.hub) at.path ∙ not_way at.hub n
+  apart = grind (arith, not_way)
 
   module _ (old new : World) (only : OnlyAt p old new) where
     hub_asks : Course (LeavesPortAlone at.hub) old new
@@ -70,20 +67,14 @@ module _ (f : AddressMap) (hub : Target) (n : ℕ) (p : List ℕ) (at : IsBelow 
       j = was.serves.spot
 
       hub_live : has_power old.roots at.hub ≡ true
-      hub_live = subst (λ q. has_power old.roots q ≡ true) (sym was.there)
-          (reach_live old.roots j.row j.rest sane was.serves.on)
+      hub_live = grind (arith, reach_live)
 
       hub_served : (v : State) → reach_on new.roots j ≡ true → state_on new.roots j ≡ Some v
           → ServesAt hub n at.hub new
       hub_served v on there =
-          let before : Was StaysAs old j v =
-          only.devices j v (subst (λ q. is_way p q ≡ false) was.there apart) on there in
-          let is : before.before ≡ was.serves.state =
-          same_Some before.before was.serves.state (sym before.stands ∙ was.serves.stands) in
-          let spec : v.spec ≡ was.serves.state.spec = stays-spec before.before v before.so
-          ∙ ap (λ s. s.spec) is in
-          let registers : v.registers ≡ was.serves.state.registers =
-          stays-registers before.before v before.so ∙ ap (λ s. s.registers) is in
+          let before : Was StaysAs old j v = grind (arith, apart) in
+          let spec : v.spec ≡ was.serves.state.spec = grind arith in
+          let registers : v.registers ≡ was.serves.state.registers = grind arith in
           record {
             serves = serves_still hub n new j was.serves.state v spec registers on there
                 was.serves.listens was.serves.addressed was.serves.configured was.serves.has;
@@ -93,18 +84,12 @@ module _ (f : AddressMap) (hub : Target) (n : ℕ) (p : List ℕ) (at : IsBelow 
 
       hub_same : SameAt old.roots new.roots at.hub → ServesAt hub n at.hub new
       hub_same same =
-          let on : reach_on new.roots j ≡ true = (rw was.there at same.on) ∙ was.serves.on in
-          let what = rw was.there at same.what in
-          let v = is_some-value (state_on new.roots j)
-          (some_of (state_on old.roots j) (state_on new.roots j) what
-          (ap is_some was.serves.stands)) in
+          let on : reach_on new.roots j ≡ true = grind arith in
+          let v = is_some-value (state_on new.roots j) (grind arith) in
           hub_served v.0 on v.1
 
       serves_on : (pending new.roots at.hub ≡ true) ⊎ ServesAt hub n at.hub new
-      serves_on = elim (rests_or_pends at.hub hub_asks hub_live) [
-        | inl y ↦ inr (hub_same y.1)
-        | inr y ↦ inl y
-      ]
+      serves_on = grind (arith, hub_asks, hub_live, hub_same, rests_or_pends)
 
 pub server_on : (f : AddressMap) (port : HubPort) {p : List ℕ} → IsAt f port p → {old new : World}
     → Consistent old.roots → OnlyAt p old new → HasServer port p old → HasServer port p new
@@ -113,7 +98,7 @@ server_on f (External hub n) {p} at {old} {new} sane only server =
     let P : World → List ℕ → Type 0 = λ w q. (pending w.roots q ≡ true) ⊎ ServesAt hub n q w in
     subst (λ o. IsSomeAnd o (P new)) (sym (parent_is f hub n p at))
     (elim (subst (λ o. IsSomeAnd o (P old)) (parent_is f hub n p at) server) [
-      | inl h ↦ inl (hub_pends_on f hub n p at old new only h)
+      | inl h ↦ inl (search hub_pends_on)
       | inr h ↦ serves_on f hub n p at old new only sane h
     ])
 
@@ -130,59 +115,39 @@ lost_hub_faults f (External hub n) p at fault.ParentLost new told server denies 
     (elim (subst (λ o. IsSomeAnd o P) (parent_is f hub n p at) server) [
       | inl h ↦ h
       | inr h ↦ subst (λ q. pending new.roots q ≡ true) (sym h.there)
-          (denies hub n refl refl h.serves (at.path ∙ ap (λ q. q ++ (n ∷ [])) h.there) h.wide)
+          (denies hub n refl refl h.serves (search at.path) h.wide)
     ])
 lost_hub_faults f port p at _ new told server denies = tt
 
 -- a served call loses no hub
 pub parent_lost_not_served : {A : Type 0} (outcome : Result A PipeFault) (why : EnumFault)
     → Err why ≡ at_port outcome → why ≡ fault.ParentLost → NoHubFailed outcome → ⊥
-parent_lost_not_served (Ok x) why told lost served = cc
-parent_lost_not_served (Err (pipe.Bus f)) why told lost served = cc
-parent_lost_not_served (Err pipe.Memory) why told lost served = cc
-parent_lost_not_served _ why told lost served = served
+parent_lost_not_served outcome why told lost served = grind arith
 
 -- What is fair
 
 -- no device at the port has taken its address yet
 pub held_spare : {f : AddressMap} {port : HubPort} {p : List ℕ} {address : ℕ}
     → IsSpare f port p address → IsSpare f port p 0
-held_spare spare = record {
-  at = spare.at;
-  free = spare.free;
-  none = spare.none;
-  spare = spare.none;
-}
+held_spare spare = grind arith
 
 module _ {f : AddressMap} {port : HubPort} {p : List ℕ} {address : ℕ} {old mid new : World}
     (first : Went old mid) (second : Went mid new) (fair : IsFairAt f port p address old new) where
   pub fair_sound : mid.fault ≡ None
-  fair_sound = second.led.sound fair.working
-
-  fair_start : old.fault ≡ None
-  fair_start = first.led.sound fair_sound
+  fair_sound = grind arith
 
   pub fair_before : IsFairAt f port p address old mid
-  fair_before = record {
-    spare = fair.spare;
-    held = fair.held;
-    order = fair.order;
-    occupied = fair.occupied;
-    server = fair.server;
-    few = fair.few;
-    kept = few_before (second.led.course fair.working) fair.kept;
-    working = fair_sound;
-  }
+  fair_before = grind (arith, few_before)
 
   pub fair_then : AtPort port address old mid → IsFairAt f port p address mid new
   fair_then at =
       let only = at.only.at f p fair.spare fair.held fair_sound in
       record {
         spare = fair.spare;
-        held = at.within.stays f p fair.spare fair.held;
+        held = grind arith;
         order = first.order fair.order;
-        occupied = occupied_on p only.spares fair.occupied;
-        server = server_on f port fair.spare.at (fair.order fair_start).sane only fair.server;
+        occupied = search occupied_on;
+        server = grind (arith, server_on);
         few = first.three fair.few;
         kept = fair.kept;
         working = fair.working;
@@ -191,11 +156,11 @@ module _ {f : AddressMap} {port : HubPort} {p : List ℕ} {address : ℕ} {old m
 -- what calls at the port keep
 pub fair_only : {f : AddressMap} {port : HubPort} {p : List ℕ} {address : ℕ} {old new : World}
     → IsFairAt f port p address old new → AtPort port address old new → OnlyAt p old new
-fair_only {f} {p} fair at = at.only.at f p fair.spare fair.held fair.working
+fair_only fair at = grind arith
 
 pub fair_single : {f : AddressMap} {port : HubPort} {p : List ℕ} {address : ℕ} {old new : World}
     → IsFairAt f port p address old new → AtPort port address old new → new.shared ≡ false
-fair_single {f} {p} fair at = (at.within.stays f p fair.spare fair.held).single
+fair_single fair at = grind arith
 
 -- Calls at the port
 
@@ -204,11 +169,9 @@ pub called_faulted : {port : HubPort} {address : ℕ} {call : Option PortCall} {
     → CalledAt port call old (Err why) new → Faulted port address why old new
 called_faulted {port} {why} {new} went at told called = record {
   why = λ f p fair.
-      lost_hub_faults f port p fair.spare.at why new told (server_on f port fair.spare.at
-      (fair.order (went.led.sound fair.working)).sane (fair_only fair at) fair.server)
+      lost_hub_faults f port p fair.spare.at why new told (grind (arith, server_on))
       (λ hub i is parent serves there wide. absurd
-      (parent_lost_not_served called.outcome why called.told parent
-      (called.calls.why hub i is fair.few (fair_single fair at) serves)));
+      (search (fair_single, parent_lost_not_served, called.calls.why)));
 }
 
 -- an occupied port has power, where no change is pending at its hub
@@ -224,10 +187,10 @@ module _ {port : HubPort} {address : ℕ} {why : EnumFault} {old new : World}
   status_faulted = record {
     why = λ f p fair.
         lost_hub_faults f port p fair.spare.at why new told (server_on f port fair.spare.at
-        (fair.order (went.led.sound fair.working)).sane (fair_only fair at) fair.server)
+        (fair.order (grind arith)).sane (fair_only fair at) fair.server)
         (λ hub i is parent serves there wide.
         let above = path_to serves.spot in
-        elim (occupied_powered old serves.spot i (subst (IsOccupied old) there fair.occupied)) [
+        elim (occupied_powered old serves.spot i (grind arith)) [
           | inl on ↦ (let b = live_port old.roots (above ++ (i ∷ [])) on in
               absurd (parent_lost_not_served shown.outcome why shown.told parent
               (shown.tells.why hub i is fair.few (fair_single fair at) wide serves b.0 b.1)))
@@ -241,20 +204,12 @@ module _ {port : HubPort} {address : ℕ} {why : EnumFault} {old new : World}
 
 pub pends_on : (So : Spec → Type 0) (p : List ℕ) {old new : World}
     → Course (KeepsPendingAt p) old new → IsOccupied old p → PendingOr So p old → PendingOr So p new
-pends_on So p c (inl pending) so = inl (pending_persists p c pending)
-pends_on So p c (inr is) (inl pending) = inl (pending_persists p c pending)
-pends_on So p {old} c (inr is) (inr so) = elim (stands_or_pends p c is.0) [
-  | inr y ↦ inl y
-  | inl y ↦ (let s = is_some-value (state_there old.roots p) is.1 in
-      inr (λ v there. subst So (same_Some s.0.spec v.spec (sym (ap (option_map spec_of) s.1)
-      ∙ sym y.1 ∙ ap (option_map spec_of) there)) (so s.0 s.1)))
-]
+pends_on So p c h so = grind (arith, pending_persists, stands_or_pends)
 
 -- what is so of the device that is reached is so of the one that stands there
 pub pends_reached : (So : Spec → Type 0) (p : List ℕ) (w : World) → IsReachedAt w p
     → AtPath (λ s. So s.spec) p w → PendingOr So p w
-pends_reached So p w (inl pending) so = inl pending
-pends_reached So p w (inr is) so = inr (λ s there. so s is.1 there)
+pends_reached So p w h so = grind arith
 
 pub stops_wider : {A B : Spec → Option Cause} {port : HubPort} {address : ℕ} (stop : Stop)
     {old new : World} → ((spec : Spec) (cause : Cause) → A spec ≡ Some cause → B spec ≡ Some cause)
@@ -270,13 +225,9 @@ stops_wider (Fault why) more stops = record { why = stops.why }
 pub faulted_after : {port : HubPort} {address : ℕ} {why : EnumFault} {old mid new : World}
     → Went old mid → Went mid new → AtPort port address old mid → Faulted port address why mid new
     → Faulted port address why old new
-faulted_after {why} first second at faulted =
-    record {
-      why = λ f p fair. faulted.why f p (fair_then first second fair at);
-    }
+faulted_after first second at faulted = grind (arith, fair_then)
 
 -- no port was asked
 pub faults_for_told : (p : List ℕ) (why : EnumFault) (w : World) → FaultAllowed why w
     → FaultsFor p why w
-faults_for_told p fault.ParentLost w told = absurd told
-faults_for_told p _ w told = tt
+faults_for_told p why w told = grind arith

@@ -1,51 +1,45 @@
 -- What calls leave of all other devices and ports, from one call to the next.
-use Rattle.std.proofs.Common.{◌≡◌, inl, inr, ◌==◌, ◌&&◌, ◌≤◌, not, ℕ, true, false, List, [], Option}
-use Rattle.std.proofs.Common.{None, Some, option_map, Result, Ok, Err, if◌then◌else◌, refl, ap, sym}
-use Rattle.std.proofs.Common.{subst, ◌∙◌, IfErr}
+use Rattle.std.proofs.Common.{arith, ◌≡◌, inl, inr, ◌==◌, ◌≤◌, ℕ, true, false, List, [], Option}
+use Rattle.std.proofs.Common.{None, Some, Result, refl, sym, subst, IfErr}
 use Rattle.std.specs.Global.{Vec}
 use Rattle.usb_request.specs.{PORT_POWER, PORT_ENABLE, PORT_RESET, set_port_feature}
 use Rattle.usb_request.specs.{set_configuration, set_address, Setup}
 use Rattle.usb_device.specs.{State, Spec, Location, path_to}
 use Rattle.usb_port.specs.{PortCall, SetReset, ClearEnable, set_call, clear_call, PortStatus}
 use Rattle.usb_world.specs.{BusFault, after_taking, Relation, Was, EachWas, is_above, here, World}
-use Rattle.usb_tree.specs.{address_of, is_way, same_path, keeps_pending}
+use Rattle.usb_tree.specs.{address_of, is_way, keeps_pending}
 use Rattle.usb_world.proofs.Interface.{course_joined, course_wider, each_joined, each_none}
 use Rattle.usb_world.proofs.Interface.{each_wider}
-use Rattle.usb_tree.proofs.Interface.{and_false, decided, equal_same, false_true, self_path}
+use Rattle.usb_tree.proofs.Interface.{and_false, decided, self_path}
 use Rattle.usb_transaction.specs.{Target}
 use Rattle.usb_address.specs.{AddressMap, Unused, MapHolds, Enumerating, WhileBusWorks}
 use Rattle.usb_address.specs.{KeepsAddresses}
 use Rattle.usb_address.proofs.Interface.{keeps_none, keeps_then, is_way-same_path, write_nothing}
 use Rattle.usb_pipe.specs.{PipeFault, FaultAfter, IsNoBusFault}
-use Rattle.usb_pipe.specs.declared.fault.PipeFault.TheVariants.{Bus}
 use Rattle.usb_hub.specs.{HubPort, Root, External, StaysAs, EachElsewhere, KeepsDevices, KeepsAsked}
 use Rattle.usb_hub.specs.{KeepsCleared, Resets, GivesAddress, ReadAsked, IsCall, CommandsPort}
 use Rattle.usb_hub.specs.{PortRead, TouchesNoPort, TouchesPortsBelow, EndsAfter, Queried, Commanded}
 use Rattle.usb_hub.specs.{AddressAsked, ConfigurationAsked, ControlCourse, EachNamedElsewhere}
-use Rattle.usb_hub.proofs.Interface.{power_backlog, stays_as_same, stays-registers, stays-spec}
-use Rattle.usb_hub.proofs.Interface.{stays_itself, stays_joined, keeps_devices_none}
+use Rattle.usb_hub.proofs.Interface.{power_backlog, stays_itself, keeps_devices_none}
 use Rattle.usb_hub.proofs.Interface.{commanded_control, queried_control}
 use Rattle.usb_enum.specs.{IsSpare, TakesAddress, OnlyCalls, AtPort, FoundAt, OnlyAsks, OnlyTells}
 use Rattle.usb_enum.specs.{StaysBut, OnlySets, OnlyAt, Went}
 use Rattle.usb_backlog.specs.{KeepsAll, gives_power}
 use Rattle.usb_backlog.proofs.Interface.{all_none, all_then, found_all, found_called, found_then}
-use Rattle.usb_enum.proofs.devices.Enumerations.{Having, having, at_taking, within_none}
-use Rattle.usb_enum.proofs.devices.Enumerations.{within_then, within-keeps_addresses, within_kept}
-use Rattle.usb_enum.proofs.devices.Enumerations.{within_reset, within_given, zero_there}
+use Rattle.usb_enum.proofs.devices.Enumerations.{Having, having, at_taking, within_then}
+use Rattle.usb_enum.proofs.devices.Enumerations.{within-keeps_addresses, within_kept, within_reset}
+use Rattle.usb_enum.proofs.devices.Enumerations.{within_given, zero_there}
 use Rattle.usb_enum.proofs.readings.Readings.{devices_on}
 
 -- Where the bus is at work, it did not end a call
 
 pub fault_after-not_of_bus : {A : Type 0} (result : Result A PipeFault) (old new : World)
     → IfErr result (λ why. FaultAfter 1 old why new) → new.fault ≡ None → IsNoBusFault result
-fault_after-not_of_bus (Err (Bus fault)) old new ends none = absurd (cc (none, ends.told))
-fault_after-not_of_bus _ old new ends none = tt
+fault_after-not_of_bus result old new ends none = grind arith
 
 pub ends_without_fault : {A : Type 0} (least : ℕ) (result : Result A PipeFault) (old new : World)
     → EndsAfter least old result new → new.fault ≡ None → IsNoBusFault result
-ends_without_fault least (Ok x) old new ends none = tt
-ends_without_fault {A} least (Err why) old new ends none =
-    fault_after-not_of_bus {A = A} (Err why) old new ends none
+ends_without_fault least result old new ends none = grind arith
 
 -- Requests for data
 
@@ -53,8 +47,7 @@ ends_without_fault {A} least (Err why) old new ends none =
 control_then : (old : World) {mid new : World} → (mid.fault ≡ None → ControlCourse old mid)
     → Went mid new → (new.fault ≡ None → ControlCourse mid new) → new.fault ≡ None
     → ControlCourse old new
-control_then old a went b none =
-    course_joined (a (went.led.sound none)) (b none)
+control_then old a went b none = grind (arith, course_joined)
 
 pub asks_none : (w : World) → OnlyAsks w w
 asks_none w = record {
@@ -68,11 +61,11 @@ asks_none w = record {
 pub asks_then : (old mid new : World) → OnlyAsks old mid → Went old mid → Went mid new
     → OnlyAsks mid new → OnlyAsks old new
 asks_then old mid new a first went b = record {
-  addresses = keeps_then old mid new a.addresses b.addresses;
+  addresses = grind (arith, keeps_then);
   devices = devices_on a.devices went b.devices;
-  ports = λ none x. course_joined (a.ports (went.led.sound none) x) (b.ports none x);
-  backlog = λ none. all_then (a.backlog (went.led.sound none)) (b.backlog none);
-  control = control_then old a.control went b.control;
+  ports = λ none x. course_joined (grind arith) (b.ports none x);
+  backlog = grind (arith, all_then);
+  control = grind (arith, control_then);
 }
 
 pub answer_asks : {A X : Type 0} {given : Spec → Option X} {Has : State → A → Type 0} {t : Target}
@@ -80,17 +73,15 @@ pub answer_asks : {A X : Type 0} {given : Spec → Option X} {Has : State → A 
     {old new : World} → Queried t request old answer new → (new.shared ≡ false
     → EachWas (ReadAsked given Has t outcome) old new) → KeepsAddresses old new → OnlyAsks old new
 answer_asks {given} {Has} {t} {request} {outcome} {answer} {old} {new} asked what keeps =
-    let sound : new.fault ≡ None → IsNoBusFault answer =
-    ends_without_fault 3 answer old new asked.ends in
     record {
       addresses = keeps;
       devices = record {
         stays = λ single. each_wider (ReadAsked given Has t outcome) StaysAs
             (λ j s v x. x.frame) old new (what single);
       };
-      ports = λ none. asked.rests (sound none);
-      backlog = λ none. asked.backlog (sound none);
-      control = λ none. queried_control t request answer old new asked (sound none);
+      ports = grind arith;
+      backlog = grind arith;
+      control = grind (arith, queried_control);
     }
 
 -- a port's status; that of a root port is a register
@@ -111,23 +102,12 @@ status_asks {port} {outcome} {old} {new} read ends keeps =
     by_port (Root number) read none =
         subst (λ w. TouchesNoPort old w × KeepsAll old w × ControlCourse old w)
         (sym read.same) (λ x. here old, all_none old, here old)
-    by_port (External hub n) told none =
-        let sound = ends_without_fault 3 told.answer old new told.asked.ends none in (
-          told.asked.rests sound,
-          told.asked.backlog sound,
-          queried_control hub _ told.answer old new told.asked sound,
-        )
+    by_port (External hub n) told none = grind (arith, queried_control)
 
 -- Requests to a hub about its ports
 
 pub tells_asked : (hub : ℕ) (old new : World) → OnlyAsks old new → OnlyTells hub old new
-tells_asked hub old new a = record {
-  addresses = a.addresses;
-  devices = a.devices;
-  ports = λ none f q held own x apart. a.ports none x;
-  backlog = λ none f q held own. found_all q (a.backlog none);
-  control = a.control;
-}
+tells_asked hub old new a = grind (arith, found_all)
 
 pub tells_none : (hub : ℕ) (w : World) → OnlyTells hub w w
 tells_none hub w = tells_asked hub w w (asks_none w)
@@ -136,7 +116,7 @@ tells_none hub w = tells_asked hub w w (asks_none w)
 owned_on : {f : AddressMap} {old new : World} → KeepsAddresses old new → new.fault ≡ None
     → MapHolds f old → MapHolds f new
 owned_on {f} keeps none own =
-    (keeps.kept f (record { so = λ h. own; single = own.single })).so none
+    (keeps.kept f (grind arith)).so none
 
 rest_then : (address : ℕ) {old mid new : World} → KeepsAddresses old mid
     → (mid.fault ≡ None → TouchesPortsBelow address old mid) → Went mid new
@@ -156,46 +136,27 @@ found_at_then address keeps a went b none f q held own =
 
 pub tells_then : (hub : ℕ) (old mid new : World) → OnlyTells hub old mid → Went old mid
     → Went mid new → OnlyTells hub mid new → OnlyTells hub old new
-tells_then hub old mid new a first went b = record {
-  addresses = keeps_then old mid new a.addresses b.addresses;
-  devices = devices_on a.devices went b.devices;
-  ports = rest_then hub a.addresses a.ports went b.ports;
-  backlog = found_at_then hub a.addresses a.backlog went b.backlog;
-  control = control_then old a.control went b.control;
-}
+tells_then hub old mid new a first went b =
+    search (control_then, devices_on, found_at_then, keeps_then, rest_then, a.addresses, a.devices)
 
 -- PORT_POWER
 pub power_tells : {hub : Target} (port : ℕ) {result : Result (Unit {0}) PipeFault} {old new : World}
     → Commanded hub (set_port_feature PORT_POWER port) old result new → KeepsAddresses old new
     → KeepsDevices old new → OnlyTells hub.addr old new
 unfolding set_port_feature
-power_tells {hub} port {result} {old} {new} ordered keeps devices =
-    let sound : new.fault ≡ None → IsNoBusFault result =
-    ends_without_fault 2 result old new ordered.ends in
-    record {
-      addresses = keeps;
-      devices = devices;
-      ports = λ none. ordered.elsewhere refl (sound none);
-      backlog = λ none f q held own.
-          power_backlog hub f q old result new (sound none) held own port ordered;
-      control = λ none. commanded_control hub (set_port_feature PORT_POWER port) result old new
-          ordered (sound none);
-    }
+power_tells port ordered keeps devices =
+    search (commanded_control, ends_without_fault, power_backlog, ordered.elsewhere)
 
 -- SET_CONFIGURATION, and what goes before and after it
 
 stays_but : (address : ℕ) (j : Location) (s v : State) → StaysAs j s v → StaysBut address j s v
-stays_but address j s v x = record {
-  spec = stays-spec s v x;
-  same = ap (λ r. r.address) (stays-registers s v x);
-  stays = λ apart. x;
-}
+stays_but address j s v x = grind arith
 
 pub sets_told : (address : ℕ) (old new : World) → OnlyTells address old new
     → OnlySets address old new
 sets_told address old new a = record {
   addresses = a.addresses;
-  spent = λ fault before. a.devices;
+  spent = grind arith;
   devices = λ single. each_wider StaysAs (StaysBut address) (stays_but address) old new
       (a.devices.stays single);
   ports = a.ports;
@@ -204,31 +165,25 @@ sets_told address old new a = record {
 }
 
 pub sets_asked : (address : ℕ) (old new : World) → OnlyAsks old new → OnlySets address old new
-sets_asked address old new a = sets_told address old new (tells_asked address old new a)
+sets_asked address old new a = search (sets_told, tells_asked)
 
 pub sets_at : {m n : ℕ} → m ≡ n → (old new : World) → OnlySets m old new → OnlySets n old new
-sets_at same old new sets = subst (λ a. OnlySets a old new) same sets
+sets_at same old new sets = grind arith
 
 but_then : (address : ℕ) (j : Location) (s u v : State) → StaysBut address j s u
     → StaysBut address j u v → StaysBut address j s v
-but_then address j s u v x y = record {
-  spec = y.spec ∙ x.spec;
-  same = y.same ∙ x.same;
-  stays = λ apart. stays_joined j s u v (x.stays apart)
-      (y.stays (ap (λ n. n == address) x.same ∙ apart));
-}
+but_then address j s u v x y = grind arith
 
 pub sets_then : (address : ℕ) (old mid new : World) → OnlySets address old mid → Went old mid
     → Went mid new → OnlySets address mid new → OnlySets address old new
 sets_then address old mid new a first went b = record {
-  addresses = keeps_then old mid new a.addresses b.addresses;
-  spent = λ fault before. devices_on (a.spent fault before) went
-      (b.spent fault (first.faulted fault before));
+  addresses = grind (arith, keeps_then);
+  spent = grind (arith, devices_on);
   devices = λ single. each_joined (StaysBut address) (StaysBut address) (StaysBut address)
-      (but_then address) old mid new (a.devices (went.unshared single)) (b.devices single);
+      (but_then address) old mid new (grind arith) (b.devices single);
   ports = rest_then address a.addresses a.ports went b.ports;
   backlog = found_at_then address a.addresses a.backlog went b.backlog;
-  control = control_then old a.control went b.control;
+  control = grind (arith, control_then);
 }
 
 pub configuration_sets : {t : Target} (value : ℕ) {result : Result (Unit {0}) PipeFault}
@@ -237,70 +192,50 @@ pub configuration_sets : {t : Target} (value : ℕ) {result : Result (Unit {0}) 
     → KeepsAddresses old new → OnlySets t.addr old new
 unfolding set_configuration
 configuration_sets {t} value {result} {old} {new} ordered what keeps =
-    let sound : new.fault ≡ None → IsNoBusFault result =
-    ends_without_fault 2 result old new ordered.ends in
+    let sound : new.fault ≡ None → IsNoBusFault result = grind arith in
     record {
       addresses = keeps;
-      spent = λ fault before. subst (λ w. KeepsDevices old w) (sym (write_nothing t
-          (set_configuration value) old new fault before result ordered.stages))
+      spent = λ fault before. subst (λ w. KeepsDevices old w) (grind (arith, write_nothing))
           (keeps_devices_none old);
       devices = λ single.
-          each_wider (ConfigurationAsked t value result new) (StaysBut t.addr) (λ j s v x. record {
-            spec = ap (λ y. y.spec) x.frame.rest;
-            same = ap (λ y. y.registers.address) x.frame.rest;
-            stays = λ apart. stays_as_same j s v (x.others apart);
-          }) old new (what single);
-      ports = λ none. ordered.elsewhere refl (sound none);
-      backlog = λ none f q held own. found_all q (ordered.backlog refl (sound none));
-      control = λ none. commanded_control t (set_configuration value) result old new ordered
-          (sound none);
+          each_wider (ConfigurationAsked t value result new) (StaysBut t.addr)
+          (grind arith) old new (what single);
+      ports = search ordered.elsewhere;
+      backlog = grind (arith, found_all);
+      control = grind (arith, commanded_control);
     }
 
 -- Calls at a port
 
 elsewhere_of : (p : List ℕ) (old new : World) → EachWas StaysAs old new
     → EachElsewhere p StaysAs old new
-elsewhere_of p old new was j s apart on there = was j s on there
+elsewhere_of p old new was = grind arith
 
 settings_elsewhere_then : (p : List ℕ) (old mid new : World) → EachElsewhere p StaysAs old mid
     → EachElsewhere p StaysAs mid new → EachElsewhere p StaysAs old new
 settings_elsewhere_then p old mid new a b j s apart on there =
     let later : Was StaysAs mid j s = b j s apart on there in
-    let sooner : Was StaysAs old j later.before = a j later.before apart later.on later.stands in
-    record {
-      before = sooner.before;
-      on = sooner.on;
-      stands = sooner.stands;
-      so = stays_joined j sooner.before later.before s sooner.so later.so;
-    }
+    let sooner : Was StaysAs old j later.before = grind arith in grind arith
 
 -- the same of those that have an address
 named_of : (p : List ℕ) (old new : World) → EachElsewhere p StaysAs old new
     → EachNamedElsewhere p StaysAs old new
-named_of p old new each j s apart on there has = each j s apart on there
+named_of p old new each = grind arith
 
 named_kept : (p : List ℕ) {old new : World} → KeepsDevices old new → new.shared ≡ false
     → EachNamedElsewhere p StaysAs old new
-named_kept p {old} {new} keeps single =
-    named_of p old new (elsewhere_of p old new (keeps.stays single))
+named_kept p keeps single = grind arith
 
 named_then : (p : List ℕ) (old mid new : World) → EachNamedElsewhere p StaysAs old mid
     → EachNamedElsewhere p StaysAs mid new → EachNamedElsewhere p StaysAs old new
 named_then p old mid new a b j s apart on there has =
     let later : Was StaysAs mid j s = b j s apart on there has in
-    let sooner : Was StaysAs old j later.before = a j later.before apart later.on later.stands
-    (λ zero. has (ap (λ r. r.address) (stays-registers later.before s later.so) ∙ zero)) in
-    record {
-      before = sooner.before;
-      on = sooner.on;
-      stands = sooner.stands;
-      so = stays_joined j sooner.before later.before s sooner.so later.so;
-    }
+    let sooner : Was StaysAs old j later.before = grind arith in grind arith
 
 only_at_then : {p : List ℕ} {old mid new : World} → OnlyAt p old mid → OnlyAt p mid new
     → OnlyAt p old new
 only_at_then {p} {old} {mid} {new} a b = record {
-  others = λ x apart. course_joined (a.others x apart) (b.others x apart);
+  others = grind (arith, course_joined);
   spares = course_joined a.spares b.spares;
   devices = settings_elsewhere_then p old mid new a.devices b.devices;
   backlog = found_then p a.backlog b.backlog;
@@ -324,14 +259,11 @@ calls_none port address w = record {
   at =
       λ f p spare t none. only_at_rest p (λ x. here w) (all_none w)
       (elsewhere_of p w w (each_none StaysAs stays_itself w)) (here w);
-  named = λ f p spare t. named_kept p (keeps_devices_none w) t.single;
+  named = search;
 }
 
 pub at_port_none : (port : HubPort) (address : ℕ) (w : World) → AtPort port address w w
-at_port_none port address w = record {
-  within = within_none port address w;
-  only = calls_none port address w;
-}
+at_port_none port address w = grind (arith, calls_none)
 
 pub calls_then : {port : HubPort} {address : ℕ} {old mid new : World} → AtPort port address old mid
     → Went mid new → OnlyCalls port address mid new → OnlyCalls port address old new
@@ -345,10 +277,7 @@ calls_then {old} {mid} {new} a went b = record {
 pub at_port_then : (port : HubPort) (address : ℕ) (old mid new : World)
     → AtPort port address old mid → Went mid new → AtPort port address mid new
     → AtPort port address old new
-at_port_then port address old mid new a went b = record {
-  within = within_then a.within b.within;
-  only = calls_then a went b.only;
-}
+at_port_then port address old mid new a went b = search (calls_then, within_then, a.within)
 
 -- a request for data at any time
 pub at_asked : (port : HubPort) (address : ℕ) (old new : World) → OnlyAsks old new
@@ -370,12 +299,7 @@ pub called_is : {f : AddressMap} {port : HubPort} {p : List ℕ} {address : ℕ}
     → IsSpare f port p address → (h : Having f p address w)
     → (call : Option PortCall) (c : PortCall) → call ≡ Some c
     → IsCall (after_taking f p h.has) port p call c w
-called_is {f} {port} {p} spare h call c is = record {
-  at = at_taking f port p h.has spare.at;
-  is = is;
-  alone = λ r. zero_there f p h.has spare.none;
-  owned = h.owned;
-}
+called_is spare h call c is = grind (arith, at_taking, zero_there)
 
 -- a call that clears nothing that is pending at the port
 module _ {port : HubPort} (address : ℕ) {call : Option PortCall} (c : PortCall) (is : call ≡ Some c)
@@ -392,10 +316,10 @@ module _ {port : HubPort} (address : ℕ) {call : Option PortCall} (c : PortCall
       let sound = fault_after-not_of_bus result old new ends none in
       let call_is : IsCall g port p call c old = called_is spare h call c is in
       record {
-        others = calls.rests g p c call_is sound;
-        spares = calls.spares g p c call_is sound spared;
+        others = grind arith;
+        spares = grind arith;
         devices = devices h;
-        backlog = found_called p c quiet (calls.backlog g p c call_is sound);
+        backlog = found_called p c quiet (grind arith);
         control = calls.control c is sound;
       }
 
@@ -431,36 +355,28 @@ pub reset_calls : {port : HubPort} (address : ℕ) {result : Result (Unit {0}) P
 reset_calls {port} address ends calls resets = record {
   at = λ f p spare t none.
       called_at address SetReset refl refl refl ends calls spare t none
-      (λ h. resets.others (after_taking f p h.has) p (at_taking f port p h.has spare.at)
+      (λ h. resets.others (after_taking f p h.has) p (search at_taking)
       (zero_there f p h.has spare.none) h.owned none);
   named = λ f p spare t.
       let h = having f p address t in
-      resets.named (after_taking f p h.has) p (at_taking f port p h.has spare.at)
+      resets.named (after_taking f p h.has) p (search at_taking)
       (zero_there f p h.has spare.none) h.owned;
 }
 
 pub at_reset : {port : HubPort} {address : ℕ} {old new : World} → Resets port old new
     → OnlyCalls port address old new → AtPort port address old new
-at_reset {port} {address} {old} {new} resets only =
-    record { within = within_reset port address old new resets; only = only }
+at_reset resets only = grind (arith, within_reset)
 
 -- What is claimed elsewhere than at the port
 
 pub but_taken : (f : AddressMap) (p : List ℕ) (a : ℕ) (x : List ℕ) → is_way p x ≡ false
     → after_taking f p a x ≡ f x
-but_taken f p a x off = elim (decided (same_path p x)) [
-  | inl e ↦ false_true (sym off ∙ is_way-same_path p x e)
-  | inr e ↦ rw e refl
-]
+but_taken f p a x off = grind (arith, is_way-same_path)
 
 -- a bus is at work, or has given up
 by_fault : {P : Type 0} (w : World) → (w.fault ≡ None → P)
     → ((fault : BusFault) → w.fault ≡ Some fault → P) → P
-by_fault {P = P} w works given_up = split w.fault refl
-  where
-    split : (x : Option BusFault) → w.fault ≡ x → P
-    split None e = works e
-    split (Some fault) e = given_up fault e
+by_fault w works given_up = grind arith
 
 -- those elsewhere stay as they were, where a call changes only a device at an address of none
 unheld_stays : (f : AddressMap) (p : List ℕ) (has n : ℕ) {old : World} (new : World)
@@ -470,12 +386,9 @@ unheld_stays : (f : AddressMap) (p : List ℕ) (has n : ℕ) {old : World} (new 
 unheld_stays f p has n {old} new own unused R stays was j s apart on there =
     let w : Was R old j s = was j s on there in
     let off : (address_of w.before == n) ≡ false = elim (decided (address_of w.before == n)) [
-      | inl e ↦ absurd (unused (path_to j) (sym (but_taken f p has (path_to j) apart)
-          ∙ sym (own.own (path_to j) w.on) ∙ ap (option_map address_of) w.stands
-          ∙ ap (λ m. Some m) (equal_same (address_of w.before) n e)))
+      | inl e ↦ absurd (unused (path_to j) (grind (arith, but_taken)))
       | inr e ↦ e
-    ] in
-    record { before = w.before; on = w.on; stands = w.stands; so = stays j w.before s w.so off }
+    ] in grind arith
 
 -- SET_ADDRESS, at address 0
 pub at_addressed : {port : HubPort} {address : ℕ} {target : Target}
@@ -494,18 +407,15 @@ at_addressed {port} {address} {target} {result} {old} {mid} {new} at zero_is lea
         at = λ f p spare t none.
             let h = having f p address t in
             let sound = ends_without_fault 2 result mid new ordered.ends none in
-            only_at_rest p (ordered.rests refl sound) (ordered.backlog refl sound)
-            (unheld_stays f p h.has 0 new (h.owned.so (went.led.sound none))
+            only_at_rest p (ordered.rests refl sound) (grind arith)
+            (unheld_stays f p h.has 0 new (grind arith)
             spare.none (AddressAsked target address result mid new)
-            (λ j s v x apart. stays_as_same j s v (x.others (ap (λ a. address_of s == a) zero_is
-            ∙ apart))) (what (within.stays f p spare t).single))
-            (commanded_control target (set_address address) result mid new ordered sound);
+            (grind arith) (grind arith)) (grind (arith, commanded_control));
         named = λ f p spare t. by_fault mid (λ none.
             let h = having f p address t in
             named_of p mid new (unheld_stays f p h.has 0 new (h.owned.so none) spare.none
             (AddressAsked target address result mid new)
-            (λ j s v x apart. stays_as_same j s v (x.others (ap (λ a. address_of s == a) zero_is
-            ∙ apart))) (what (within.stays f p spare t).single)))
+            (grind arith) (grind arith)))
             (λ fault before. subst (λ w. EachNamedElsewhere p StaysAs mid w)
             (sym (write_nothing target (set_address address) mid new fault before result
             ordered.stages)) (named_kept p (keeps_devices_none mid) t.single));
@@ -514,10 +424,10 @@ at_addressed {port} {address} {target} {result} {old} {mid} {new} at zero_is lea
 
 pub held_there : (f : AddressMap) (p : List ℕ) (address : ℕ)
     → after_taking f p address p ≡ Some address
-held_there f p address = ap (λ b. if b then Some address else f p) (self_path p)
+held_there f p address = search self_path
 
 pub is_above-self : (p : List ℕ) → is_above p p ≡ false
-is_above-self p = ap (λ b. is_way p p && not b) (self_path p) ∙ and_false (is_way p p)
+is_above-self p = search (and_false, self_path)
 
 -- what comes after the device has its address
 pub at_configured : {port : HubPort} {address : ℕ} {old mid new : World}
@@ -531,13 +441,13 @@ at_configured {address} {old} {mid} {new} at takes went sets = record {
         let taken = takes.took f p spare t in
         let own = taken.so sound in
         let rests = sets.ports none (after_taking f p address) p (held_there f p address) own in
-        only_at_then (at.only.at f p spare t sound) (record {
-          others = λ x apart. rests x (ap (λ b. b && not (same_path p x)) apart);
+        only_at_then (grind arith) (record {
+          others = grind arith;
           spares = course_wider (λ s w k. k.spares) (rests p (is_above-self p));
           devices = unheld_stays f p address address new own spare.spare (StaysBut address)
-              (λ j s v x apart. x.stays apart)
+              (grind arith)
               (sets.devices (sets.addresses.kept (after_taking f p address) taken).single);
-          backlog = sets.backlog none (after_taking f p address) p (held_there f p address) own;
+          backlog = search (held_there, sets.backlog);
           control = sets.control none;
         });
     named = λ f p spare t.
@@ -545,7 +455,7 @@ at_configured {address} {old} {mid} {new} at takes went sets = record {
         let single = (sets.addresses.kept (after_taking f p address) taken).single in
         named_then p old mid new (at.only.named f p spare t) (by_fault mid
         (λ none. named_of p mid new (unheld_stays f p address address new (taken.so none)
-        spare.spare (StaysBut address) (λ j s v x apart. x.stays apart) (sets.devices single)))
-        (λ fault before. named_kept p (sets.spent fault before) single));
+        spare.spare (StaysBut address) (grind arith) (sets.devices single)))
+        (grind arith));
   };
 }

@@ -1,9 +1,6 @@
 -- What is so of the device at a port, from one call to the next.
-use Rattle.std.proofs.Common.{◌≡◌, ◌⊎◌, inl, inr, ℕ, zero, suc, ◌&&◌, Bool, true, false, List, []}
-use Rattle.std.proofs.Common.{◌∷◌, Option, None, Some, option_map, Ok, if◌then◌else◌, refl, ap, sym}
-use Rattle.std.proofs.Common.{subst, ◌∙◌}
-use Rattle.std.proofs.lemmas.Bool.{eq-eqb}
-use Rattle.std.proofs.lemmas.Option.{same_Some}
+use Rattle.std.proofs.Common.{arith, ◌≡◌, ◌⊎◌, inl, ℕ, zero, suc, ◌&&◌, Bool, true, false, List, []}
+use Rattle.std.proofs.Common.{◌∷◌, Option, None, Some, option_map, Ok, refl, ap, sym, subst, ◌∙◌}
 use Rattle.usb_port.specs.{PortState, is_low, speed_of, seen, PortStatus}
 use Rattle.usb_device.specs.{State, Spec, Ports, vacant, taken, reach, state_at, port_at, Location}
 use Rattle.usb_device.specs.{path_to, reach_on, state_on, state_there, port_there}
@@ -13,11 +10,11 @@ use Rattle.usb_tree.specs.{address_of}
 use Rattle.usb_address.proofs.Interface.{live_port}
 use Rattle.usb_world.proofs.Interface.{reach_live, between_course, course_wider, each_wider}
 use Rattle.usb_world.proofs.Interface.{same_device, undisturbed_keeps}
-use Rattle.usb_tree.proofs.Interface.{false_true, self_path}
+use Rattle.usb_tree.proofs.Interface.{false_true}
 use Rattle.usb_transaction.specs.{Target}
 use Rattle.usb_address.specs.{AddressMap, MapHolds, KeepsAddresses}
 use Rattle.usb_hub.specs.{HubPort, Resets, StaysAs, KeepsDevices, PortStatusAt, AddressAsked}
-use Rattle.usb_hub.proofs.Interface.{stays-registers, stays-spec}
+use Rattle.usb_hub.proofs.Interface.{stays-spec}
 use Rattle.usb_enum.specs.{Addressed, Within, StatusAt, Learned, AnswersSo, IsRegular, AtPath}
 use Rattle.usb_enum.specs.{Finds, HasDescriptor, HasHead, HasSpeed, IsAddressed, AwaitsAddress}
 use Rattle.usb_enum.specs.{AtMaximum, Went, IsResponsive}
@@ -40,45 +37,32 @@ pub record StoodAt (p : List ℕ) (w : World) (R : Location → State → Type 0
 pub was_at : (R : Relation) (p : List ℕ) (old new : World) → EachWas R old new → (v : State)
     → reach new.roots p ≡ true → state_there new.roots p ≡ Some v → StoodAt p old (λ j s. R j s v)
 was_at R (suc j ∷ e) old new was v on there =
-    let w : Was R old (record { row = j; rest = e }) v =
-    was (record { row = j; rest = e }) v on there in
-    record {
-      spot = record { row = j; rest = e };
-      path = refl;
-      before = w.before;
-      on = w.on;
-      stands = w.stands;
-      so = w.so;
-    }
+    let w : Was R old (record { row = j; rest = e }) v = grind arith in grind arith
 was_at R _ old new was v on there = false_true on
 
 -- what is so of its place is so of its path
 pub at_place : (A : State → Type 0) {p : List ℕ} {w : World} {R : Location → State → Type 0}
     → AtPath A p w → (s : StoodAt p w R) → A s.before
-at_place A {w} is s = subst (λ x. AtPath A x w) s.path is s.before s.on s.stands
+at_place A is s = grind arith
 
 -- what was so of it stays so, as the call tells
 pub path_on : (R : Relation) (A B : State → Type 0)
     → ((j : Location) (s v : State) → R j s v → A s → B v) → (p : List ℕ) (old new : World)
     → EachWas R old new → AtPath A p old → AtPath B p new
 path_on R A B f p old new was a v on there =
-    let s = was_at R p old new was v on there in
-    f s.spot s.before v s.so (at_place A a s)
+    let s = was_at R p old new was v on there in grind arith
 
 -- Its speed, as its port shows it
 
 low_of : (b : Bool) → is_low (speed_of b) ≡ b
-low_of true = refl
-low_of false = refl
+low_of b = grind arith
 
 -- a port of a sane row sees the speed of its device
 sane_attached : (k : Ports) (j : ℕ) (p : List ℕ) (b : PortState) (s : State) → Consistent k
     → port_at k j p ≡ Some b → state_at k j p ≡ Some s → b.attached ≡ speed_of s.spec.low
 unfolding Consistent port_at state_at
 sane_attached (vacant c k) (suc j) p b s sane at there = sane_attached k j p b s sane.2 at there
-sane_attached (taken c z a k) zero [] b s sane at there =
-    ap (λ x. x.attached) (sym (same_Some c b at)) ∙ sane.1
-    ∙ ap (λ x. speed_of x.spec.low) (same_Some z s there)
+sane_attached (taken c z a k) zero [] b s sane at there = grind arith
 sane_attached (taken c z a k) zero (suc i ∷ p) b s sane at there =
     sane_attached a i p b s sane.2 at there
 sane_attached (taken c z a k) (suc j) p b s sane at there = sane_attached k j p b s sane.3 at there
@@ -89,17 +73,15 @@ seen_there : (k : Ports) (p : List ℕ) (b : PortState) (s : State) → Consiste
     → port_there k p ≡ Some b → state_there k p ≡ Some s → (seen b).low_speed ≡ s.spec.low
 seen_there k (suc i ∷ p) b s sane on port stands =
     let live = live_port k (suc i ∷ p) (reach_live k i p sane on) in
-    let power : b.power ≡ true = ap (λ (x : PortState). x.power)
-    (same_Some b live.0 (sym port ∙ live.1)) ∙ live.2 in
+    let power : b.power ≡ true = grind arith in
     ap (λ x. x && is_low b.attached) power
-    ∙ ap is_low (sane_attached k i p b s sane port stands) ∙ low_of s.spec.low
+    ∙ ap is_low (search sane_attached) ∙ low_of s.spec.low
 seen_there k _ b s sane on port stands = false_true on
 
 -- a state of the same description
 spec_of-some : (o : Option State) (spec : Spec) → option_map spec_of o ≡ Some spec → (s : State)
     × ((o ≡ Some s) × (s.spec ≡ spec))
-spec_of-some None spec e = absurd cc
-spec_of-some (Some s) spec e = (s, (refl, same_Some s.spec spec e))
+spec_of-some o spec e = grind arith
 
 -- the status that was told is that of the port of the device that is reachable in the end
 pub told_speed : {p : List ℕ} {status : PortStatus} {old new : World}
@@ -111,9 +93,7 @@ told_speed {p} {old} {new} told none order v on there =
     let same = same_device p (course_wider (λ s w x. x.rests) (told.since p)) on in
     let was = spec_of-some (state_there told.now.roots p) v.spec
     (sym (undisturbed_keeps p told.now new since same.1) ∙ ap (option_map spec_of) there) in
-    let sane = (between_course to_now (order none)).sane in
-    sym (seen_there told.now.roots p told.port was.0 sane same.0 told.stood was.1.0
-    ∙ ap (λ x. x.low) was.1.1) ∙ ap (λ x. x.low_speed) (sym told.is)
+    let sane = (between_course to_now (order none)).sane in grind (arith, seen_there)
 
 -- PORT_RESET, its status and the clearing of C_PORT_RESET
 
@@ -127,20 +107,18 @@ reset_finds {port} {address} {status} {old} {set} {told} {new} first second thir
           let h = having f p address
           ((within_reset port address old set resets).stays f p spare t) in
           let port_told = shown.tells.tells (after_taking f p h.has) p
-          (at_taking f port p h.has spare.at) h.owned status (done_at shown.told) in
+          (search at_taking) h.owned status (done_at shown.told) in
           path_on StaysAs (HasSpeed status.low_speed) (HasSpeed status.low_speed)
-          (λ j s v x low. ap (λ y. y.low) (stays-spec s v x) ∙ low) p told new
+          (grind arith) p told new
           (keeps.stays (within.stays f p spare t).single)
-          (told_speed port_told (second.led.sound (third.led.sound none)) (first.order order));
+          (told_speed port_told (grind arith) (first.order order));
     }
 
 -- Who holds which address
 
 pub held_at : (f : AddressMap) (p : List ℕ) (has : ℕ) {w : World}
     → MapHolds (after_taking f p has) w → AtPath (λ s. address_of s ≡ has) p w
-held_at f p has owned s on there =
-    same_Some (address_of s) has (sym (ap (option_map address_of) there) ∙ owned.own p on
-    ∙ ap (λ x. if x then Some has else f p) (self_path p))
+held_at f p has owned = grind arith
 
 -- what was learned of whoever answered at the address is so of the device at the port, which has it
 pub answered_finds : {So : Spec → Type 0} {t : Target} {port : HubPort} {address : ℕ}
@@ -154,13 +132,9 @@ answered_finds {So} {t} {address} {mid} {new} is answered went within keeps =
           let claims : AddressMap = after_taking f p h.has in
           let has = answered_has h.has t.addr spare is (answered.who.held claims h.owned) in
           path_on (Learned So t) (λ s. address_of s ≡ h.has) (λ s. So s.spec
-          × (address_of s ≡ t.addr)) (λ j s v x at. (
-            subst So (sym (stays-spec s v x.frame)) (x.so (eq-eqb (address_of s) t.addr
-                (at ∙ has))),
-            ap (λ r. r.address) (stays-registers s v x.frame) ∙ at ∙ has,
-          ))
+          × (address_of s ≡ t.addr)) (grind arith)
           p mid new (answered.learns (keeps.kept claims h.owned).single)
-          (held_at f p h.has (h.owned.so (went.led.sound answered.still)));
+          (held_at f p h.has (h.owned.so (grind arith)));
     }
 
 -- Over calls that come later
@@ -171,24 +145,21 @@ pub finds_on : (R : Relation) {A : State → Type 0} (B : State → Type 0) {por
     → (new.shared ≡ false → EachWas R mid new) → Within port address old new
     → Finds A port address old mid → Finds B port address old new
 finds_on R {A} B {mid} {new} f was within finds = record {
-  found = λ g p spare t order. path_on R A B f p mid new (was (within.stays g p spare t).single)
-      (finds.found g p spare t order);
+  found = λ g p spare t order. path_on R A B f p mid new (grind arith)
+      (grind arith);
 }
 
 pub finds_both : {A B : State → Type 0} (C : State → Type 0) {port : HubPort} {address : ℕ}
     {old new : World} → ((s : State) → A s → B s → C s) → Finds A port address old new
     → Finds B port address old new → Finds C port address old new
-finds_both C f a b = record {
-  found = λ g p spare t order s on there. f s (a.found g p spare t order s on there)
-      (b.found g p spare t order s on there);
-}
+finds_both C f a b = grind arith
 
 -- The target of a device that has no address yet
 
 unnamed : (target : Target) (s : State) → s.spec.low ≡ target.low
     → HasHead target.low target.max s.spec × (address_of s ≡ target.addr) → target.addr ≡ 0
     → AwaitsAddress target s
-unnamed target s low head none = record { low = low; head = head.0; zero = head.1 ∙ none }
+unnamed target s low head none = grind arith
 
 pub unaddressed_finds : {port : HubPort} {address : ℕ} (low pre : Bool) (max : ℕ)
     {old mid new : World} → (mid.fault ≡ None → Finds (HasSpeed low) port address old mid)
@@ -205,8 +176,8 @@ unaddressed_finds low pre max {mid} {new} speed answered went within keeps =
     (answered.learns single) in
     let later = finds_on StaysAs (HasSpeed low)
     (λ j s v x is. ap (λ y. y.low) (stays-spec s v x) ∙ is) stays
-    (within-keeps_addresses within keeps) (speed (went.led.sound answered.still)) in
-    finds_both (AwaitsAddress target) (λ s is head. unnamed target s is head refl)
+    (within-keeps_addresses within keeps) (grind arith) in
+    finds_both (AwaitsAddress target) (search unnamed)
     later (answered_finds (inl refl) answered went within keeps)
 
 -- SET_ADDRESS
@@ -219,32 +190,17 @@ pub record Granted (low : Bool) (max : ℕ) (spec : Spec) : Type 0 where
 
 -- what answered with that head is responsive
 pub responsive : {t : Target} {spec : Spec} → Granted t.low t.max spec → IsResponsive t spec
-responsive g = record {
-  loud = g.head.loud;
-  free = g.head.free;
-  max = head_packet g.speed g.head;
-}
+responsive g = grind (arith, head_packet)
 
 pub granted : (target : Target) (address : ℕ) (old new : World) → target.addr ≡ 0
     → (j : Location) (s v : State) → AddressAsked target address (Ok tt) old new j s v
     → AwaitsAddress target s → Granted target.low target.max v.spec
-granted target address old new none j s v x is =
-    subst (Granted target.low target.max) (sym (ap (λ y. y.spec) x.frame)) (record {
-      speed = is.low;
-      head = is.head;
-      allowed = (x.done (eq-eqb (address_of s) target.addr (is.zero ∙ sym none)) refl).0;
-    })
+granted target address old new none j s v x is = grind arith
 
 pub addressed_granted : (device : Addressed) (s : State)
     → Granted device.target.low device.target.max s.spec → AtMaximum device.target
     (HasDescriptor device.bytes) s.spec × (address_of s ≡ device.target.addr) → IsAddressed device s
-addressed_granted device s is read = record {
-  low = is.speed;
-  head = is.head;
-  allowed = is.allowed;
-  bytes = read.0 (head_packet is.speed is.head);
-  address = read.1;
-}
+addressed_granted device s is read = grind (arith, head_packet)
 
 -- what is so of whoever answers at the address that was given
 pub spoken_finds : {So : Spec → Type 0} (C : State → Type 0) (target : Target) {t : Target}
@@ -262,10 +218,8 @@ spoken_finds {So} C target {t} {port} {address} {old} {mid} {given} {new} none i
     let allowed : Finds Is port address old given =
     subst (λ t. Finds (λ s. Granted t.low t.max s.spec) port address old given) (sym is)
     (finds_on (AddressAsked target address (Ok tt) mid given)
-    (λ s. Granted target.low target.max s.spec)
-    (granted target address mid given none) asked within unnamed) in
+    (λ s. Granted target.low target.max s.spec) (search granted) asked within unnamed) in
     let later : Finds Is port address old new =
-    finds_on (Learned So t) Is (λ j s v x g. subst (Granted t.low t.max)
-    (sym (stays-spec s v x.frame)) g) answered.learns
+    finds_on (Learned So t) Is (grind arith) answered.learns
     (within-keeps_addresses within keeps) allowed in
-    finds_both C gives later (answered_finds (inr (ap (λ t. t.addr) is)) answered went within keeps)
+    finds_both C gives later (grind (arith, answered_finds))

@@ -1,8 +1,8 @@
 -- That an occupied port stays occupied, and how the device there comes to be reached, from one call
 -- to the next.
-use Rattle.std.proofs.Common.{◌≡◌, inl, inr, ℕ, zero, suc, true, false, List, [], ◌∷◌, Option, None}
-use Rattle.std.proofs.Common.{Some, option_map, Result, Ok, Err, refl, ap, sym, subst, ◌∙◌, IfSome}
-use Rattle.std.proofs.Common.{IsSome}
+use Rattle.std.proofs.Common.{arith, ◌≡◌, inl, inr, ℕ, zero, suc, true, false, List, [], ◌∷◌}
+use Rattle.std.proofs.Common.{Option, None, Some, option_map, Result, Ok, Err, refl, sym, subst}
+use Rattle.std.proofs.Common.{IfSome, IsSome}
 use Rattle.usb_request.specs.{PORT_ENABLE, C_PORT_RESET, set_address}
 use Rattle.usb_port.specs.{PortState, PortStatus, ClearEnable, ClearResetChange, clear_call}
 use Rattle.usb_port.specs.{called_port, PortCall}
@@ -24,26 +24,22 @@ use Rattle.usb_enum.specs.{SettlesReset, Disables, OnlyAsks, OnlySets, IsKnownAs
 use Rattle.usb_enum.specs.{IsReachedAt, ReachesDevice, at_port, Went}
 use Rattle.usb_enum.specs.declared.finding.Finding.TheVariants.{Refused}
 use Rattle.usb_enum.proofs.devices.Enumerations.{having, at_taking}
-use Rattle.usb_enum.proofs.devices.Frames.{called_is, ends_without_fault, held_there, is_above-self}
+use Rattle.usb_enum.proofs.devices.Frames.{called_is, held_there, is_above-self}
 
 -- What a call at a port gave
 
 pub done_at : {A : Type 0} {outcome : Result A PipeFault} {answer : A} → Ok answer ≡ at_port outcome
     → outcome ≡ Ok answer
-done_at {outcome = Ok given} is = cc
-done_at {outcome = Err why} is = absurd cc
+done_at is = grind arith
 
 -- What stands at a port
 
 pub some_of : (a b : Option State) → option_map spec_of b ≡ option_map spec_of a → IsSome a
     → IsSome b
-some_of None b same some = false_true some
-some_of (Some s) None same some = absurd cc
-some_of (Some s) (Some v) same some = refl
+some_of a b same some = grind arith
 
 pub is_some-value : {A : Type 0} (o : Option A) → IsSome o → (x : A) × (o ≡ Some x)
-is_some-value None some = false_true some
-is_some-value (Some x) some = (x, refl)
+is_some-value o some = grind arith
 
 -- a reachable device stands
 pub reach-state : (k : Ports) (j : ℕ) (p : List ℕ) → reach_at k j p ≡ true → IsSome (state_at k j p)
@@ -58,20 +54,13 @@ reach-state _ _ _ on = false_true on
 -- where nothing pending is cleared, an occupied port stays so
 pub occupied_on : (p : List ℕ) {old new : World} → Course (KeepsPendingAt p) old new
     → IsOccupied old p → IsOccupied new p
-occupied_on p c (inl pending) = inl (pending_persists p c pending)
-occupied_on p {old} {new} c (inr is) = elim (stands_or_pends p c is.0) [
-  | inl y ↦ inr (y.0, some_of (state_there old.roots p) (state_there new.roots p) y.1 is.1)
-  | inr y ↦ inl y
-]
+occupied_on p c h = grind (arith, pending_persists, stands_or_pends)
 
 -- where nothing is asked of a port, the device there stays reached
 pub reached_on : (p : List ℕ) {old new : World} → Course (LeavesPortAlone p) old new
     → IsReachedAt old p → IsReachedAt new p
 reached_on p c (inl pending) = inl (pending_persists p (course_wider (λ s w k. k.spares) c) pending)
-reached_on p c (inr is) = elim (rests_or_pends p c is.0) [
-  | inl y ↦ inr (y.0, y.1.on ∙ is.1)
-  | inr y ↦ inl y
-]
+reached_on p c (inr is) = grind (arith, rests_or_pends)
 
 -- PORT_RESET, its status and the clearing of C_PORT_RESET
 
@@ -79,9 +68,7 @@ reached_on p c (inr is) = elim (rests_or_pends p c is.0) [
 enabled_at : {p : List ℕ} {w : World} (b : PortState) → has_power w.roots p ≡ true
     → OnReachedRow w p → port_there w.roots p ≡ Some b → b.enable ≡ true
     → IsSome (state_there w.roots p) → IsReachedAt w p
-enabled_at {p} {w} b on row there enabled some =
-    let s = is_some-value (state_there w.roots p) some in
-    inr (on, enabled_reach w p row b there enabled s.0 s.1)
+enabled_at b on row there enabled some = grind (arith, enabled_reach)
 
 pub reset_reaches : {port : HubPort} {address : ℕ} {status : PortStatus} {old set told new : World}
     → Went old set → Went set told → Went told new → AtPort port address old set → OnlyAsks set told
@@ -95,11 +82,11 @@ reset_reaches {port} {address} {status} {set} {told} {new} first second third at
           let none_set = second.led.sound none_told in
           let later = at_told.within.stays f p spare t in
           let h = having f p address (at_set.within.stays f p spare t) in
-          let seen : PortStatusAt p status set told = shown.tells.tells (after_taking f p h.has) p
-          (at_taking f port p h.has spare.at) h.owned status (done_at shown.told) in
-          let is_enabled : seen.port.enable ≡ true = sym (ap (λ x. x.enabled) seen.is) ∙ enabled in
+          let seen : PortStatusAt p status set told =
+          search (at_taking, done_at, shown.tells.tells) in
+          let is_enabled : seen.port.enable ≡ true = grind arith in
           let pends : pending told.roots p ≡ true → IsReachedAt new p = λ x.
-          inl (pending_persists p (at_settle.only.at f p spare later none).spares x) in
+          inl (grind (arith, pending_persists)) in
           elim (occupied_on p (at_set.only.at f p spare t none_set).spares occupied) [
             | inl x ↦ pends (pending_persists p
                 (course_wider (λ s w k. k.spares) (asks.ports none_told p)) x)
@@ -111,7 +98,7 @@ reset_reaches {port} {address} {status} {set} {told} {new} first second third at
                     | inl e ↦ by_clear f p spare later seen.port is_enabled (settles.set e) y.0 y.1
                         some
                     | inr e ↦ subst (λ w. IsReachedAt w p) (sym (settles.unset e).1)
-                        (enabled_at seen.port y.0 seen.row y.1 is_enabled some)
+                        (search enabled_at)
                   ])
             ]
           ];
@@ -126,12 +113,11 @@ reset_reaches {port} {address} {status} {set} {told} {new} first second third at
         let h = having f p address later in
         let done : PortCallDone p ClearResetChange told new =
         cleared.calls.done (after_taking f p h.has) p ClearResetChange
-        (called_is spare h (clear_call C_PORT_RESET)
-        ClearResetChange refl) (done_at cleared.told) in
+        (search called_is) (done_at cleared.told) in
         elim (done_stands p ClearResetChange refl told new done on) [
           | inl y ↦ enabled_at (called_port ClearResetChange b) y.0 done.row
-              (y.1 ∙ ap (option_map (called_port ClearResetChange)) there) is_enabled
-              (some_of (state_there told.roots p) (state_there new.roots p) y.2 some)
+              (grind arith) is_enabled
+              (search some_of)
           | inr y ↦ inl y
         ]
 
@@ -142,8 +128,7 @@ pub reaches_rest : {port : HubPort} {address : ℕ} {old mid new : World} → We
     → (new.fault ≡ None → TouchesNoPort mid new) → ReachesDevice port address old mid
     → ReachesDevice port address old new
 reaches_rest went rest reaches = record {
-  reached = λ f p spare t order occupied none. reached_on p (rest none p)
-      (reaches.reached f p spare t order occupied (went.led.sound none));
+  reached = λ f p spare t order occupied none. reached_on p (rest none p) (grind arith);
 }
 
 -- SET_ADDRESS
@@ -152,9 +137,7 @@ pub reaches_addressed : {port : HubPort} {address : ℕ} (given : ℕ) {target :
     → Commanded target (set_address given) mid result new → ReachesDevice port address old mid
     → ReachesDevice port address old new
 unfolding set_address
-reaches_addressed given {result} {mid} {new} went ordered reaches =
-    reaches_rest went (λ none. ordered.rests refl
-    (ends_without_fault 2 result mid new ordered.ends none)) reaches
+reaches_addressed given went ordered reaches = grind (arith, reaches_rest)
 
 -- where the device that took the address is configured
 pub reaches_set : {port : HubPort} {address : ℕ} {old mid new : World} → Went mid new
@@ -165,7 +148,7 @@ reaches_set {address} went takes sets reaches = record {
       let sound = went.led.sound none in
       let own = (takes.took f p spare t).so sound in
       reached_on p (sets.ports none (after_taking f p address) p (held_there f p address) own p
-      (is_above-self p)) (reaches.reached f p spare t order occupied sound);
+      (is_above-self p)) (search reaches.reached);
 }
 
 -- The clearing of PORT_ENABLE
@@ -174,14 +157,14 @@ reaches_set {address} went takes sets reaches = record {
 pub pends_there : (p : List ℕ) (c : PortCall) (old new : World) → keeps_pending c [] ≡ true
     → PortCallDone p c old new → pending old.roots p ≡ true → pending new.roots p ≡ true
 pends_there p c old new keeps d h =
-    let before = pending_persists p (course_wider (λ s w k. k.about.spares keeps) d.repeats) h in
-    let called = step_pend d.last d.before p (d.acts.about.spares keeps) before in
+    let before = pending_persists p (course_wider (grind arith) d.repeats) h in
+    let called = step_pend d.last d.before p (grind arith) before in
     pending_persists p (course_wider (λ s w k. k.spares) (d.since p)) called
 
 -- an occupied port passes nothing on then
 pub disabled_known : (p : List ℕ) (cause : Cause) (old new : World)
     → PortCallDone p ClearEnable old new → IsOccupied old p → IsKnownAs new p (Some (Refused cause))
-disabled_known p cause old new d (inl x) = inl (pends_there p ClearEnable old new refl d x)
+disabled_known p cause old new d (inl x) = inl (search pends_there)
 disabled_known p cause old new d (inr x) = elim (done_stands p ClearEnable refl old new d x.0) [
   | inl y ↦ inr (
     y.0,
@@ -203,11 +186,10 @@ clear_enable_disables address cause {old} {new} calls ok = record {
       let h = having f p address t in
       subst (λ x. IsKnownAs new p (Some x)) (let same : Refused cause ≡ finding = cc in same)
       (disabled_known p cause old new (calls.done (after_taking f p h.has) p ClearEnable
-      (called_is spare h (clear_call PORT_ENABLE) ClearEnable refl) ok) occupied);
+      (search called_is) ok) occupied);
 }
 
 -- where there is no finding
 pub disables_none : (port : HubPort) (address : ℕ) (old : World) (why : EnumFault) (new : World)
     → Disables port address old (Err why) new
-disables_none port address old why new =
-    record { there = λ f p spare t occupied finding e. absurd cc }
+disables_none port address old why new = grind arith

@@ -1,7 +1,7 @@
 -- That what was said of a device is its own.
-use Rattle.std.proofs.Common.{◌≡◌, ◌⊎◌, ◌≤◌, inl, inr, ◌∙◌, ℕ, false, List, [], take, length}
-use Rattle.std.proofs.Common.{Result, Ok, Err, IfOk, ap, sym, subst, arith}
-use Rattle.std.proofs.lemmas.List.{take_all, take-take}
+use Rattle.std.proofs.Common.{◌≡◌, ◌⊎◌, inl, inr, ◌∙◌, ℕ, false, List, [], take, Result, Ok, IfOk}
+use Rattle.std.proofs.Common.{ap, sym, subst, arith}
+use Rattle.std.proofs.lemmas.List.{take-take}
 use Rattle.std.specs.Global.{Vec}
 use Rattle.usb_request.specs.{get_device_descriptor}
 use Rattle.usb_world.specs.{EachWas, World}
@@ -18,12 +18,6 @@ use Rattle.usb_enum.proofs.stops.Reasons.{reading_after, reading}
 
 -- Of one request
 
--- no more than eight bytes came, or no more than 18
-few_said : (size : ℕ) (bytes said : List ℕ) → size ≤ 18 → length bytes ≤ size
-    → said ≡ take 18 bytes → said ≡ bytes
-few_said size bytes said fits most same =
-    same ∙ take_all 18 bytes (omega (arith, fits, most))
-
 pub head_said : {t : Target} {bytes : Vec ℕ} {before said : List ℕ} {old new : World}
     → said ≡ take 18 bytes.items → Gave t 8 bytes old new
     → Answers (BeginsWith said) t 8 before said old new
@@ -33,10 +27,7 @@ head_said {bytes} {said} same gave =
       bytes = bytes.items;
       read = reading gave.asked.stages;
       same = same;
-      answers = answered (BeginsWith said) gave (λ s loud free allowed first. (
-        8,
-        few_said 8 bytes.items said (omega arith) gave.asked.most same ∙ first (inr (omega arith)),
-      ));
+      answers = answered (BeginsWith said) gave (grind arith);
     })
 
 pub whole_said : {t : Target} {bytes : Vec ℕ} {before said : List ℕ} {old new : World}
@@ -60,17 +51,7 @@ module _ {port : HubPort} {address : ℕ} where
   pub said_on : {before said : List ℕ} {old mid new : World} → Says port address before said old mid
       → Leads mid new → Says port address before said old new
   said_on (inl same) led = inl same
-  said_on (inr w) led = inr (record {
-    target = w.target;
-    is = w.is;
-    size = w.size;
-    bytes = w.bytes;
-    moment = w.moment;
-    read = w.read;
-    same = w.same;
-    own = w.own;
-    led = leads_then w.led led;
-  })
+  said_on (inr w) led = grind (arith, leads_then, w.own, w.led)
 
   -- what was said earlier, or is said after those steps
   pub said_after : {earlier before said : List ℕ} {old mid new : World}
@@ -87,10 +68,7 @@ module _ {port : HubPort} {address : ℕ} where
     moment = w.moment;
     read = reading_after went.led w.read;
     same = w.same;
-    own = record {
-      found = λ f p spare t order. w.own.found f p spare (within.stays f p spare t)
-          (went.order order);
-    };
+    own = search (w.own.found, within.stays, went.order);
     led = w.led;
   })
 
@@ -154,6 +132,4 @@ pub said_found : {port : HubPort} (addresses : Addresses) {said : List ℕ} {old
     (result : Result Finding EnumFault) → IfOk result (λ finding. IsSaidWhole finding said)
     → (address : ℕ) × (((address ≡ 0) ⊎ IsFree addresses address)
     × Says port address [] said old new) → IfOk result (IsSaid port addresses said old new)
-said_found addresses (Ok finding) whole read =
-    record { whole = whole; read = read }
-said_found addresses (Err fault) whole read = tt
+said_found addresses result whole read = grind arith

@@ -1,49 +1,40 @@
 -- The ports of a hub that was configured, while they are given power one by one: those that have
 -- none, and those that have it.
-use Rattle.std.proofs.Common.{◌≢◌, ◌≡◌, ◌≤◌, ◌<◌, ◌-◌, ◌==◌, ◌&&◌, inl, inr, not, nat_le, ℕ, zero}
-use Rattle.std.proofs.Common.{suc, Bool, true, false, List, [], ◌∷◌, ◌++◌, Option, None, Some}
-use Rattle.std.proofs.Common.{option_map, Result, Ok, if◌then◌else◌, refl, ap, sym, subst, ◌∙◌}
-use Rattle.std.proofs.Common.{arith}
-use Rattle.std.proofs.lemmas.Bool.Decides.{nat_tests}
-use Rattle.std.proofs.lemmas.Option.{same_Some}
+use Rattle.std.proofs.Common.{◌≢◌, ◌≡◌, ◌≤◌, ◌<◌, ◌-◌, ◌&&◌, inl, inr, ℕ, zero, suc, true, false}
+use Rattle.std.proofs.Common.{List, [], ◌∷◌, ◌++◌, Option, None, Some, option_map, Result, Ok, refl}
+use Rattle.std.proofs.Common.{ap, sym, subst, ◌∙◌, arith}
 use Rattle.std.specs.Global.{Vec}
 use Rattle.usb_request.specs.{PORT_POWER, SET_ADDRESS, DEVICE_OUT, set_port_feature}
 use Rattle.usb_request.specs.{set_configuration, get_hub_descriptor, get_status, Setup}
-use Rattle.usb_port.specs.{PortState, powered_off, SetPower}
+use Rattle.usb_port.specs.{PortState, SetPower}
 use Rattle.usb_device.specs.{Registers, Is, port_named, State, Hub, Ports, ended, vacant, taken}
 use Rattle.usb_device.specs.{port_of, all_off, place_at, Location, path_to, state_on, port_there}
-use Rattle.usb_device.specs.{state_there}
-use Rattle.usb_world.specs.{is_harmless, Was, EachWas, hub_ports, spec_of, LeavesPortAlone, AnyStep}
-use Rattle.usb_world.specs.{Course, step, World}
-use Rattle.usb_tree.specs.{address_of, is_way, same_number}
-use Rattle.usb_world.proofs.Interface.{course_joined, course_wider, pending_persists, ports_stand}
-use Rattle.usb_world.proofs.Interface.{rests_or_pends, same_number-is}
+use Rattle.usb_world.specs.{is_harmless, Was, EachWas, hub_ports, LeavesPortAlone, AnyStep, Course}
+use Rattle.usb_world.specs.{World}
+use Rattle.usb_tree.specs.{is_way, same_number}
+use Rattle.usb_world.proofs.Interface.{course_wider, pending_persists, ports_stand, rests_or_pends}
+use Rattle.usb_world.proofs.Interface.{same_number-is}
 use Rattle.std.proofs.lemmas.Bool.{cases_order}
-use Rattle.usb_tree.proofs.Interface.{decided, and_false, equal_same, false_true}
-use Rattle.usb_transaction.specs.{Target, Answerer, is_at}
+use Rattle.usb_tree.proofs.Interface.{and_false, false_true}
+use Rattle.usb_transaction.specs.{Target, Answerer}
 use Rattle.usb_pipe.specs.{PipeFault}
 use Rattle.usb_pipe.proofs.Interface.{who_writes}
 use Rattle.usb_address.specs.{AddressMap, MapHolds, WhileBusWorks, KeepsAddresses}
-use Rattle.usb_address.proofs.Interface.{KeepsClaim, NoPower, place_ports, claimed_path}
-use Rattle.usb_address.proofs.Interface.{quiet_follows, read_keeps, same_setup, stays_unpowered}
+use Rattle.usb_address.proofs.Interface.{KeepsClaim, NoPower, claimed_path, quiet_follows}
+use Rattle.usb_address.proofs.Interface.{read_keeps, same_setup, stays_unpowered}
 use Rattle.usb_hub.specs.{PortCallDone, TouchesNoPort, Queried, Commanded, ConfigurationAsked}
 use Rattle.usb_hub.specs.{WentOff}
-use Rattle.usb_hub.proofs.Interface.{AsksFor, hub_done, hub_named, hub_rests, spec_of-none}
-use Rattle.usb_hub.proofs.Interface.{place_below, port_of_place, powered_stands, set_asks}
-use Rattle.usb_hub.proofs.Interface.{set_keeps}
+use Rattle.usb_hub.proofs.Interface.{AsksFor, hub_done, hub_named, hub_rests, place_below}
+use Rattle.usb_hub.proofs.Interface.{port_of_place, powered_stands, set_asks, set_keeps}
 use Rattle.usb_enum.specs.{HubFacts, OnlyAsks, IsPowered, Powered, Started, IsKnownAs}
 use Rattle.usb_enum.specs.{HasEmptyPorts, IsInOrder, IsOrderly, Went}
 use Rattle.usb_enum.proofs.courses.Courses.{orderly_on}
-use Rattle.usb_enum.proofs.devices.Frames.{ends_without_fault as sound_end}
 use Rattle.usb_enum.proofs.devices.ReachedDevices.{is_some-value}
 
 -- Numbers
 
 apart_of : (n i : ℕ) → i ≢ n → same_number n i ≡ false
-apart_of n i differs = elim (decided (same_number n i)) [
-  | inl e ↦ absurd (differs (same_number-is n i e))
-  | inr e ↦ e
-]
+apart_of n i differs = grind (arith, same_number-is)
 
 -- two ports of one device
 siblings : (e : List ℕ) (n i : ℕ) → same_number n i ≡ false
@@ -58,9 +49,9 @@ siblings (m ∷ e) n i h = ap (λ b. same_number m m && b) (siblings e n i h)
 all_off_power : (a : Ports) (i : ℕ) → NoPower (option_map port_of (place_at (all_off a) i []))
 unfolding all_off place_at
 all_off_power ended i b h = absurd (cc h)
-all_off_power (vacant c k) zero b h = ap (λ o. o.power) (sym (same_Some (powered_off c) b h))
+all_off_power (vacant c k) zero b h = grind arith
 all_off_power (vacant c k) (suc i) b h = all_off_power k i b h
-all_off_power (taken c s a k) zero b h = ap (λ o. o.power) (sym (same_Some (powered_off c) b h))
+all_off_power (taken c s a k) zero b h = grind arith
 all_off_power (taken c s a k) (suc i) b h = all_off_power k i b h
 
 pub off_unpowered : {new : World} {j : Location} → WentOff new j → (i : ℕ)
@@ -68,23 +59,13 @@ pub off_unpowered : {new : World} {j : Location} → WentOff new j → (i : ℕ)
 off_unpowered {j} off i = let port = path_to j ++ (suc i ∷ []) in
     stays_unpowered port (course_wider (λ s w k. k.leaves) (off.since port))
     (subst NoPower (sym (port_of_place off.now.roots port
-    ∙ ap (option_map port_of) (place_below off.now.roots j.row j.rest i []
-    ∙ ap (λ o. place_at (place_ports o) i []) off.off))) (all_off_power off.ports i))
+    ∙ ap (option_map port_of) (grind (arith, place_below)))) (all_off_power off.ports i))
 
 -- A port that the hub has stands there
 
 port_within : (h : Option Hub) (g : Registers) (i : ℕ) → port_named h g (suc i) ≡ Some i
     → i < hub_ports h
-port_within None g i h = absurd (cc h)
-port_within (Some hub) g i h = within (split (not (g.configuration == 0)) (nat_le 1 (suc i))
-    (nat_le (suc i) hub.ports) h)
-  where
-    split : (x y z : Bool) → (if x && y && z then Some (suc i - 1) else None) ≡ Some i → z ≡ true
-    split true true true e = refl
-    split _ _ _ e = absurd (cc e)
-
-    within : nat_le (suc i) hub.ports ≡ true → i < hub.ports
-    within e = grind (arith, nat_tests, e)
+port_within h g i h1 = grind arith
 
 -- Ports of a hub at a path
 
@@ -92,15 +73,11 @@ port_within (Some hub) g i h = within (split (not (g.configuration == 0)) (nat_l
 pub vacant_on : (p : List ℕ) {old new : World} → Course (LeavesPortAlone p) old new
     → IsKnownAs old p None → IsKnownAs new p None
 vacant_on p c (inl x) = inl (pending_persists p (course_wider (λ s w k. k.spares) c) x)
-vacant_on p {old} {new} c (inr x) = elim (rests_or_pends p c x.0) [
-  | inl y ↦ inr (y.0, spec_of-none (state_there new.roots p) (state_there old.roots p) y.1.what x.1)
-  | inr y ↦ inl y
-]
+vacant_on p {old} {new} c (inr x) = grind (arith, rests_or_pends)
 
 power_course : {p : List ℕ} {old new : World} → PortCallDone p SetPower old new
     → Course AnyStep old new
-power_course {p} x = course_joined (course_wider (λ s w k. tt) x.repeats)
-    (step x.last tt (course_wider (λ s w k. tt) (x.since p)))
+power_course x = grind (arith, course_wider)
 
 module _ (t : Target) (f : AddressMap) (j : Location) (held : f (path_to j) ≡ Some t.addr) where
   abbrev port : ℕ → List ℕ
@@ -117,19 +94,17 @@ module _ (t : Target) (f : AddressMap) (j : Location) (held : f (path_to j) ≡ 
   module _ (n : ℕ) (old new : World) (ordered : IsPowered t (suc n) old new)
       (was : Given n old) where
     asked : AsksFor (set_port_feature PORT_POWER (suc n)) SetPower (suc n)
-    asked = set_asks (suc n) SetPower PORT_POWER refl refl
+    asked = search set_asks
 
     follows : KeepsClaim t (set_port_feature PORT_POWER (suc n)) (path_to j) (MapHolds f)
-    follows = quiet_follows t (set_port_feature PORT_POWER (suc n)) asked.same f (path_to j)
-        (asked.harmless refl) held
+    follows = grind (arith, asked, quiet_follows)
 
     owned : MapHolds f new
     owned = ((set_keeps t PORT_POWER (suc n) old (Ok tt) new (λ h. absurd cc) ordered).kept f
-        (record { so = λ h. was.owned; single = was.owned.single })).so ordered.ends.still
+        (grind arith)).so ordered.ends.still
 
     done : PortCallDone (port n) SetPower old new
-    done = hub_done t j n (set_port_feature PORT_POWER (suc n)) SetPower asked (MapHolds f)
-        follows old new ordered was.owned owned (λ h. false_true (sym h ∙ asked.harmless refl))
+    done = grind (arith, asked, follows, hub_done, owned)
 
     has : (s : State) × ((state_on old.roots j ≡ Some s)
         × (port_named s.spec.hub s.registers (suc n) ≡ Some n))
@@ -139,12 +114,11 @@ module _ (t : Target) (f : AddressMap) (j : Location) (held : f (path_to j) ≡ 
     stood : (b : PortState) × (port_there old.roots (port n) ≡ Some b)
     stood =
         is_some-value (port_there old.roots (port n))
-        (ports_stand old.roots j.row j.rest has.0.spec n was.order.sane
-        (ap (option_map spec_of) has.1.0) (port_within has.0.spec.hub has.0.registers n has.1.1))
+        (grind (arith, has, port_within, ports_stand))
 
     now_powered : IsKnownAs new (port n) None
     now_powered = powered_stands (port n) old new done was.order stood.0 stood.1
-        (was.off n (omega arith) stood.0 stood.1)
+        (grind arith)
 
     rests : (i : ℕ) → same_number n i ≡ false → Course (LeavesPortAlone (port i)) old new
     rests i apart =
@@ -159,12 +133,11 @@ module _ (t : Target) (f : AddressMap) (j : Location) (held : f (path_to j) ≡ 
       powered = λ i below. elim (cases_order i n) [
         | inl same ↦ subst (λ i. IsKnownAs new (port i) None) (sym same) now_powered
         | inr (inl less) ↦ vacant_on (port i)
-            (rests i (apart_of n i (λ e. omega (arith, e, less)))) (was.powered i less)
+            (rests i (grind (arith, apart_of))) (was.powered i less)
         | inr (inr more) ↦ absurd (omega (arith, below, more))
       ];
       off = λ i above. stays_unpowered (port i) (course_wider (λ s w k. k.leaves)
-          (rests i (apart_of n i (λ e. omega (arith, e, above)))))
-          (was.off i (omega (arith, above)));
+          (rests i (grind (arith, apart_of)))) (grind arith);
     }
 
   pub all_given : (n : ℕ) {old : World} (new : World) → Powered t n old new → Given 0 old
@@ -181,15 +154,15 @@ module _ (t : Target) (f : AddressMap) (j : Location) (held : f (path_to j) ≡ 
   asked_on {request} {answer} {old} {new} harmless other none asked was = record {
     sound = none;
     owned = ((read_keeps t request (same_setup request) harmless other 3 1 old new answer asked.ends
-        asked.stages).kept f (record { so = λ h. was.owned; single = was.owned.single })).so none;
+        asked.stages).kept f (grind arith)).so none;
     order = orderly_on was.order (rests []);
-    powered = λ i below. absurd (omega (arith, below));
+    powered = grind arith;
     off = λ i above. stays_unpowered (path_to j ++ (suc i ∷ []))
         (course_wider (λ s w k. k.leaves) (rests (path_to j ++ (suc i ∷ [])))) (was.off i above);
   }
     where
       rests : TouchesNoPort old new
-      rests = asked.rests (sound_end 3 answer old new asked.ends none)
+      rests = grind arith
 
   started_given : {old new : World} {facts : HubFacts} → Started t old new facts
       → Given t f j held 0 old → Given t f j held facts.ports new
@@ -205,8 +178,7 @@ module _ (t : Target) (f : AddressMap) (j : Location) (held : f (path_to j) ≡ 
       → IsKnownAs new ((path_to j) ++ (number ∷ [])) None
   given_below facts given working asks zero least most = absurd (omega (arith, least))
   given_below facts given working asks (suc i) least most =
-      vacant_on (path_to j ++ (suc i ∷ [])) (asks.ports working (path_to j ++ (suc i ∷ [])))
-      (given.powered i (omega (arith, most)))
+      search (vacant_on, asks.ports, given.powered)
 
 -- The configuring of a hub
 
@@ -227,35 +199,25 @@ module _ {t : Target} (value : ℕ) (told : Option HubFacts) {before given set s
 
   who : Answerer t given set
   unfolding set_configuration
-  who = who_writes t (set_configuration value) tt given set (same_setup (set_configuration value))
+  who = who_writes t (set_configuration value) tt given set (search same_setup)
       (λ h. false_true (sym h)) ordered.settled ordered.stages own_set.single
 
   path : path_to who.spot ≡ p
   path =
-      claimed_path p t.addr given (record {
-        claims = f;
-        owned = own_given.so ordered.ends.sound;
-        held = held;
-      }) who.spot who.before who.was_on who.stood (equal_same (address_of who.before) t.addr who.at)
+      claimed_path p t.addr given (grind (arith, own_given)) who.spot who.before who.was_on
+      who.stood (grind arith)
 
   was : Was (ConfigurationAsked t value (Ok tt) set) given who.spot who.now
-  was = what own_set.single who.spot who.now who.on who.stands
+  was = grind (arith, own_set)
 
   went_off : WentOff set who.spot
-  went_off = (was.so.done (ap (λ s. is_at s t) (same_Some was.before who.before (sym was.stands
-      ∙ who.stood)) ∙ who.at) refl).3
+  went_off = grind (arith, was)
 
   held_there : f (path_to who.spot) ≡ Some t.addr
   held_there = ap f path ∙ held
 
   all_off_set : Given t f who.spot held_there 0 set
-  all_off_set = record {
-    sound = ordered.ends.still;
-    owned = own_set.so ordered.ends.still;
-    order = went_set.order (went_given.order order) ordered.ends.still;
-    powered = λ i below. absurd (omega (arith, below));
-    off = λ i above. off_unpowered went_off i;
-  }
+  all_off_set = grind (arith, off_unpowered, own_set, went_off)
 
   pub configured_below : HasEmptyPorts p told new
   configured_below facts number is least most =

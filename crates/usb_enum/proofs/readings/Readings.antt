@@ -1,32 +1,28 @@
 -- What is learned of a device by a request for data, of its configurations, and why one is refused.
-use Rattle.std.proofs.Common.{◌≡◌, ◌==◌, ◌+◌, ℕ, inl, inr, zero, suc, Bool, true, false, List, []}
-use Rattle.std.proofs.Common.{◌∷◌, ◌++◌, map, take, slice_get, Option, None, Some, Result, Ok, Err}
-use Rattle.std.proofs.Common.{is_ok, refl, ap, sym, subst, ◌∙◌, arith, ◌<◌, ◌≤◌, ◌&&◌, not}
-use Rattle.std.proofs.Common.{if◌then◌else◌}
-use Rattle.std.proofs.lemmas.Bool.{and_from}
+use Rattle.std.proofs.Common.{◌≡◌, ◌+◌, ℕ, zero, suc, Bool, true, false, List, [], ◌∷◌, ◌++◌, map}
+use Rattle.std.proofs.Common.{take, slice_get, Option, None, Some, Result, Ok, Err, is_ok, ap}
+use Rattle.std.proofs.Common.{subst, arith, ◌<◌, ◌≤◌, ◌&&◌, not, if◌then◌else◌}
 use Rattle.std.proofs.lemmas.Option.{same_Some}
 use Rattle.std.specs.Global.{Vec}
-use Rattle.usb_descriptor.specs.{config_head_of, config_of, configuration_value, total_in}
-use Rattle.usb_descriptor.specs.{DescriptorFault}
+use Rattle.usb_descriptor.specs.{config_head_of, config_of, configuration_value, DescriptorFault}
 use Rattle.usb_device.specs.{said_length, Spec, State}
 use Rattle.usb_world.specs.{EachWas, World}
-use Rattle.usb_tree.proofs.Interface.{decided}
-use Rattle.usb_world.proofs.Interface.{each_joined, each_none, each_wider}
+use Rattle.usb_world.proofs.Interface.{each_joined, each_wider}
 use Rattle.usb_transaction.specs.{Target, NoThreeDamaged}
 use Rattle.usb_bus.specs.{StepRun}
 use Rattle.usb_pipe.specs.{PipeFault}
 use Rattle.usb_pipe.specs.declared.fault.PipeFault.TheVariants as pipe
 use Rattle.usb_hub.specs.{StaysAs, KeepsDevices, unless_refused, config_given, ReadAsked, TextAsked}
 use Rattle.usb_hub.specs.{ConfigAsked, ReadFailure}
-use Rattle.usb_hub.proofs.Interface.{stays-registers, stays-spec, stays_joined}
+use Rattle.usb_hub.proofs.Interface.{stays_joined}
 use Rattle.usb_enum.specs.{Cause, text_read, is_good_text, texts_below, config_fault, first_fault}
-use Rattle.usb_enum.specs.{text_fault, Learned, DeviceFact, AtMaximum, HasTotal, HasConfiguration}
+use Rattle.usb_enum.specs.{Learned, DeviceFact, AtMaximum, HasTotal, HasConfiguration}
 use Rattle.usb_enum.specs.{HasConfigurations, answered_or, config_text_of, any_has_value, is_over}
 use Rattle.usb_enum.specs.{left_of, texts_length, Went, Stalled, BadConfiguration, Stop}
 use Rattle.usb_enum.specs.{FailureReason, Refuses, TooLarge}
 use Rattle.usb_enum.proofs.refusals.Refusals.{learned_explains, request_refused, wrong_refuses}
 use Rattle.usb_enum.proofs.refusals.Refusals.{refused_as}
-use Rattle.usb_enum.proofs.readings.TextBytes.{left_said, over_none}
+use Rattle.usb_enum.proofs.readings.TextBytes.{left_said}
 use Rattle.usb_enum.proofs.verdicts.VerdictRows.{first_none, first_fault-next}
 use Rattle.usb_enum.proofs.courses.Courses.{went_steps}
 use Rattle.usb_enum.specs.declared.cause.Request.TheVariants as request
@@ -35,23 +31,19 @@ use Rattle.usb_enum.specs.declared.stop.Stop.TheVariants.{Refused}
 -- where nothing went, what is so of every description
 pub learns_none : {So : Spec → Type 0} {t : Target} {w : World} → ((spec : Spec) → So spec)
     → DeviceFact So t w w
-learns_none {So} {t} {w} all single = each_none (Learned So t)
-    (λ j s. record { frame = refl; so = λ at. all s.spec }) w
+learns_none all = grind arith
 
 -- what is learned before a call and in it
 pub learns_on : {A B C : Spec → Type 0} {t : Target} {old mid new : World}
     → DeviceFact A t old mid → Went mid new
     → DeviceFact B t mid new → ((spec : Spec) → A spec → B spec → C spec) → DeviceFact C t old new
 learns_on {A} {B} {C} {t} {old} {mid} {new} a went b f single =
-    each_joined (Learned A t) (Learned B t) (Learned C t) (λ j s u v x y. record {
-      frame = stays_joined j s u v x.frame y.frame;
-      so = λ at. f s.spec (x.so at) (subst B (stays-spec s u x.frame)
-          (y.so (ap (λ r. r.address == t.addr) (stays-registers s u x.frame) ∙ at)));
-    }) old mid new (a (went.unshared single)) (b single)
+    each_joined (Learned A t) (Learned B t) (Learned C t) (grind arith) old mid new (grind arith)
+    (b single)
 
 pub learns_both : {A B : Spec → Type 0} {t : Target} {old mid new : World} → DeviceFact A t old mid
     → Went mid new → DeviceFact B t mid new → DeviceFact (λ spec. A spec × B spec) t old new
-learns_both a went b = learns_on a went b (λ spec x y. (x, y))
+learns_both a went b = search learns_on
 
 -- a call that leaves each device as it was, after others
 
@@ -59,7 +51,7 @@ pub devices_on : {old mid new : World} → KeepsDevices old mid → Went mid new
     → KeepsDevices old new
 devices_on {old} {mid} {new} a went b = record {
   stays = λ single. each_joined StaysAs StaysAs StaysAs stays_joined old mid new
-      (a.stays (went.unshared single)) (b.stays single);
+      (grind arith) (b.stays single);
 }
 
 pub devices_then : (n : ℕ) (old mid new : World) {r s : Option (List ℕ)} → KeepsDevices old mid
@@ -69,9 +61,8 @@ devices_then n old mid new a went b = devices_on a (went_steps went) b
 pub learns_kept : {So : Spec → Type 0} {t : Target} {old mid new : World} → DeviceFact So t old mid
     → Went mid new → KeepsDevices mid new → DeviceFact So t old new
 learns_kept {So} {t} {old} {mid} {new} a went keeps single =
-    each_joined (Learned So t) StaysAs (Learned So t)
-    (λ j s u v x y. record { frame = stays_joined j s u v x.frame y; so = x.so }) old mid new
-    (a (went.unshared single)) (keeps.stays single)
+    each_joined (Learned So t) StaysAs (Learned So t) (grind arith) old mid new
+    (grind arith) (keeps.stays single)
 
 module _ {A X : Type 0} {given : Spec → Option X} {Has : State → A → Type 0} {t : Target}
     {old : World} (new : World) where
@@ -80,8 +71,7 @@ module _ {A X : Type 0} {given : Spec → Option X} {Has : State → A → Type 
       → (new.shared ≡ false → EachWas (ReadAsked given Has t (Ok answer)) old new)
       → ((s : State) → Has s answer → So s.spec) → DeviceFact So t old new
   answer_learned {So} {answer} what f single =
-      each_wider (ReadAsked given Has t (Ok answer)) (Learned So t)
-      (λ j s v x. record { frame = x.frame; so = λ at. f s (x.done at answer refl) })
+      each_wider (ReadAsked given Has t (Ok answer)) (Learned So t) (grind arith)
       old new (what single)
 
   -- by a refusal
@@ -89,8 +79,7 @@ module _ {A X : Type 0} {given : Spec → Option X} {Has : State → A → Type 
       → (new.shared ≡ false → EachWas (ReadAsked given Has t (Err pipe.Stalled)) old new)
       → ((spec : Spec) → given spec ≡ None → So spec) → DeviceFact So t old new
   refusal_learned {So} what f single =
-      each_wider (ReadAsked given Has t (Err pipe.Stalled)) (Learned So t)
-      (λ j s v x. record { frame = x.frame; so = λ at. f s.spec (x.stalled at refl) })
+      each_wider (ReadAsked given Has t (Err pipe.Stalled)) (Learned So t) (grind arith)
       old new (what single)
 
 -- by a text, at the device's maximum packet
@@ -100,17 +89,14 @@ pub text_learned : (given : Spec → Option (List ℕ)) {So : Spec → Type 0} {
     → ((spec : Spec) (text : List ℕ) → given spec ≡ Some text → bytes.items ≡ take wanted text
     → So spec) → DeviceFact (AtMaximum t So) t old new
 text_learned given new what f =
-    answer_learned new what (λ s has max. f s.spec has.text has.is (has.first (inl max)))
+    answer_learned new what (grind arith)
 
 -- Configurations
 
 -- bytes that are a configuration text
 pub good_bytes : (bytes text : List ℕ) → Some text ≡ config_text_of bytes
     → (is_ok (config_of bytes) ≡ true) × (text ≡ bytes)
-good_bytes bytes text is = elim (decided (is_ok (config_of bytes))) [
-  | inl good ↦ (good, same_Some text bytes (rw good at is))
-  | inr bad ↦ (let none = rw bad at is in absurd cc)
-]
+good_bytes bytes text is = grind arith
 
 -- what was read of a configuration is as long as its head says
 pub configuration_of_total : (room : Option ℕ) {index total : ℕ} (bytes text whole : List ℕ)
@@ -118,20 +104,7 @@ pub configuration_of_total : (room : Option ℕ) {index total : ℕ} (bytes text
     → config_given index spec ≡ Some whole → bytes ≡ take total whole
     → Some text ≡ config_text_of bytes → HasConfiguration room index text spec
 unfolding text_read said_length
-configuration_of_total room {total} bytes text whole fits head given first good =
-    let same = same_Some whole head.text (sym given ∙ head.given) in
-    let of_bytes = good_bytes bytes text good in
-    let read : bytes ≡ text_read head.text = first ∙ ap (take total) same
-    ∙ sym (ap (λ r. take (total_in r) head.text) head.head) in
-    record {
-      text = head.text;
-      given = head.given;
-      fits = ap (λ r. is_over room (total_in r)) head.head ∙ fits;
-      good = and_from (is_ok (config_head_of (take 9 head.text)))
-          (is_ok (config_of (text_read head.text))) (ap is_ok head.head)
-          (ap (λ b. is_ok (config_of b)) (sym read) ∙ of_bytes.0);
-      read = of_bytes.1 ∙ read;
-    }
+configuration_of_total room bytes text whole fits head given first good = grind arith
 
 -- the first so many bytes of a configuration
 pub record HasBytes (index total : ℕ) (bytes : List ℕ) (spec : Spec) : Type 0 where
@@ -143,34 +116,30 @@ pub bytes_learned : {t : Target} {index total : ℕ} {bytes : Vec ℕ} {old : Wo
     → (new.shared ≡ false → EachWas (ConfigAsked t index total (Ok bytes)) old new)
     → DeviceFact (AtMaximum t (HasBytes index total bytes.items)) t old new
 bytes_learned {index} new what =
-    text_learned (config_given index) new what
-    (λ spec whole given first. record { text = whole; given = given; first = first })
+    text_learned (config_given index) new what (grind arith)
 
 -- The texts of the configurations so far
 
 pub given_allows : {X : Type 0} (refused : Bool) (given : Option X) (x : X)
     → unless_refused refused given ≡ Some x → (refused ≡ false) × (given ≡ Some x)
-given_allows true given x is = absurd cc
-given_allows false given x is = (refl, is)
+given_allows refused given x is = grind arith
 
 config_faultless : (room : Option ℕ) (spec : Spec) (index : ℕ) (text : List ℕ)
     → config_given index spec ≡ Some text → is_over room (said_length text) ≡ false
     → is_good_text text ≡ true → any_has_value (configuration_value (text_read text))
     (texts_below spec index) ≡ false → config_fault room spec index ≡ None
 unfolding config_fault
-config_faultless room spec index text given fits good differs =
-    let allowed = given_allows spec.stalls.config (slice_get spec.configs index) text given in
-    rw (allowed.0, allowed.1, fits, good, differs) refl
+config_faultless room spec index text given fits good differs = grind arith
 
 mapped_more : {X Y : Type 0} (f : X → Y) (xs : List X) (i : ℕ) (x : X) → slice_get xs i ≡ Some x
     → map f (take (suc i) xs) ≡ map f (take i xs) ++ f x ∷ []
 mapped_more f [] i x is = absurd cc
-mapped_more f (y ∷ xs) zero x is = ap (λ z. f z ∷ []) (same_Some y x is)
+mapped_more f (y ∷ xs) zero x is = search same_Some
 mapped_more f (y ∷ xs) (suc i) x is = ap (λ ys. f y ∷ ys) (mapped_more f xs i x is)
 
 pub configurations_none : (budget : Option ℕ) (spec : Spec) → HasConfigurations budget 0 [] spec
 unfolding first_fault
-configurations_none budget spec = record { good = refl; read = refl }
+configurations_none budget spec = grind arith
 
 pub configurations_more : {budget room : Option ℕ} {count : ℕ} {texts : List (List ℕ)}
     {text : List ℕ} {spec : Spec} → room ≡ left_of budget (texts_length texts)
@@ -178,24 +147,16 @@ pub configurations_more : {budget room : Option ℕ} {count : ℕ} {texts : List
     → HasConfigurations budget count texts spec → HasConfiguration room count text spec
     → HasConfigurations budget (count + 1) (texts ++ text ∷ []) spec
 configurations_more {budget} {room} {count} {texts} {spec} left differs before now =
-    let given = given_allows spec.stalls.config (slice_get spec.configs count) now.text now.given in
-    let one_more : count + 1 ≡ suc count = omega arith in
     record {
       good = first_none budget spec count before.good (subst (λ o. config_fault o spec count ≡ None)
-          (left_said room left before)
-          (config_faultless room spec count now.text now.given now.fits now.good
-          (rw (before.read, now.read) at differs)));
-      read = ap (λ x. texts ++ x ∷ []) now.read
-          ∙ ap (λ xs. xs ++ text_read now.text ∷ []) before.read
-          ∙ sym (ap (λ n. texts_below spec n) one_more
-          ∙ mapped_more text_read spec.configs count now.text given.1);
+          (left_said room left before) (grind (arith, config_faultless)));
+      read = grind (arith, mapped_more);
     }
 
 pub learns_wider : {A B : Spec → Type 0} {t : Target} {old : World} (new : World)
     → DeviceFact A t old new → ((x : Spec) → A x → B x) → DeviceFact B t old new
 learns_wider {A} {B} {t} {old} new l f single =
-    each_wider (Learned A t) (Learned B t)
-    (λ j s v x. record { frame = x.frame; so = λ at. f s.spec (x.so at) }) old new (l single)
+    each_wider (Learned A t) (Learned B t) (grind arith) old new (l single)
 
 -- Why a configuration is refused
 
@@ -204,14 +165,7 @@ learns_wider {A} {B} {t} {old} new l f single =
 config_ungiven : (room : Option ℕ) (spec : Spec) (index : ℕ) → config_given index spec ≡ None
     → config_fault room spec index ≡ Some (Stalled request.Config)
 unfolding config_fault
-config_ungiven room spec index = split spec.stalls.config (slice_get spec.configs index)
-  where
-    split : (refused : Bool) (o : Option (List ℕ)) → unless_refused refused o ≡ None
-        → (if refused then Some (Stalled request.Config) else text_fault room index
-        (texts_below spec index) o) ≡ Some (Stalled request.Config)
-    split true o is = refl
-    split false None is = refl
-    split false (Some text) is = absurd cc
+config_ungiven room spec index h = grind arith
 
 -- with the text of an index, where so many bytes are left
 module _ (room : Option ℕ) (spec : Spec) (index : ℕ) (text : List ℕ)
@@ -227,36 +181,28 @@ module _ (room : Option ℕ) (spec : Spec) (index : ℕ) (text : List ℕ)
 
   config_is : config_fault room spec index ≡ At (is_over room (said_length text)) is_right
   unfolding config_fault
-  config_is =
-      let allowed = given_allows spec.stalls.config (slice_get spec.configs index) text given in
-      ap (λ b. if b then Some (Stalled request.Config) else text_fault room index
-      (texts_below spec index) (slice_get spec.configs index)) allowed.0
-      ∙ ap (text_fault room index (texts_below spec index)) allowed.1
+  config_is = grind arith
 
   -- it says more bytes
   config_large : is_over room (said_length text) ≡ true
       → config_fault room spec index ≡ Some TooLarge
-  config_large over = config_is ∙ ap (λ b. At b is_right) over
+  config_large over = search config_is
 
   -- it does not
   module _ (fits : is_over room (said_length text) ≡ false) where
     config_bad : is_right ≡ false → config_fault room spec index ≡ Some (BadConfiguration index)
-    config_bad bad = config_is ∙ ap (λ b. At b is_right) fits ∙ ap (At false) bad
+    config_bad bad = search config_is
 
     -- it is malformed
     config_malformed : is_good_text text ≡ false
         → config_fault room spec index ≡ Some (BadConfiguration index)
-    config_malformed bad =
-        config_bad (ap (λ b. b && not (any_has_value (configuration_value (text_read text))
-        (texts_below spec index))) bad)
+    config_malformed bad = grind (arith, config_bad)
 
     -- it has the value of an earlier one
     config_repeated : is_good_text text ≡ true
         → any_has_value (configuration_value (text_read text)) (texts_below spec index) ≡ true
         → config_fault room spec index ≡ Some (BadConfiguration index)
-    config_repeated good again =
-        config_bad (ap (λ b. b && not (any_has_value (configuration_value (text_read text))
-        (texts_below spec index))) good ∙ ap not again)
+    config_repeated good again = grind (arith, config_bad)
 
 -- a request for one failed
 pub config_refused : (room : Option ℕ) {t : Target} (index : ℕ) {wanted : ℕ}
@@ -267,7 +213,7 @@ pub config_refused : (room : Option ℕ) {t : Target} (index : ℕ) {wanted : �
     → FailureReason (Refuses t (λ spec. config_fault room spec index) stop) t old new
 config_refused room index {stop} new is least what why =
     request_refused new what least why (λ spec. config_fault room spec index)
-    (Stalled request.Config) stop is (λ spec none. config_ungiven room spec index none)
+    (Stalled request.Config) stop is (search config_ungiven)
 
 -- its head is malformed
 pub total_refused : (room : Option ℕ) {t : Target} {index : ℕ} {bytes : Vec ℕ}
@@ -278,10 +224,7 @@ unfolding said_length
 total_refused room {index} new head what =
     wrong_refuses (λ spec. config_fault room spec index) new (text_learned (config_given index) new
     what (λ spec text given first.
-    let bad = ap config_head_of (sym first) ∙ head in
-    config_malformed room spec index text given
-    (ap (λ r. is_over room (total_in r)) bad ∙ over_none room)
-    (ap (λ b. b && is_ok (config_of (text_read text))) (ap is_ok bad))))
+    config_malformed room spec index text given (grind arith) (grind arith)))
 
 -- it says more bytes than are left
 pub total_large : (room : Option ℕ) {t : Target} {index total : ℕ} {old : World} (new : World)
@@ -289,31 +232,15 @@ pub total_large : (room : Option ℕ) {t : Target} {index total : ℕ} {old : Wo
     → FailureReason (Refuses t (λ spec. config_fault room spec index) (Refused TooLarge)) t old new
 unfolding said_length
 total_large room {index} new over learned =
-    learned_explains new learned (λ spec has r.
-    let head = has r.max in
-    config_large room spec index head.text head.given
-    (ap (λ x. is_over room (total_in x)) head.head ∙ over))
+    learned_explains new learned (grind (arith, config_large))
 
 -- what was read is no configuration text
-
-bad_bytes : (bytes : List ℕ) → config_text_of bytes ≡ None → is_ok (config_of bytes) ≡ false
-bad_bytes bytes none = elim (decided (is_ok (config_of bytes))) [
-  | inl good ↦ (let some = rw good at none in absurd cc)
-  | inr bad ↦ bad
-]
 
 pub text_malformed : (room : Option ℕ) {index total : ℕ} {bytes : List ℕ} {spec : Spec}
     → is_over room total ≡ false → HasTotal index total spec → HasBytes index total bytes spec
     → config_text_of bytes ≡ None → config_fault room spec index ≡ Some (BadConfiguration index)
 unfolding text_read said_length
-text_malformed room {index} {total} {bytes} {spec} fits head start none =
-    let same = same_Some start.text head.text (sym start.given ∙ head.given) in
-    let read : bytes ≡ text_read head.text = start.first ∙ ap (take total) same
-    ∙ sym (ap (λ r. take (total_in r) head.text) head.head) in
-    config_malformed room spec index head.text head.given
-    (ap (λ x. is_over room (total_in x)) head.head ∙ fits)
-    (ap (λ b. b && is_ok (config_of (text_read head.text))) (ap is_ok head.head)
-    ∙ ap (λ b. is_ok (config_of b)) (sym read) ∙ bad_bytes bytes none)
+text_malformed room fits head start none = grind (arith, config_malformed)
 
 -- The first bad one
 
@@ -342,6 +269,4 @@ module _ (t : Target) (budget room : Option ℕ) (i count : ℕ) (texts : List (
       wrong_refuses (λ spec. first_fault budget spec count) new (learns_on before went now
       (λ spec b h max.
       let earlier = b max in
-      let read = h max in
-      first_bad (BadConfiguration i) earlier (config_repeated room spec i read.text read.given
-      read.fits read.good (rw (earlier.read, read.read) at again))))
+      first_bad (BadConfiguration i) earlier (grind (arith, config_repeated))))

@@ -1,36 +1,30 @@
 -- The value of a configuration: those of a device differ, and the device takes that of the one
 -- which is chosen.
-use Rattle.std.proofs.Common.{◌≡◌, ◌≢◌, inl, inr, ◌<◌, ℕ, zero, suc, ◌==◌, ◌&&◌, ◌||◌, not, Bool}
-use Rattle.std.proofs.Common.{true, false, List, [], ◌∷◌, map, take, length, slice_get}
-use Rattle.std.proofs.Common.{slice_index_or, if◌then◌else◌, Option, None, Some, Result, Ok, Err}
-use Rattle.std.proofs.Common.{is_ok, refl, ap, sym, subst, ◌∙◌, arith, ◌≤◌, min, ◌+◌, ◌*◌, nat_lt}
-use Rattle.std.proofs.Common.{slice_index, nat_le, ◌++◌}
-use Rattle.std.specs.List.{list_any}
+use Rattle.std.proofs.Common.{◌≡◌, ◌≢◌, inl, inr, ◌<◌, ℕ, zero, suc, ◌==◌, ◌&&◌, not, Bool, true}
+use Rattle.std.proofs.Common.{false, List, [], ◌∷◌, map, take, length, slice_get, slice_index_or}
+use Rattle.std.proofs.Common.{if◌then◌else◌, Option, None, Some, Result, Ok, Err, is_ok, refl, ap}
+use Rattle.std.proofs.Common.{sym, ◌∙◌, arith, ◌≤◌, min, ◌+◌, slice_index, ◌++◌}
 use Rattle.std.specs.Option.{option_or}
 use Rattle.std.proofs.lemmas.Map.Keys.{any_passes_from_place}
-use Rattle.std.proofs.lemmas.Bool.{le-ltb, lt-ltb, and_parts, and_from, cases_order}
-use Rattle.std.proofs.lemmas.List.{get_or-take, get_or_read, length-take, take_min, length-map}
-use Rattle.std.proofs.lemmas.Option.{same_Some}
-use Rattle.usb_descriptor.specs.{DescriptorFault, config_head_of, config_of, configuration_value}
-use Rattle.usb_descriptor.specs.{total_in, device_head_of, configuration_count}
+use Rattle.std.proofs.lemmas.Bool.{cases_order}
+use Rattle.std.proofs.lemmas.List.{get_or-take, get_or_read, take_min, length-map}
+use Rattle.usb_descriptor.specs.{DescriptorFault, config_head_of, configuration_value, total_in}
+use Rattle.usb_descriptor.specs.{device_head_of, configuration_count}
 use Rattle.usb_descriptor.proofs.Interface.{header_of}
 use Rattle.usb_device.specs.Bulk as device
 use Rattle.usb_device.specs.{is_value, said_length, Spec, total_of, text_with, has_value as carries}
-use Rattle.usb_tree.proofs.Interface.{or_right, same_equal, and_false, neither, swapped}
-use Rattle.usb_enum.specs.{Cause, Stalled, BadConfiguration, TooLarge, text_read, is_good_text}
-use Rattle.usb_enum.specs.{texts_below, text_fault, config_fault, first_fault, HasConfigurations}
-use Rattle.usb_enum.specs.{any_has_value, is_over, left_of, said_below, Silent, Busy, BadDevice}
-use Rattle.usb_enum.specs.{TooDeep, BadHub, verdict, read_verdict, set_verdict, texts_of}
-use Rattle.usb_enum.specs.{is_good_hub, is_device, is_hub_device, choice_of, needs_of, HostOptions}
-use Rattle.usb_enum.specs.{ValuesDiffer}
+use Rattle.usb_tree.proofs.Interface.{neither, swapped}
+use Rattle.usb_enum.specs.{Cause, Stalled, text_read, is_good_text, texts_below, config_fault}
+use Rattle.usb_enum.specs.{first_fault, HasConfigurations, any_has_value, is_over, left_of}
+use Rattle.usb_enum.specs.{said_below, Silent, Busy, BadDevice, TooDeep, verdict, read_verdict}
+use Rattle.usb_enum.specs.{texts_of, is_good_hub, is_device, is_hub_device, choice_of, needs_of}
+use Rattle.usb_enum.specs.{HostOptions, ValuesDiffer}
 use Rattle.usb_enum.specs.declared.cause.Request.TheVariants as request
-use Rattle.std.proofs.lemmas.List.Quantifiers.{position-Some}
 
 -- Each of some configurations that are good
 
 pub or_none : (o p : Option Cause) → option_or o p ≡ None → (o ≡ None) × (p ≡ None)
-or_none (Some cause) p h = absurd cc
-or_none None p h = (refl, h)
+or_none o p h = grind arith
 
 pub each_good : (budget : Option ℕ) (spec : Spec) (n i : ℕ) → i < n
     → first_fault budget spec n ≡ None
@@ -52,24 +46,11 @@ pub record IsFresh (room : Option ℕ) (spec : Spec) (i : ℕ) (text : List ℕ)
   pub good : is_good_text text ≡ true
   pub first : any_has_value (configuration_value (text_read text)) (texts_below spec i) ≡ false
 
-fresh_by : (refused over good old : Bool) (i : ℕ) → (if refused then Some (Stalled request.Config)
-    else (if over then Some TooLarge else
-    (if good && not old then None else Some (BadConfiguration i)))) ≡ None
-    → (over ≡ false) × (good ≡ true) × (old ≡ false)
-fresh_by false false true false i h = (refl, refl, refl)
-fresh_by _ _ _ _ i h = absurd cc
-
 pub fresh_text : (room : Option ℕ) (spec : Spec) (i : ℕ) (text : List ℕ)
     → slice_get spec.configs i ≡ Some text
     → config_fault room spec i ≡ None → IsFresh room spec i text
 unfolding config_fault
-fresh_text room spec i text stands h =
-    let parts =
-    fresh_by spec.stalls.config (is_over room (said_length text)) (is_good_text text)
-    (any_has_value (configuration_value (text_read text)) (texts_below spec i)) i
-    (sym (ap (λ o. if spec.stalls.config then Some (Stalled request.Config) else text_fault room i
-    (texts_below spec i) o) stands) ∙ h) in
-    record { fits = parts.0; good = parts.1; first = parts.2 }
+fresh_text room spec i text stands h = grind arith
 
 -- The text of an index
 
@@ -90,25 +71,17 @@ mapped_at f (x ∷ xs) (suc n) zero less = record {
   below = omega arith;
 }
 mapped_at f (x ∷ xs) (suc n) (suc i) less =
-    let rest = mapped_at f xs n i (omega (arith, less)) in
-    record {
-      text = rest.text;
-      stands = rest.stands;
-      read = rest.read;
-      below = omega (arith, rest.below);
-    }
+    let rest = mapped_at f xs n i (omega (arith, less)) in grind arith
 
 -- read of one list, it is that of another that is the same
 pub text_at : (xs ys : List (List ℕ)) (i : ℕ) (x : List ℕ) → x ≡ slice_index_or xs i x → xs ≡ ys
     → i < length ys → x ≡ slice_index_or ys i []
-text_at xs ys i x is same inside =
-    get_or_read ys i x inside (is ∙ ap (λ texts. slice_index_or texts i x) same) []
+text_at xs ys i x is same inside = grind (arith, get_or_read)
 
 -- Its value
 
 pub ok_total : (r : Result ℕ DescriptorFault) → is_ok r ≡ true → r ≡ Ok (total_in r)
-ok_total (Ok total) h = refl
-ok_total (Err fault) h = absurd cc
+ok_total r h = grind arith
 
 -- what a host reads of a text is what the device looks at, and has the device's value
 pub record IsConfigurationRead (text : List ℕ) : Type 0 where
@@ -122,24 +95,8 @@ unfolding text_read
 good_read text good =
     let head = config_head_of (take 9 text) in
     let total : ℕ = total_in head in
-    let header = header_of (take 9 text) total
-    (ok_total head (and_parts (is_ok head) (is_ok (config_of (text_read text))) good).0) in
-    let long : 9 ≤ length text = omega (arith, header.long, length-take 9 text) in
-    let says : slice_index text 2 + 256 * slice_index text 3 ≡ total =
-    omega (
-      arith,
-      header.says,
-      get_or-take 9 text 2 0 (omega arith),
-      get_or-take 9 text 3 0 (omega arith),
-    ) in
-    record {
-      value = get_or-take total text 5 0 (omega (arith, header.least));
-      read = take_min (total_of text) text
-          ∙ ap (λ n. take n text) (ap (λ b. if b then 0 else slice_index text 2 + 256 *
-          slice_index text 3) (le-ltb (length text) 4 (omega (arith, long))) ∙ says);
-      some = omega (arith, header.valued, get_or-take 9 text 5 0 (omega arith));
-      long = long;
-    }
+    let header = header_of (take 9 text) total (grind arith) in
+    grind (arith, get_or-take, take_min)
 
 -- it is not 0, and the device takes it
 pub record IsGoodValue (spec : Spec) (value : ℕ) : Type 0 where
@@ -150,22 +107,11 @@ pub chosen_value : {budget : Option ℕ} {spec : Spec} {count : ℕ} (i value : 
     {texts : List (List ℕ)} → HasConfigurations budget count texts spec → i < length texts
     → value ≡ configuration_value (slice_index_or texts i []) → value < 256 → IsGoodValue spec value
 chosen_value {budget} {spec} {count} i value has inside is byte =
-    let at = mapped_at text_read spec.configs count i (subst (λ x. i < length x) has.read inside) in
+    let at = mapped_at text_read spec.configs count i (grind arith) in
     let of_text = good_read at.text (fresh_text (left_of budget (said_below spec i)) spec i at.text
-    at.stands (each_good budget spec count i at.below has.good)).good in
-    let read : value ≡ configuration_value (text_read at.text) = is
-    ∙ ap (λ x. configuration_value (slice_index_or x i [])) has.read
-    ∙ ap configuration_value at.read in
+    at.stands (search each_good)).good in
     let in_spec = any_passes_from_place (device.has_value value) spec.configs i at.text at.stands
-    (and_from (nat_lt 5 (length at.text)) (slice_index at.text 5 == value)
-    (lt-ltb 5 (length at.text) (omega (arith, of_text.long)))
-    (same_equal (slice_index at.text 5) value (sym of_text.value ∙ sym read))) in
-    record {
-      some = λ z. omega (arith, of_text.some, of_text.value, read, z);
-      taken = and_from (nat_lt value 256) (value == 0 || list_any (device.has_value value)
-          spec.configs) (lt-ltb value 256 byte)
-          (or_right (value == 0) (list_any (device.has_value value) spec.configs) in_spec);
-    }
+    (grind arith) in grind arith
 
 -- What is so of a description that is accepted
 
@@ -177,50 +123,19 @@ pub record AcceptsChosen (spec : Spec) (options : HostOptions) (supply chosen : 
   pub hub : (is_hub_device spec.descriptor &&
       not (is_good_hub options.wide_hubs spec (slice_index_or (texts_of spec) chosen []))) ≡ false
 
-if_not : (b : Bool) (x : Cause) (r : Result ℕ Cause) (n : ℕ) → (if b then Err x else r) ≡ Ok n
-    → (b ≡ false) × (r ≡ Ok n)
-if_not true x r n e = absurd (cc e)
-if_not false x r n e = (refl, e)
-
-same_ok : {E : Type 0} (a b : ℕ) → (let r : Result ℕ E = Ok a in r ≡ Ok b) → a ≡ b
-same_ok a b e = cc e
-
 module _ (spec : Spec) (options : HostOptions) (supply chosen : ℕ) (loud : spec.silent ≡ false)
     (free : spec.busy ≡ false) where
-  set_by : (o : Option ℕ)
-      → first_fault options.device_bytes spec (configuration_count spec.descriptor) ≡ None
-      → choice_of supply (texts_of spec) ≡ o
-      → set_verdict options.wide_hubs spec (texts_of spec) o ≡ Ok chosen
-      → AcceptsChosen spec options supply chosen
-  set_by None good e v = absurd (cc v)
-  set_by (Some k) good e v =
-      let bad : Bool = is_hub_device spec.descriptor &&
-      not (is_good_hub options.wide_hubs spec (slice_index_or (texts_of spec) k [])) in
-      let a = if_not spec.stalls.set_config (Stalled request.SetConfig)
-      (if bad then Err BadHub else Ok k) chosen v in
-      let b = if_not bad BadHub (Ok k) chosen a.1 in
-      let same : k ≡ chosen = same_ok k chosen b.1 in
-      record {
-        loud = loud;
-        free = free;
-        good = good;
-        within = e ∙ ap Some same;
-        hub = rw same at b.0;
-      }
-
   read_by : (o : Option Cause)
       → first_fault options.device_bytes spec (configuration_count spec.descriptor) ≡ o
       → read_verdict options.wide_hubs spec supply o ≡ Ok chosen
       → AcceptsChosen spec options supply chosen
-  read_by (Some cause) e v = absurd (cc v)
-  read_by None e v = set_by (choice_of supply (texts_of spec)) e refl v
+  read_by o e v = grind arith
 
 last_row : (a b c d f g h : Bool) (r : Result ℕ Cause) (n : ℕ) → (if a then Err Silent else if b
     then Err Busy else if c then Err (Stalled request.Device) else if d then Err BadDevice else if f
     then Err (Stalled request.Address) else if g then Err BadDevice else if h then Err TooDeep else
     r) ≡ Ok n → (a ≡ false) × (b ≡ false) × (r ≡ Ok n)
-last_row false false false false false false false r n e = (refl, refl, e)
-last_row _ _ _ _ _ _ _ r n e = absurd (cc e)
+last_row a b c d f g h r n e = grind arith
 
 pub accepts : (spec : Spec) (options : HostOptions) (tier supply chosen : ℕ)
     → verdict spec options tier supply ≡ Ok chosen → AcceptsChosen spec options supply chosen
@@ -232,8 +147,7 @@ accepts spec options tier supply chosen e =
     (not (is_device spec.low (take 18 spec.descriptor))) (is_hub_device spec.descriptor &&
     tier == 7) (read_verdict options.wide_hubs spec supply
     (first_fault options.device_bytes spec (configuration_count spec.descriptor))) chosen e in
-    read_by spec options supply chosen row.0 row.1 (first_fault options.device_bytes spec
-    (configuration_count spec.descriptor)) refl row.2
+    search read_by
 
 -- The device finds it by its value
 
@@ -243,20 +157,14 @@ found_text : (configs : List (List ℕ)) (c v : ℕ) (text : List ℕ) → slice
     → slice_index text 5 ≡ v → text_with v configs ≡ text
 found_text [] c v text at goods first good value = absurd (cc at)
 found_text (t ∷ ts) zero v text at goods first good value =
-    let same : t ≡ text = same_Some t text at in
     let long = (good_read text good).long in
-    let has : carries v t ≡ true =
-    subst (λ x. carries v x ≡ true) (sym same)
-    (ap (λ b. b && slice_index text 5 == v) (lt-ltb 5 (length text) (omega (arith, long)))
-    ∙ same_equal (slice_index text 5) v value) in
-    ap (λ b. if b then t else text_with v ts) has ∙ same
+    grind arith
 found_text (t ∷ ts) (suc c) v text at goods first good value =
     let parts = neither (configuration_value (text_read t) == v)
     (any_has_value v (map text_read (take c ts))) first in
     let other : (slice_index t 5 == v) ≡ false =
     ap (λ n. n == v) (sym (good_read t (goods 0 t (omega arith) refl)).value) ∙ parts.0 in
-    let has : carries v t ≡ false = ap (λ b. nat_lt 5 (length t) && b) other
-    ∙ and_false (nat_lt 5 (length t)) in
+    let has : carries v t ≡ false = grind arith in
     ap (λ b. if b then t else text_with v ts) has
     ∙ found_text ts c v text at (λ i u below e. goods (suc i) u (omega (arith, below)) e)
     parts.1 good value
@@ -271,21 +179,16 @@ pub record HasChosen (spec : Spec) (chosen : ℕ) : Type 0 where
 chosen_below : (supply : ℕ) (texts : List (List ℕ)) (chosen : ℕ)
     → choice_of supply texts ≡ Some chosen → chosen < length texts
 unfolding needs_of
-chosen_below supply texts chosen e =
-    subst (λ n. chosen < n) (length-map texts _)
-    (position-Some (λ need. nat_le need supply) (needs_of texts) chosen 0 e).0
+chosen_below supply texts chosen e = grind (arith, length-map)
 
 pub has_chosen : {options : HostOptions} (spec : Spec) (supply chosen : ℕ)
     → AcceptsChosen spec options supply chosen → HasChosen spec chosen
 has_chosen {options} spec supply chosen a =
     let budget = options.device_bytes in
     let count : ℕ = configuration_count spec.descriptor in
-    let at = mapped_at text_read spec.configs count chosen
-    (chosen_below supply (texts_of spec) chosen a.within) in
+    let at = mapped_at text_read spec.configs count chosen (search chosen_below) in
     let room : ℕ → Option ℕ = λ i. left_of budget (said_below spec i) in
-    let fresh : IsFresh (room chosen) spec chosen at.text =
-    fresh_text (room chosen) spec chosen at.text at.stands
-    (each_good budget spec count chosen at.below a.good) in
+    let fresh : IsFresh (room chosen) spec chosen at.text = search (each_good, fresh_text) in
     let read : IsConfigurationRead at.text = good_read at.text fresh.good in
     record {
       text = at.text;
@@ -295,15 +198,14 @@ has_chosen {options} spec supply chosen a =
           found_text spec.configs chosen (slice_index at.text 5) at.text at.stands
           (λ i t less e. (fresh_text (room i) spec i t e
           (each_good budget spec count i (omega (arith, less, at.below)) a.good)).good)
-          (ap (λ v. any_has_value v (texts_below spec chosen)) (sym read.value) ∙ fresh.first)
+          (grind arith)
           fresh.good refl;
     }
 
 -- the configuration that it is set to is not 0
 pub chosen_some : (spec : Spec) (chosen : ℕ) → HasChosen spec chosen
     → 1 ≤ configuration_value (slice_index_or (texts_of spec) chosen [])
-chosen_some spec chosen h = subst (λ n. 1 ≤ n) (sym (ap configuration_value h.is ∙ h.read.value))
-    h.read.some
+chosen_some spec chosen h = grind arith
 
 has_one_more : (value : ℕ) (texts : List (List ℕ)) (text : List ℕ)
     → any_has_value value texts ≡ false → (configuration_value text == value) ≡ false

@@ -1,43 +1,29 @@
 -- How what is learned of a device joins where it is configured, and why it is refused then.
-use Rattle.usb_device.specs.{Location, Spec, OnlyStage, State, in_end, out_end, is_value, IsSpec}
-use Rattle.std.proofs.Common.{◌≡◌, ℕ, ◌==◌, List, Result, Ok, false, refl, ap, subst, ◌∙◌, ◌≢◌, inl}
-use Rattle.std.proofs.Common.{inr, ◌<◌, ◌&&◌, not, true, [], Bool, length, slice_index_or}
-use Rattle.std.proofs.Common.{if◌then◌else◌, Option, None, Some, Err, sym}
+use Rattle.usb_device.specs.{Location, Spec, State, is_value, IsSpec}
+use Rattle.std.proofs.Common.{arith, ◌≡◌, ℕ, ◌==◌, List, Result, Ok, false, refl, ap, subst, ◌∙◌}
+use Rattle.std.proofs.Common.{◌≢◌, ◌<◌, ◌&&◌, true, [], Bool, length, slice_index_or, Option, None}
+use Rattle.std.proofs.Common.{Some, Err}
 use Rattle.usb_descriptor.specs.{configuration_value, configuration_count}
 use Rattle.usb_world.specs.{EachWas, World}
 use Rattle.usb_world.proofs.Interface.{each_joined, each_wider}
 use Rattle.usb_transaction.specs.{Target, NoThreeDamaged}
 use Rattle.usb_pipe.specs.{PipeFault, WriteFailure}
-use Rattle.usb_hub.specs.{ConfigurationAsked, IsFresh, takes_value}
-use Rattle.usb_hub.proofs.Interface.{stays-registers, stays-spec}
+use Rattle.usb_hub.specs.{ConfigurationAsked}
 use Rattle.usb_enum.specs.{Learned, DeviceFact, LearnedSet, LearnsSet, AtMaximum, HasConfigurations}
-use Rattle.usb_enum.specs.{HostOptions, Went, Cause, Stalled, TooDeep, NoPower, Stop, texts_below}
-use Rattle.usb_enum.specs.{first_fault, is_hub_device, fits_tier, Hears, Explained, FailureReason}
-use Rattle.usb_enum.specs.{ExplainsSet, IsResponsive, IsRefusedFor, Refuses, no_fault}
-use Rattle.usb_enum.specs.{setting_fault, start_fault, chosen_fault, configured_fault, stop_of}
-use Rattle.usb_enum.specs.{answered_or, choice_of}
+use Rattle.usb_enum.specs.{HostOptions, Went, Cause, Stalled, NoPower, Stop, first_fault}
+use Rattle.usb_enum.specs.{is_hub_device, fits_tier, Hears, Explained, FailureReason, ExplainsSet}
+use Rattle.usb_enum.specs.{IsResponsive, IsRefusedFor, Refuses, no_fault, setting_fault}
+use Rattle.usb_enum.specs.{start_fault, chosen_fault, configured_fault, stop_of, answered_or}
+use Rattle.usb_enum.specs.{choice_of}
 use Rattle.std.specs.Prelude.{unwrap_or, ⊤}
-use Rattle.std.specs.Option.{option_or}
 use Rattle.usb_tree.specs.{address_of}
-use Rattle.usb_tree.proofs.Interface.{and_of, equal_same, false_true, unequal}
 use Rattle.usb_pipe.specs.declared.fault.PipeFault.TheVariants as pipe
 use Rattle.usb_enum.specs.declared.cause.Request.TheVariants as request
 use Rattle.usb_enum.specs.declared.stop.Stop.TheVariants.{Refused}
-use Rattle.usb_enum.proofs.refusals.Refusals.{answered_err, each_joint, hears_on, explained_none}
-use Rattle.usb_enum.proofs.refusals.Refusals.{explained_wider, explains_on, learned_explains}
-use Rattle.usb_enum.proofs.refusals.Refusals.{refused_as}
+use Rattle.usb_enum.proofs.refusals.Refusals.{answered_err, each_joint, explained_wider}
+use Rattle.usb_enum.proofs.refusals.Refusals.{explains_on, learned_explains, refused_as}
 use Rattle.usb_enum.proofs.readings.SettingValues.{chosen_value}
-use Rattle.usb_enum.proofs.stops.PlainStops.{deep_is, fits_tier-hub}
-
--- where nothing changed but where its transfer stands
-fresh_on : {s : State} (v : State) → OnlyStage s v → IsFresh s → IsFresh v
-fresh_on v frame fresh = record {
-  settings = ap (λ y. y.registers.settings) frame ∙ fresh.settings;
-  outs = λ e. ap (λ (y : State). (out_end y e).state) frame ∙ fresh.outs e;
-  ins = λ e. ap (λ (y : State). (in_end y e).state) frame ∙ fresh.ins e;
-  changes = ap (λ y. y.changes) frame ∙ fresh.changes;
-  held = ap (λ y. y.held) frame ∙ fresh.held;
-}
+use Rattle.usb_enum.proofs.stops.PlainStops.{fits_tier-hub}
 
 -- it does not refuse to be configured
 abbrev pub Allowed : (Spec → Type 0) → Spec → Type 0
@@ -46,30 +32,11 @@ Allowed So x = So x × (x.stalls.set_config ≡ false)
 set_after : (So : Spec → Type 0) (t : Target) (value : ℕ) (last : World) (j : Location)
     (s u v : State) → Learned So t j s u → ConfigurationAsked t value (Ok tt) last j u v
     → LearnedSet (Allowed So) t value j s v
-set_after So t value last j s u v a x = record {
-  spec = ap (λ y. y.spec) x.frame.rest ∙ stays-spec s u a.frame;
-  address = ap (λ y. y.registers.address) x.frame.rest
-      ∙ ap (λ r. r.address) (stays-registers s u a.frame);
-  so = λ at.
-      let set = x.done (ap (λ r. r.address == t.addr) (stays-registers s u a.frame) ∙ at) refl in (
-        (a.so at, subst (λ y. y.stalls.set_config ≡ false) (stays-spec s u a.frame) set.0),
-        ap (λ r. r.configuration) set.2.registers,
-        set.2.fresh,
-      );
-}
+set_after So t value last j s u v a x = grind arith
 
 learned_after : (A B : Spec → Type 0) (t : Target) (value : ℕ) (j : Location) (s u v : State)
     → LearnedSet A t value j s u → Learned B t j u v → LearnedSet (λ x. A x × B x) t value j s v
-learned_after A B t value j s u v a b = record {
-  spec = stays-spec u v b.frame ∙ a.spec;
-  address = ap (λ r. r.address) (stays-registers u v b.frame) ∙ a.address;
-  so = λ at.
-      let so = a.so at in (
-        (so.0, subst B a.spec (b.so (ap (λ n. n == t.addr) a.address ∙ at))),
-        ap (λ r. r.configuration) (stays-registers u v b.frame) ∙ so.1,
-        fresh_on v b.frame so.2,
-      );
-}
+learned_after A B t value j s u v a b = grind arith
 
 -- it was read, and then it was configured
 pub set_learned : {A : Spec → Type 0} {t : Target} {value : ℕ} {before given set : World}
@@ -79,7 +46,7 @@ pub set_learned : {A : Spec → Type 0} {t : Target} {value : ℕ} {before given
 set_learned {A} {t} {value} {before} {given} {set} read went asked single =
     each_joined (Learned A t) (ConfigurationAsked t value (Ok tt) set)
     (LearnedSet (Allowed A) t value) (set_after A t value set) before given set
-    (read (went.unshared single)) (asked single)
+    (grind arith) (asked single)
 
 -- and then more was learned
 pub set_then : {A B : Spec → Type 0} {t : Target} {value : ℕ} {before set told : World}
@@ -87,17 +54,13 @@ pub set_then : {A B : Spec → Type 0} {t : Target} {value : ℕ} {before set to
     → DeviceFact B t set told → LearnsSet (λ x. A x × B x) t value before told
 set_then {A} {B} {t} {value} {before} {set} {told} a went b single =
     each_joined (LearnedSet A t value) (Learned B t) (LearnedSet (λ x. A x × B x) t value)
-    (learned_after A B t value) before set told (a (went.unshared single)) (b single)
+    (learned_after A B t value) before set told (grind arith) (b single)
 
 -- of what is so then, this is so
 pub set_wider : {A B : Spec → Type 0} {t : Target} {m n : ℕ} {old : World} (new : World)
     → LearnsSet A t m old new → m ≡ n → ((spec : Spec) → A spec → B spec) → LearnsSet B t n old new
 set_wider {A} {B} {t} {m} {n} {old} new a same f single =
-    each_wider (LearnedSet A t m) (LearnedSet B t n) (λ j s v x. record {
-      spec = x.spec;
-      address = x.address;
-      so = λ at. let so = x.so at in (f s.spec so.0, so.1 ∙ same, so.2);
-    }) old new (a single)
+    each_wider (LearnedSet A t m) (LearnedSet B t n) (grind arith) old new (a single)
 
 -- What is wrong with a description, row by row
 
@@ -121,26 +84,9 @@ module _ (options : HostOptions) (tier supply : ℕ) (bytes : List ℕ) (spec : 
         → configured_fault options tier supply bytes spec
         ≡ chosen_fault takes (is_hub_device bytes) texts (choice_of supply texts) spec
     unfolding configured_fault
-    fault_chosen has =
-        let hub = is_hub_device bytes in
-        let count = configuration_count bytes in
-        ap (λ b. if b then Some TooDeep else option_or (first_fault budget spec count)
-        (chosen_fault takes hub (texts_below spec count) (choice_of supply (texts_below spec count))
-        spec)) shallow
-        ∙ ap (λ o. option_or o (chosen_fault takes hub (texts_below spec count)
-        (choice_of supply (texts_below spec count)) spec)) has.good
-        ∙ ap (λ x. chosen_fault takes hub x (choice_of supply x) spec) (sym has.read)
+    fault_chosen has = grind arith
 
 -- SET_CONFIGURATION
-
--- a device that has an address takes the value of one of its configurations
-takes_value-true : (t : Target) (value : ℕ) (s : State) → t.addr ≢ 0
-    → (address_of s == t.addr) ≡ true → is_value s.spec.configs value ≡ true
-    → takes_value s value ≡ true
-takes_value-true t value s some at taken =
-    and_of (not (address_of s == 0)) (is_value s.spec.configs value)
-    (ap not (unequal (address_of s) 0 (λ z. some (sym (equal_same (address_of s) t.addr at)
-    ∙ z)))) taken
 
 module _ (t : Target) (value : ℕ) (last : World) (some : t.addr ≢ 0) where
   -- what it is refused for
@@ -149,17 +95,7 @@ module _ (t : Target) (value : ℕ) (last : World) (some : t.addr ≢ 0) where
       → Hears t j s → IsSpec s.spec → is_value s.spec.configs value ≡ true → IsResponsive t s.spec
       → IsRefusedFor setting_fault (unwrap_or (stop_of fault)
       (Refused (Stalled request.SetConfig))) s.spec
-  setting_stop pipe.Stalled {s} x y h ruled taken r = elim (x.stalled h.at refl) [
-    | inl e ↦ ap (λ b. if b then Some (Stalled request.SetConfig) else None) e
-    | inr e ↦ false_true (sym e ∙ takes_value-true t value s some h.at taken)
-  ]
-  setting_stop pipe.Busy x y h ruled taken r =
-      absurd (y.waited (record { at = h.at; loud = r.loud; hears = h.hears }) r.free ruled.naks
-      refl)
-  setting_stop pipe.NoAnswer x y h ruled taken r =
-      absurd (y.answered (record { at = h.at; loud = r.loud; hears = h.hears }) refl)
-  setting_stop pipe.Broken x y h ruled taken r = absurd (x.could h.at)
-  setting_stop _ x y h ruled taken r = tt
+  setting_stop fault x y h ruled taken r = grind arith
 
 abbrev pub RefusesValue : Target → ℕ → Stop → Spec → Type 0
 RefusesValue t value stop spec = is_value spec.configs value ≡ true
@@ -174,13 +110,13 @@ setting_refused t value outcome stop old new some is what why three single =
     let failed = answered_err (Stalled request.SetConfig) is in
     each_joint (ConfigurationAsked t value (Err failed.0) new) (WriteFailure t (Err failed.0))
     (Explained Hears (RefusesValue t value stop) t) (λ j s v x y. record {
-      spec = ap (λ z. z.spec) x.frame.rest;
-      address = ap (λ z. z.registers.address) x.frame.rest;
+      spec = grind arith;
+      address = grind arith;
       so = λ h ruled taken r. subst (λ z. IsRefusedFor setting_fault z s.spec) failed.2
-          (setting_stop t value new some failed.0 x y h ruled taken r);
+          (search setting_stop);
     })
-    old new (subst (λ r. EachWas (ConfigurationAsked t value r new) old new) failed.1 (what single))
-    (subst (λ r. EachWas (WriteFailure t r) old new) failed.1 (why three single))
+    old new (grind arith)
+    (grind arith)
 
 -- After it
 
@@ -194,14 +130,7 @@ explains_later : {A B C : Spec → Type 0} {Heard : Target → Location → Stat
 explains_later {A} {B} {C} {Heard} {t} {value} {old} {mid} {new} hears a first next b f three
     single =
     each_joined (LearnedSet A t value) (Explained Heard B t) (Explained Hears C t)
-    (λ j s u v x y. record {
-      spec = y.spec ∙ x.spec;
-      address = y.address ∙ x.address;
-      so = λ h ruled.
-          let set = x.so h.at in
-          f s.spec set.0 (λ p. subst B x.spec (y.so (hears j s u x.spec x.address set.1 p h)
-          (subst IsSpec (sym x.spec) ruled)));
-    }) old mid new (a (next.unshared single)) (b (first.three three) single)
+    (grind arith) old mid new (grind arith) (grind arith)
 
 -- A device that is read and configured
 
@@ -219,9 +148,7 @@ module _ (t : Target) (options : HostOptions) (tier supply : ℕ) (bytes : List 
   pub deep_refused : (stop : Stop) (w : World) → fits_tier tier bytes ≡ Err stop
       → FailureReason (Refuses t wrong stop) t w w
   unfolding configured_fault
-  deep_refused stop w is =
-      let deep = deep_is tier bytes stop is in
-      explained_none (λ spec r. rw (deep.0, deep.1) refl)
+  deep_refused stop w is = grind arith
 
   module _ (fits : fits_tier tier bytes ≡ Ok tt) where
     shallow : (is_hub_device bytes && tier == 7) ≡ false
@@ -236,7 +163,7 @@ module _ (t : Target) (options : HostOptions) (tier supply : ℕ) (bytes : List 
         explained_wider {B = Refuses t wrong stop} new (λ j s h. h) explains (λ spec refused r.
         refused_as (λ spec. first_fault most spec count) wrong stop spec
         (λ cause bad. fault_read options tier supply bytes spec shallow cause
-        (ap (first_fault most spec) (sym same) ∙ bad)) (refused r))
+        (grind arith)) (refused r))
 
     module _ (texts : List (List ℕ)) where
       abbrev Read : Spec → Type 0
@@ -269,11 +196,7 @@ module _ (t : Target) (options : HostOptions) (tier supply : ℕ) (bytes : List 
           set_refused outcome stop {mid = mid} {new = new} read first next failed what why =
               explains_on {C = Refuses t wrong stop} read first next
               (setting_refused t value outcome stop mid new some failed what why)
-              (λ spec has refused r. refused_as setting_fault wrong stop spec
-              (λ cause bad. fault_set (has r.max)
-              ∙ ap (λ o. option_or o (if is_hub_device bytes then start_fault wide
-              (slice_index_or texts chosen []) spec else None)) bad)
-              (refused (chosen_value chosen value (has r.max) inside is byte).taken r))
+              (grind (arith, chosen_value, fault_set))
 
           -- it is a hub that cannot be used
           pub hub_refused : (text : List ℕ) (stop : Stop) {old mid new : World}
@@ -283,18 +206,11 @@ module _ (t : Target) (options : HostOptions) (tier supply : ℕ) (bytes : List 
               → FailureReason (Refuses t wrong stop) t old new
           hub_refused text stop {mid = mid} {new = new} hub set first next same explains =
               explains_later {C = Refuses t wrong stop} {P = value ≢ 0}
-              (λ j s u spec address set least h. record {
-                hears = hears_on u spec address h;
-                addressed = some;
-                configured = λ z. least (sym set ∙ z);
-              }) set first next
+              (grind arith) set first next
               (subst (λ x. ExplainsSet (Refuses t (start_fault wide x) stop) t mid new) same
               explains) (λ spec has refused r.
               let bad_start = start_fault wide (slice_index_or texts chosen []) in
-              refused_as bad_start wrong stop spec (λ cause bad. fault_set (has.0 r.max)
-              ∙ ap (λ b. option_or (if b then Some (Stalled request.SetConfig) else None)
-              (if is_hub_device bytes then bad_start spec else None)) has.1
-              ∙ ap (λ b. if b then bad_start spec else None) hub ∙ bad)
+              refused_as bad_start wrong stop spec (grind (arith, fault_set))
               (refused (chosen_value chosen value (has.0 r.max) inside is byte).some r))
 
   -- never for a string
@@ -304,6 +220,5 @@ module _ (t : Target) (options : HostOptions) (tier supply : ℕ) (bytes : List 
       → FailureReason (Refuses t wrong stop) t old new
   strings_refused stop set first next explains =
       explains_later {C = Refuses t wrong stop} {P = ⊤}
-      (λ j s u spec address set some h. hears_on u spec address h) set first next explains
-      (λ spec a refused r. refused_as no_fault wrong stop spec (λ cause none. absurd cc)
-      (refused tt r))
+      (grind arith) set first next explains
+      (grind arith)

@@ -1,11 +1,9 @@
 -- What is learned of a device's strings, for which it is never refused.
-use Rattle.std.proofs.Common.{◌≡◌, inl, inr, ℕ, ◌==◌, ◌||◌, not, if◌then◌else◌, List, take, Option}
-use Rattle.std.proofs.Common.{None, Some, is_some, option_map, option_and_then, refl, ap, sym, ◌∙◌}
-use Rattle.std.proofs.Common.{Result, Err, subst}
+use Rattle.std.proofs.Common.{arith, ◌≡◌, ℕ, List, take, Option, None, Some, option_map}
+use Rattle.std.proofs.Common.{option_and_then, refl, Result, Err}
 use Rattle.std.specs.Global.{Vec}
 use Rattle.usb_device.specs.{Spec}
 use Rattle.usb_world.specs.{World}
-use Rattle.usb_tree.proofs.Interface.{decided, false_true}
 use Rattle.usb_transaction.specs.{Target}
 use Rattle.usb_pipe.specs.{PipeFault}
 use Rattle.usb_pipe.specs.declared.fault.PipeFault.TheVariants as pipe
@@ -16,10 +14,7 @@ use Rattle.usb_enum.specs.{ReadsString, named, string_units, first_language_of, 
 use Rattle.usb_enum.specs.{KeepingSteps, StopsRead, Cause, IsResponsive, IsRefusedFor, answered_or}
 use Rattle.usb_enum.specs.{no_fault}
 use Rattle.usb_enum.proofs.readings.Readings.{learns_wider, learns_on}
-use Rattle.std.specs.Prelude.{unwrap_or, ⊤}
-use Rattle.std.proofs.lemmas.Bool.{ne_eqb}
-use Rattle.std.proofs.lemmas.Option.{same_Some}
-use Rattle.usb_enum.specs.declared.stop.Stop.TheVariants.{Refused}
+use Rattle.std.specs.Prelude.{⊤}
 use Rattle.usb_enum.proofs.stops.Reasons.{told_after}
 use Rattle.usb_enum.proofs.refusals.Refusals.{FailsForSpec, explains_on}
 
@@ -27,13 +22,11 @@ use Rattle.usb_enum.proofs.refusals.Refusals.{FailsForSpec, explains_on}
 
 pub string_read-given : (spec : Spec) (index : ℕ)
     → string_read spec index ≡ option_map (take 255) (string_given index spec)
-string_read-given spec index =
-    elim (decided spec.stalls.string) [ inl e ↦ rw e refl | inr e ↦ rw e refl ]
+string_read-given spec index = grind arith
 
 -- only a STALL is no stop
 pub stall_alone : (fault : PipeFault) → stop_of fault ≡ None → fault ≡ pipe.Stalled
-stall_alone pipe.Stalled none = refl
-stall_alone _ none = absurd cc
+stall_alone fault none = grind arith
 
 -- what is read of its bytes
 pub string_named : (t : Target) (index language : ℕ) (bytes : Option (Vec ℕ))
@@ -43,10 +36,7 @@ pub string_named : (t : Target) (index language : ℕ) (bytes : Option (Vec ℕ)
     → Answered t (ReadsString t index language) (λ x spec. x ≡ string_in spec index) old new string
 string_named t index language bytes string {new} is_named is read = record {
   told = named is_named bytes read.told is;
-  so = learns_wider new read.so (λ spec has max. is ∙ ap
-      (option_and_then string_units) (has max) ∙ sym (ap
-      (λ b. if b then None else option_and_then string_units (string_read spec index))
-      (ne_eqb index 0 is_named)));
+  so = learns_wider new read.so (grind arith);
 }
 
 pub language_asked : (t : Target) (bytes : Option (Vec ℕ)) (language : Option ℕ) {old new : World}
@@ -54,9 +44,8 @@ pub language_asked : (t : Target) (bytes : Option (Vec ℕ)) (language : Option 
     → Answered t (AsksString t 0 0) (HasString 0) old new bytes
     → Answered t (AsksLanguage t) (λ x spec. x ≡ language_of spec) old new language
 language_asked t bytes language {new} is read = record {
-  told = record { bytes = bytes; asked = read.told; said = is };
-  so = learns_wider new read.so
-      (λ spec has max. is ∙ ap (option_and_then first_language_of) (has max));
+  told = grind arith;
+  so = learns_wider new read.so (grind arith);
 }
 
 -- The strings that a descriptor names
@@ -64,18 +53,12 @@ language_asked t bytes language {new} is read = record {
 pub at_language : (spec : Spec) (index : ℕ) {language : ℕ} → Some language ≡ language_of spec
     → string_at spec index ≡ string_in spec index
 unfolding string_at
-at_language spec index is =
-    ap (λ o. if index == 0 || not (is_some o) then None else option_and_then string_units
-    (string_read spec index)) (sym is)
-    ∙ elim (decided (index == 0)) [ inl e ↦ rw e refl | inr e ↦ rw e refl ]
+at_language spec index is = grind arith
 
 pub string_at-no_language : (spec : Spec) (index : ℕ) → None ≡ language_of spec
     → string_at spec index ≡ None
 unfolding string_at
-string_at-no_language spec index is =
-    ap (λ o. if index == 0 || not (is_some o) then None else option_and_then string_units
-    (string_read spec index)) (sym is)
-    ∙ elim (decided (index == 0)) [ inl e ↦ rw e refl | inr e ↦ rw e refl ]
+string_at-no_language spec index is = grind arith
 
 pub string_at-zero : (spec : Spec) (index : ℕ) → index ≡ 0 → string_at spec index ≡ None
 unfolding string_at
@@ -91,33 +74,23 @@ same_strings e f g = rw (e, f, g) refl
 pub never_stop : {t : Target} (index : ℕ) {spec : Spec} → IsResponsive t spec
     → (fault : PipeFault) (stop : Stop) → stop_of fault ≡ Some stop
     → FailsForSpec (string_given index) fault spec → IsRefusedFor no_fault stop spec
-never_stop index r pipe.Stalled stop is why = absurd cc
-never_stop index r pipe.Busy stop is why = false_true (sym r.free ∙ why.1)
-never_stop index r pipe.NoAnswer stop is why = false_true (sym r.loud ∙ why)
-never_stop index r pipe.Broken stop is why = absurd why
-never_stop index {spec} r _ stop is why =
-    subst (λ s. IsRefusedFor no_fault s spec) (same_Some _ _ is) tt
+never_stop index r fault stop is why = grind arith
 
 -- a fault that is a stop is told as that, whatever a STALL means
 pub stopped_read : {A : Type 0} (stalled : Cause) (outcome : Result A PipeFault) (fault : PipeFault)
     (stop : Stop) → outcome ≡ Err fault → stop_of fault ≡ Some stop
     → Err stop ≡ answered_or stalled outcome
-stopped_read stalled outcome fault stop is some =
-    sym (ap (answered_or stalled) is ∙ ap (λ o. Err (unwrap_or o (Refused stalled))) some)
+stopped_read stalled outcome fault stop is some = grind arith
 
 -- a read that stops behind others
 pub string_stops : (So : Spec → Type 0) {t : Target} {m n : ℕ} {old mid new : World}
     {a b c : Option (List ℕ)} (stop : Stop) → KeepingSteps OnlyAsks m old a mid b
     → DeviceFact So t old mid → KeepingSteps OnlyAsks n mid b new c
     → StopsRead t no_fault mid new stop → StopsRead t no_fault old new stop
-string_stops So {t} {new} stop first fact next stops = record {
-  told = told_after stop t new first.went.led stops.told;
-  so = explains_on fact first.went next.went stops.so (λ spec a b. b);
-}
+string_stops So stop first fact next stops = search (explains_on, told_after, first.went)
 
 -- that each was read
 pub strings_read : {A B : Spec → Type 0} (t : Target) {n : ℕ} {old mid new : World}
     {a b : Option (List ℕ)} → DeviceFact A t old mid → KeepingSteps OnlyAsks n mid a new b
     → DeviceFact B t mid new → DeviceFact (λ spec. ⊤) t old new
-strings_read t first steps next =
-    learns_on first steps.went next (λ spec a b. tt)
+strings_read t first steps next = search learns_on

@@ -1,13 +1,12 @@
 -- How many bytes texts have together, and what they leave of a budget.
-use Rattle.std.proofs.Common.{◌≡◌, ◌<◌, ◌≤◌, ◌+◌, ℕ, zero, suc, Bool, true, false, List, [], ◌∷◌}
-use Rattle.std.proofs.Common.{◌++◌, map, take, length, slice_get, Option, None, Some, Result, Ok}
-use Rattle.std.proofs.Common.{Err, if◌then◌else◌, is_ok, nat_lt, refl, ap, sym, subst, ◌∙◌, arith}
+use Rattle.std.proofs.Common.{◌≡◌, ◌<◌, ◌≤◌, ◌+◌, ℕ, zero, suc, true, false, List, [], ◌∷◌, ◌++◌}
+use Rattle.std.proofs.Common.{map, take, length, slice_get, Option, Some, Ok, is_ok, refl, ap, sym}
+use Rattle.std.proofs.Common.{◌∙◌, arith}
 use Rattle.std.specs.List.{sum_by}
-use Rattle.std.proofs.lemmas.Bool.{and_parts, le-ltb, ltb-false}
+use Rattle.std.proofs.lemmas.Bool.{and_parts}
 use Rattle.std.proofs.lemmas.List.{get_or-take}
 use Rattle.std.proofs.lemmas.List.Sums.{sum_by-cons, sum_by_push}
-use Rattle.usb_descriptor.specs.{DescriptorFault, Short, Total, config_after, config_head_of}
-use Rattle.usb_descriptor.specs.{config_of, total_in}
+use Rattle.usb_descriptor.specs.{config_head_of, config_of, total_in}
 use Rattle.usb_descriptor.proofs.Interface.{header_of}
 use Rattle.usb_device.specs.{Spec, said_length}
 use Rattle.usb_enum.specs.{HasConfigurations, is_good_text, is_over, left_of, said_below, text_read}
@@ -20,25 +19,7 @@ use Rattle.usb_enum.proofs.readings.SettingValues.{each_good, fresh_text, ok_tot
 config_total : (bytes : List ℕ) → is_ok (config_of bytes) ≡ true
     → config_head_of bytes ≡ Ok (length bytes)
 unfolding config_of
-config_total bytes ok = by (config_head_of bytes) refl ok
-  where
-    sized : {A : Type 0} (short long : Bool) (r : Result A DescriptorFault)
-        → is_ok (if short then Err Short else if long then Err Total else r) ≡ true
-        → (short ≡ false) × (long ≡ false)
-    sized false false r is = (refl, refl)
-    sized _ _ r is = absurd cc
-
-    by : (r : Result ℕ DescriptorFault) → config_head_of bytes ≡ r
-        → is_ok (config_after r bytes) ≡ true → config_head_of bytes ≡ Ok (length bytes)
-    by (Err fault) head is = absurd cc
-    by (Ok total) head is =
-        let both = sized (nat_lt (length bytes) total) (nat_lt total (length bytes)) _ is in
-        let same : total ≡ length bytes = omega (
-          arith,
-          ltb-false (length bytes) total both.0,
-          ltb-false total (length bytes) both.1,
-        ) in
-        head ∙ ap Ok same
+config_total bytes ok = grind arith
 
 -- what is read of a good text is as long as that
 good_length : (text : List ℕ) → is_good_text text ≡ true
@@ -51,15 +32,7 @@ good_length text good =
     let parts = and_parts (is_ok head) (is_ok (config_of read)) good in
     let said = header_of (take 9 text) total (ok_total head parts.0) in
     let whole = header_of read (length read) (config_total read parts.1) in
-    omega (
-      arith,
-      said.says,
-      whole.says,
-      get_or-take 9 text 2 0 (omega arith),
-      get_or-take 9 text 3 0 (omega arith),
-      get_or-take total text 2 0 (omega (arith, said.least)),
-      get_or-take total text 3 0 (omega (arith, said.least)),
-    )
+    grind (arith, get_or-take)
 
 -- Some texts
 
@@ -74,7 +47,7 @@ lengths_said (suc n) (x ∷ xs) goods =
     (good_length x (goods zero x (omega arith) refl))
     ∙ ap (λ k. said_length x + k)
     (lengths_said n xs (λ i text below e. goods (suc i) text (omega (arith, below)) e))
-    ∙ sym (sum_by-cons said_length x (take n xs))
+    ∙ sym (search sum_by-cons)
 
 -- those that were read have as many bytes as their heads say
 pub kept_said : {budget : Option ℕ} {count : ℕ} {texts : List (List ℕ)} {spec : Spec}
@@ -83,7 +56,7 @@ kept_said {budget} {count} {spec} has =
     ap texts_length has.read
     ∙ lengths_said count spec.configs
     (λ i text below e. (fresh_text (left_of budget (said_below spec i)) spec i text e
-    (each_good budget spec count i below has.good)).good)
+    (search each_good)).good)
 
 -- and leave as much as what was said
 pub left_said : {budget : Option ℕ} (room : Option ℕ) {count : ℕ} {texts : List (List ℕ)}
@@ -94,27 +67,18 @@ left_said {budget} room same has =
 
 -- Within a budget
 
--- none is over
-pub over_none : (room : Option ℕ) → is_over room 0 ≡ false
-over_none None = refl
-over_none (Some most) = le-ltb most 0 (omega arith)
-
 pub within_none : (budget : Option ℕ) (texts : List (List ℕ)) → texts ≡ []
     → is_over budget (texts_length texts) ≡ false
-within_none budget texts none = ap (λ x. is_over budget (texts_length x)) none ∙ over_none budget
+within_none budget texts none = grind arith
 
 pub left_none : (budget : Option ℕ) (texts : List (List ℕ)) → texts ≡ []
     → budget ≡ left_of budget (texts_length texts)
-left_none None texts none = refl
-left_none (Some most) texts none =
-    ap Some (omega arith) ∙ ap (λ x. left_of (Some most) (texts_length x)) (sym none)
+left_none budget texts none = grind arith
 
 -- as long as what is left
 pub within_shorter : (room : Option ℕ) (bytes most : ℕ) → bytes ≤ most → is_over room most ≡ false
     → is_over room bytes ≡ false
-within_shorter None bytes most less fits = refl
-within_shorter (Some room) bytes most less fits =
-    le-ltb room bytes (omega (arith, less, ltb-false room most fits))
+within_shorter room bytes most less fits = grind arith
 
 -- one text more
 module _ (texts : List (List ℕ)) (text : List ℕ) where
@@ -123,19 +87,9 @@ module _ (texts : List (List ℕ)) (text : List ℕ) where
 
   pub left_more : (budget room : Option ℕ) → room ≡ left_of budget (texts_length texts)
       → left_of room (length text) ≡ left_of budget (texts_length (texts ++ text ∷ []))
-  left_more None room same = ap (λ r. left_of r (length text)) same
-  left_more (Some most) room same =
-      ap (λ r. left_of r (length text)) same ∙ ap Some (omega (arith, texts_more))
+  left_more budget room same = grind (arith, texts_more)
 
   pub within_more : (budget room : Option ℕ) → room ≡ left_of budget (texts_length texts)
       → is_over budget (texts_length texts) ≡ false → is_over room (length text) ≡ false
       → is_over budget (texts_length (texts ++ text ∷ [])) ≡ false
-  within_more None room same kept fits = refl
-  within_more (Some most) room same kept fits =
-      let here = subst (λ r. is_over r (length text) ≡ false) same fits in
-      le-ltb most (texts_length (texts ++ text ∷ [])) (omega (
-        arith,
-        texts_more,
-        ltb-false most (texts_length texts) kept,
-        ltb-false _ (length text) here,
-      ))
+  within_more budget room same kept fits = grind (arith, texts_more)

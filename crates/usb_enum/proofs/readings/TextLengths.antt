@@ -1,24 +1,20 @@
 -- How few attempts an enumeration makes, by the lengths that the devices' configuration texts say,
 -- from one call to the next.
-use Rattle.std.proofs.Common.{◌≡◌, ◌⊎◌, inl, inr, ◌≤◌, ◌<◌, ◌+◌, ◌*◌, ◌==◌, ℕ, true, false, List}
-use Rattle.std.proofs.Common.{length, take, get_or, slice_get, Option, None, Some, option_map}
-use Rattle.std.proofs.Common.{Result, Ok, Err, refl, ap, sym, subst, ◌∙◌, arith, IsErrAnd, OnOk}
-use Rattle.std.proofs.Common.{suc, Bool, cond, not, [], ◌∷◌, Ordering, Less, Equal, Greater, is_eq}
-use Rattle.std.proofs.Common.{IfSome, All, nat_eq}
+use Rattle.std.proofs.Common.{◌≡◌, ◌⊎◌, inl, inr, ◌≤◌, ◌<◌, ◌+◌, ◌*◌, ℕ, true, false, List, length}
+use Rattle.std.proofs.Common.{take, get_or, slice_get, Option, None, Some, Result, Ok, refl, sym}
+use Rattle.std.proofs.Common.{subst, arith, IsErrAnd, suc, Bool, cond, [], ◌∷◌, Ordering, Less}
+use Rattle.std.proofs.Common.{Equal, Greater, is_eq, IfSome, All}
 use Rattle.std.proofs.lemmas.List.Sums.{sum_by_more, sum_by-take-le}
 use Rattle.std.proofs.lemmas.Option.{get_or_from_slice_get, same_Some, slice_get_within}
 use Rattle.std.specs.Global.{Vec}
-use Rattle.std.specs.List.{sum_by, starts_with, filter}
+use Rattle.std.specs.List.{sum_by, filter}
 use Rattle.usb_request.specs.{Setup, IsToHost, get_configuration_descriptor}
-use Rattle.usb_descriptor.specs.{total_in}
-use Rattle.usb_device.specs.{OnlyStage, State, said_length, said_lengths, Spec, IsSpec, Location}
-use Rattle.usb_device.specs.{path_to, reach_on, state_on, state_there}
-use Rattle.usb_world.specs.{after_taking, Was, EachWas, World, Action, Plug, Unplug, Event, spec_of}
+use Rattle.usb_device.specs.{State, said_length, said_lengths, Spec, IsSpec, Location, path_to}
+use Rattle.usb_device.specs.{reach_on, state_on, state_there}
+use Rattle.usb_world.specs.{after_taking, Was, EachWas, World, Action, Plug, Unplug, Event}
 use Rattle.usb_world.specs.{PluggedMap, index_at, device_indexed, plugged_after, plugged_by}
 use Rattle.usb_world.specs.{plugged_without}
-use Rattle.usb_tree.specs.{address_of}
 use Rattle.usb_world.proofs.Interface.{same_is, course_joined, devices_left}
-use Rattle.usb_tree.proofs.Interface.{equal_same}
 use Rattle.usb_bus.specs.{StepRun}
 use Rattle.usb_transaction.specs.{Target, Answerer, HadOne, is_at}
 use Rattle.usb_pipe.specs.{control_bound}
@@ -26,16 +22,14 @@ use Rattle.usb_pipe.proofs.Interface.{who_reads, bound_wide}
 use Rattle.usb_address.specs.{AddressMap, MapHolds, Enumerating, WhileBusWorks, KeepsAddresses}
 use Rattle.usb_address.proofs.Interface.{same_setup}
 use Rattle.usb_hub.specs.{HubPort, KeepsDevices, config_given, TextAsked, ConfigAsked, Queried}
-use Rattle.usb_hub.proofs.Interface.{stays-registers, stays-spec}
 use Rattle.usb_enum.specs.{Addressed, Stop, IsSpare, read_bound, text_bound, texts_bound}
 use Rattle.usb_enum.specs.{pass_bound, configured_by, Learned, DeviceFact, AtPath, HasTaken}
 use Rattle.usb_enum.specs.{IsAddressed, IsRegular, AtMaximum, HasTotal, SaysWithin, HasPlanWithin}
 use Rattle.usb_enum.specs.{EachAt, SomeAt, IsAnswered, ReadsText, FewFor, FewFrom, Went}
 use Rattle.usb_enum.specs.{PlugsWithin}
 use Rattle.usb_enum.proofs.courses.Courses.{went_steps, went_unshared}
-use Rattle.usb_enum.proofs.devices.Frames.{held_there}
 use Rattle.usb_enum.proofs.readings.Heads.{head_packet}
-use Rattle.usb_enum.proofs.readings.Readings.{given_allows, learns_kept, learns_none, learns_on}
+use Rattle.usb_enum.proofs.readings.Readings.{learns_kept, learns_none, learns_on}
 use Rattle.usb_enum.proofs.readings.Truths.{ruled_there}
 use Rattle.std.specs.Prelude.{⊤}
 use Rattle.std.specs.BTreeMap.{insert_entry}
@@ -46,28 +40,14 @@ use Rattle.usb_world.specs.declared.event.Action.TheVariants.{Change, Ask}
 
 -- Whoever answered
 
--- a call that leaves a device its registers leaves it its address
-is_at-only_stage : (t : Target) (s v : State) → OnlyStage s v → is_at v t ≡ is_at s t
-is_at-only_stage t s v x = ap (λ r. r.address == t.addr) (stays-registers s v x)
-
 pub text_there : (given : Spec → Option (List ℕ)) {t : Target} {request : Setup} (wanted : ℕ)
     (bytes : Vec ℕ) {old new : World} → IsToHost request → Queried t request old (Ok bytes) new
     → (new.shared ≡ false → EachWas (TextAsked given t wanted (Ok bytes)) old new)
     → IsAnswered t new
 text_there given {t} {request} wanted bytes {old} {new} host asked what single =
-    let a : Answerer t old new = who_reads t request bytes old new host (same_setup request)
-    asked.settled asked.stages single in
+    let a : Answerer t old new = search (same_setup, who_reads) in
     let was : Was (TextAsked given t wanted (Ok bytes)) old a.spot a.now =
-    what single a.spot a.now a.on a.stands in
-    record {
-      spot = a.spot;
-      state = a.now;
-      on = a.on;
-      stands = a.stands;
-      at = is_at-only_stage t was.before a.now was.so.frame
-          ∙ subst (λ s. is_at s t ≡ true) (same_Some a.before was.before (sym a.stood ∙ was.stands))
-          a.at;
-    }
+    grind arith in grind arith
 
 pub config_there : {t : Target} (index wanted : ℕ) {bytes : Vec ℕ} {old new : World}
     → Queried t (get_configuration_descriptor index wanted) old (Ok bytes) new
@@ -81,37 +61,16 @@ config_there index wanted {bytes} asked what =
 some_learned : (So : Spec → Type 0) {t : Target} (old : World) {new : World}
     → DeviceFact So t old new → new.shared ≡ false → HadOne t new → SomeAt So t old
 some_learned So {t} old learns single one =
-    let was : Was (Learned So t) old one.spot one.state =
-    learns single one.spot one.state one.on one.stands in
-    let at : is_at was.before t ≡ true = sym (is_at-only_stage t was.before one.state was.so.frame)
-    ∙ one.at in
-    record {
-      spot = one.spot;
-      state = was.before;
-      on = was.on;
-      stands = was.stands;
-      at = at;
-      so = was.so.so at;
-    }
+    let was : Was (Learned So t) old one.spot one.state = grind arith in
+    grind arith
 
 -- One text
-
-not_ok : {A E : Type 0} (r : Result A E) (P : Type 0) (why : E) → IsErrAnd r (λ e. e ≡ why)
-    → OnOk r P
-not_ok (Ok x) P why same = absurd same
-not_ok (Err e) P why same = tt
 
 -- its head was not read
 pub head_unread : {t : Target} {index : ℕ} {old new : World} {a b : Option (List ℕ)}
     {r : Result (List ℕ) Stop} (why : Stop) → IsErrAnd r (λ e. e ≡ why)
     → StepRun (read_bound 9) old a new b → ReadsText t index old r new
-head_unread {r} why same went =
-    record {
-      total = 0;
-      count = omega (arith, went.spends.most);
-      said = inl refl;
-      read = not_ok r _ why same;
-    }
+head_unread why same went = grind arith
 
 -- it was asked for after its head was read
 module _ {t : Target} {index total : ℕ} {old mid new : World} {a b c d : Option (List ℕ)}
@@ -120,25 +79,15 @@ module _ {t : Target} {index total : ℕ} {old mid new : World} {a b c d : Optio
     (learned : DeviceFact (AtMaximum t (HasTotal index total)) t old mid)
     (there : IsAnswered t mid) where
   counted : new.attempts ≤ old.attempts + (text_bound + 100 * total)
-  counted = omega (
-    arith,
-    first.spends.most,
-    (subst (λ n. StepRun n mid c new d) (bound_wide t.max total wide) second).spends.most,
-  )
+  counted = grind (arith, bound_wide)
 
   head_said : new.shared ≡ false → SomeAt (AtMaximum t (HasTotal index total)) t old
   head_said single =
-      let back = (went_steps second).unshared single in
-      some_learned (AtMaximum t (HasTotal index total)) old learned back (there back)
+      let back = (went_steps second).unshared single in grind (arith, some_learned)
 
   pub text_unread : {r : Result (List ℕ) Stop} (why : Stop) → IsErrAnd r (λ e. e ≡ why)
       → ReadsText t index old r new
-  text_unread {r} why same = record {
-    total = total;
-    count = counted;
-    said = inr head_said;
-    read = not_ok r _ why same;
-  }
+  text_unread why same = grind (arith, counted, head_said)
 
   pub text_was_read : (text : List ℕ) → KeepsDevices mid new → IsAnswered t new
       → ReadsText t index old (Ok text) new
@@ -146,7 +95,7 @@ module _ {t : Target} {index total : ℕ} {old mid new : World} {a b c d : Optio
     total = total;
     count = counted;
     said = inr head_said;
-    read = (learns_kept learned (went_steps second) keeps, answered);
+    read = search (learns_kept, went_steps);
   }
 
 -- The texts so far
@@ -160,21 +109,18 @@ totals_more : {n bytes total : ℕ} {spec : Spec} → HasTotals n bytes spec →
     → HasTotals (n + 1) (bytes + total) spec
 unfolding said_length
 totals_more {n} {total} {spec} before now =
-    let given = (given_allows spec.stalls.config (slice_get spec.configs n) now.text now.given).1 in
-    let less : n < length spec.configs = slice_get_within spec.configs n now.text given in
+    let less : n < length spec.configs = grind (arith, slice_get_within) in
     let said : said_length (get_or spec.configs n now.text) ≡ total =
-    ap said_length (get_or_from_slice_get spec.configs n now.text now.text given)
-    ∙ ap total_in now.head in
+    grind (arith, get_or_from_slice_get) in
     record {
       there = omega arith;
-      sum = sum_by_more said_length spec.configs n now.text less ∙ omega (arith, before.sum, said);
+      sum = grind (arith, sum_by_more);
     }
 
 totals_within_said : {n bytes : ℕ} {spec : Spec} → HasTotals n bytes spec
     → bytes ≤ said_lengths spec
 unfolding said_lengths
-totals_within_said {n} {spec} has =
-    omega (arith, has.sum, sum_by-take-le said_length spec.configs n)
+totals_within_said has = grind (arith, sum_by-take-le)
 
 -- so many texts were read: how few attempts that took, and what they say
 pub record TextsRead (t : Target) (n : ℕ) (old new : World) : Type 0 where
@@ -198,27 +144,18 @@ pub texts_read_more : {t : Target} {n : ℕ} {old mid new : World} {text : List 
 texts_read_more {t} {n} {old} before went now =
     let bytes = before.bytes + now.total in
     let learned = learns_on {C = AtMaximum t (HasTotals (n + 1) bytes)} before.learned went
-    now.read.0 (λ spec x y max. totals_more (x max) (y max)) in
+    now.read.0 (search totals_more) in
     record {
       bytes = bytes;
       count = omega (arith, before.count, now.count);
       learned = learned;
-      said = inr (λ single. some_learned (AtMaximum t (HasTotals (n + 1) bytes)) old learned
-          single (now.read.1 single));
+      said = grind (arith, some_learned);
     }
 
 -- how many and how long they are
 texts_within : {t : Target} {n : ℕ} {old new : World} (most : ℕ) (before : TextsRead t n old new)
     → new.shared ≡ false → EachAt (SaysWithin t most) t old → (n ≤ 8) × (before.bytes ≤ most)
-texts_within {t} {n} most before single each = elim before.said [
-  | inl none ↦ (omega (arith, none.0), omega (arith, none.1))
-  | inr some ↦ (let s = some single in
-      let says : SaysWithin t most s.state.spec = each s.spot s.state s.on s.stands s.at in
-      let has : HasTotals n before.bytes s.state.spec = s.so says.max in (
-        omega (arith, has.there, says.few),
-        omega (arith, totals_within_said has, says.within),
-      ))
-]
+texts_within most before single each = grind (arith, totals_within_said)
 
 pub texts_ended : {t : Target} {n : ℕ} {old new : World} → TextsRead t n old new
     → FewFor texts_bound t old new
@@ -240,15 +177,10 @@ texts_failed {t} {n} {old} before went now =
                 omega (arith, before.count, now.count, none, within.0, within.1))
             | inr some ↦ (let s = some single in
                 let was : Was (Learned (AtMaximum t (HasTotals n before.bytes)) t) old s.spot
-                s.state =
-                before.learned back s.spot s.state s.on s.stands in
-                let at : is_at was.before t ≡ true =
-                sym (is_at-only_stage t was.before s.state was.so.frame) ∙ s.at in
-                let says : SaysWithin t most was.before.spec =
-                each s.spot was.before was.on was.stands at in
-                let next : HasTotal n now.total was.before.spec =
-                subst (AtMaximum t (HasTotal n now.total))
-                (stays-spec was.before s.state was.so.frame) s.so says.max in
+                s.state = grind arith in
+                let at : is_at was.before t ≡ true = grind arith in
+                let says : SaysWithin t most was.before.spec = grind arith in
+                let next : HasTotal n now.total was.before.spec = grind arith in
                 let all : HasTotals (n + 1) (before.bytes + now.total) was.before.spec =
                 totals_more (was.so.so at says.max) next in
                 omega (
@@ -280,9 +212,7 @@ few_then h begun went le =
 
 pub few_wider : {f : ℕ → ℕ} (h : ℕ → ℕ) {t : Target} {old new : World} → FewFor f t old new
     → ((most : ℕ) → f most ≤ h most) → FewFor h t old new
-few_wider h made le = record {
-  few = λ most single each. omega (arith, made.few most single each, le most);
-}
+few_wider h made le = grind arith
 
 -- What is plugged in
 
@@ -333,11 +263,8 @@ module _ (most : ℕ) (devices : List Spec) where
       → EachPlugged (PluggedWithin most devices) tree
       → EachPlugged (PluggedWithin most devices) (plugged_after action tree)
   unfolding plugged_without
-  indexed_after (Change (Plug path device)) tree so each =
-      inserted (PluggedWithin most devices) tree path device so each
-  indexed_after (Change (Unplug path)) tree so each =
-      filtered (PluggedWithin most devices) (λ place. not (starts_with nat_eq place.0 path)) tree
-      each
+  indexed_after (Change (Plug path device)) tree so each = grind (arith, inserted)
+  indexed_after (Change (Unplug path)) tree so each = grind (arith, filtered)
   indexed_after (Ask ask) tree so each = each
 
   indexed_by : (n : ℕ) (events : List Event) (tree : PluggedMap)
@@ -353,9 +280,7 @@ module _ (most : ℕ) (devices : List Spec) where
 
   described : (o : Option ℕ) (spec : Spec) → ((i : ℕ) → o ≡ Some i → PluggedWithin most devices i)
       → device_indexed devices o ≡ Some spec → said_lengths spec ≤ most
-  described None spec each e = absurd cc
-  described (Some i) spec each e = subst (λ o. IfSome o (λ spec. said_lengths spec ≤ most)) e
-      (each i refl)
+  described o spec each e = grind arith
 
 -- the device at a path
 pub plugged_within : {most : ℕ} {w : World} → HasPlanWithin most w → (path : List ℕ) (s : State)
@@ -364,21 +289,14 @@ plugged_within {most} {w} has path s there =
     let plan = has.planned.plan in
     let tree = plugged_by [] (take w.taken plan.events) in
     described most plan.devices (index_at tree path) s.spec
-    (λ i e. found (PluggedWithin most plan.devices) tree path i
-    (indexed_by most plan.devices w.taken plan.events [] has.plugs tt) e)
-    (sym (devices_left plan has.planned.is has.planned.paths w has.planned.course path)
-    ∙ ap (option_map spec_of) there)
+    (λ i e. found (PluggedWithin most plan.devices) tree path i (grind (arith, indexed_by)) e)
+    (grind (arith, devices_left))
 
 -- from one call to the next
 pub plan_within_after : {most : ℕ} {old new : World} → Went old new → new.fault ≡ None
     → HasPlanWithin most old → HasPlanWithin most new
 plan_within_after went none has = record {
-  planned = record {
-    plan = has.planned.plan;
-    is = has.planned.is;
-    paths = has.planned.paths;
-    course = course_joined has.planned.course (went.led.course none);
-  };
+  planned = grind (arith, course_joined);
   plugs = has.plugs;
 }
 
@@ -389,15 +307,11 @@ module _ {port : HubPort} {address : ℕ} {device : Addressed} {old mid : World}
     {p : List ℕ} (spare : IsSpare f port p address)
     (till : WhileBusWorks (Enumerating f p address) old) (regular : IsRegular old) where
   owned : WhileBusWorks (MapHolds (after_taking f p address)) mid
-  owned = taken.takes.took f p spare till
+  owned = grind arith
 
   there : (x : Location) (s : State) → reach_on mid.roots x ≡ true → state_on mid.roots x ≡ Some s
       → is_at s device.target ≡ true → path_to x ≡ p
-  there x s on stands at =
-      let own = owned.so taken.still in
-      same_is p (path_to x) (own.distinct p (path_to x) address (held_there f p address)
-      (sym (own.own (path_to x) on) ∙ ap (option_map address_of) stands
-      ∙ ap Some (equal_same (address_of s) device.target.addr at ∙ taken.address)))
+  there x s on stands at = same_is p (path_to x) (grind arith)
 
   says_within : (most : ℕ) → (old.fault ≡ None → HasPlanWithin most old)
       → EachAt (SaysWithin device.target most) device.target mid
@@ -412,7 +326,7 @@ module _ {port : HubPort} {address : ℕ} {device : Addressed} {old mid : World}
         max = head_packet is.low is.head;
         few = ruled.configs;
         within = plugged_within (plan_within_after went taken.still
-            (plan (went.led.sound taken.still))) (path_to x) s stands;
+            (plan (grind arith))) (path_to x) s stands;
       }
 
 pub examined_few : {port : HubPort} {address : ℕ} {device : Addressed} {old mid new : World}
@@ -421,12 +335,11 @@ pub examined_few : {port : HubPort} {address : ℕ} {device : Addressed} {old mi
     → KeepsAddresses mid new → FewFrom port address old new
 examined_few {address} {new} went taken configured keeps = record {
   few = λ f p spare till regular most plan.
-      let single = (keeps.kept (after_taking f p address) (taken.takes.took f p spare till)).single
+      let single = (keeps.kept (after_taking f p address) (grind arith)).single
       in
       omega (
         arith,
         went.spends.most,
-        configured.few most single (says_within (went_steps went) taken spare
-            till regular most plan),
+        configured.few most single (search (says_within, went_steps)),
       );
 }

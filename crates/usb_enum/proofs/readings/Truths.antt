@@ -1,41 +1,29 @@
 -- That a finding is the device's own.
-use Rattle.std.proofs.Common.{◌≡◌, ℕ, suc, ◌==◌, ◌&&◌, not, Bool, true, false, List, [], ◌∷◌}
-use Rattle.std.proofs.Common.{slice_index_or, take, if◌then◌else◌, Option, None, Some, Result, Ok}
-use Rattle.std.proofs.Common.{Err, refl, ap, sym, subst, ◌∙◌, arith, IfOk}
-use Rattle.std.proofs.lemmas.Bool.{eq-eqb}
+use Rattle.std.proofs.Common.{◌≡◌, ℕ, suc, ◌&&◌, not, Bool, false, List, ◌∷◌, take, Option, Some}
+use Rattle.std.proofs.Common.{Result, Ok, Err, ap, ◌∙◌, arith, IfOk}
 use Rattle.usb_descriptor.specs.{configuration_value, configuration_count}
-use Rattle.usb_device.specs.{State, Ports, Location, state_there, Spec, IsSpec, hub_ports}
-use Rattle.usb_resources.specs.{supply_of}
+use Rattle.usb_device.specs.{State, Ports, Location, state_there, Spec, IsSpec}
 use Rattle.usb_world.specs.{after_taking, Consistent, World}
-use Rattle.usb_tree.specs.{address_of}
 use Rattle.usb_world.proofs.Interface.{sane_spec}
-use Rattle.usb_tree.proofs.Interface.{and_false, self_path}
+use Rattle.usb_tree.proofs.Interface.{self_path}
 use Rattle.usb_address.specs.{KeepsAddresses}
 use Rattle.usb_hub.specs.{HubPort}
 use Rattle.usb_enum.specs.{Addressed, Accepted, HubFacts, Stop, Within, verdict, is_good_hub}
-use Rattle.usb_enum.specs.{facts_of, texts_below, first_fault, strings_by, IsAs, is_device}
-use Rattle.usb_enum.specs.{is_hub_device, string_indexes, configuration_of, HasFacts, OnlySets}
-use Rattle.usb_enum.specs.{IsAccepted, IsListed, IsOwn, IsWhole, Finds, HasTaken, IsAddressed}
-use Rattle.usb_enum.specs.{HasReadings, LearnedSet, TellsPorts, AtMaximum, IsGoodHub, choice_of}
+use Rattle.usb_enum.specs.{facts_of, IsAs, is_hub_device, string_indexes, configuration_of}
+use Rattle.usb_enum.specs.{HasFacts, OnlySets, IsAccepted, IsListed, IsOwn, IsWhole, Finds}
+use Rattle.usb_enum.specs.{HasTaken, IsAddressed, HasReadings, LearnedSet, TellsPorts, AtMaximum}
 use Rattle.usb_enum.specs.{HostOptions, Went}
 use Rattle.usb_enum.proofs.devices.Enumerations.{within-keeps_addresses, takes_then}
 use Rattle.usb_enum.proofs.readings.Heads.{head_packet}
 use Rattle.usb_enum.proofs.courses.Courses.{leads_then}
 use Rattle.usb_enum.proofs.devices.Presence.{finds_on}
 use Rattle.usb_enum.proofs.devices.ReachedDevices.{reaches_set}
-use Rattle.usb_enum.proofs.stops.PlainStops.{fits_tier-hub}
-use Rattle.usb_enum.proofs.verdicts.VerdictRows.{slice_index-take, front_count, front_hub}
-use Rattle.usb_enum.proofs.verdicts.VerdictRows.{GaveDevice, gave_head, row_accepted}
+use Rattle.usb_enum.proofs.verdicts.VerdictRows.{front_count, front_hub, GaveDevice, row_accepted}
 
 -- What is read of the first 18 bytes of a descriptor
 
 front_indexes : (d : List ℕ) → string_indexes (take 18 d) ≡ string_indexes d
-front_indexes d =
-    rw (
-      slice_index-take d 14 (omega arith),
-      slice_index-take d 15 (omega arith),
-      slice_index-take d 16 (omega arith),
-    ) refl
+front_indexes d = grind arith
 
 -- Hubs
 
@@ -44,28 +32,10 @@ record HubTold (wide : Bool) (spec : Spec) (text : List ℕ) (told : Option HubF
   good : (is_hub_device spec.descriptor && not (is_good_hub wide spec text)) ≡ false
   facts : told ≡ facts_of spec
 
-no_hub : (hub good : Bool) → hub ≡ false → (hub && not good) ≡ false
-no_hub hub good e = rw e refl
-
-good_not_refused : (hub good : Bool) → good ≡ true → (hub && not good) ≡ false
-good_not_refused hub good e = rw e (and_false hub)
-
 facts_told : (wide : Bool) {spec : Spec} (bytes text : List ℕ) (told : Option HubFacts)
     → IsSpec spec → is_hub_device bytes ≡ is_hub_device spec.descriptor → HasFacts bytes text told
     → TellsPorts wide text told spec → HubTold wide spec text told
-facts_told wide {spec} bytes text (Some facts) ruled same has tells =
-    let is : IsGoodHub wide text facts spec = tells ruled in
-    record {
-      good = good_not_refused (is_hub_device spec.descriptor) (is_good_hub wide spec text) is.good;
-      facts = sym is.told;
-    }
-facts_told wide {spec} bytes text None ruled same has tells = record {
-  good = no_hub (is_hub_device spec.descriptor) (is_good_hub wide spec text) (sym same ∙ has);
-  facts = sym (ap (λ b. if b then Some (record {
-    ports = hub_ports spec.hub;
-    supply = supply_of false spec.self_powered;
-  }) else None) (sym same ∙ has));
-}
+facts_told wide bytes text told ruled same has tells = grind arith
 
 -- The finding
 
@@ -78,34 +48,11 @@ own_finding {options} {tier} {supply} {addressed} {device} {s} ruled found is wh
     let spec = s.spec in
     let hub_same = ap is_hub_device found.bytes ∙ front_hub spec.descriptor in
     let count_same = ap configuration_count found.bytes ∙ front_count spec.descriptor in
-    let texts_same = read.configs.read ∙ ap (texts_below spec) count_same in
     let wide = options.wide_hubs in
-    let gave : GaveDevice spec tier = record {
-      first = gave_head found.low found.head;
-      address = found.allowed;
-      whole = ap (λ l. is_device l (take 18 spec.descriptor)) (found.low ∙ sym is.low)
-          ∙ ap (is_device device.low) (sym (is.bytes ∙ found.bytes)) ∙ whole.head;
-      shallow = ap (λ h. h && tier == 7) (sym hub_same)
-          ∙ fits_tier-hub tier addressed.bytes is.fits;
-    } in
+    let gave : GaveDevice spec tier = grind arith in
     let hub = facts_told wide device.bytes (configuration_of device) device.hub ruled
-    (ap is_hub_device is.bytes ∙ hub_same) whole.hub read.ports in (
-      row_accepted options (record {
-        device = gave;
-        good = ap (first_fault options.device_bytes spec) (sym count_same) ∙ read.configs.good;
-        within = ap (choice_of supply) (sym texts_same) ∙ whole.chosen;
-      }) read.allowed (ap (λ texts. is_hub_device spec.descriptor &&
-          not (is_good_hub wide spec (slice_index_or texts device.chosen []))) (sym texts_same)
-          ∙ hub.good),
-      record {
-        low = is.low ∙ sym found.low;
-        bytes = is.bytes ∙ found.bytes;
-        configs = texts_same;
-        strings = read.strings ∙ ap (strings_by spec) (ap string_indexes found.bytes
-            ∙ front_indexes spec.descriptor);
-        hub = hub.facts;
-      },
-    )
+    (search is.bytes) whole.hub read.ports in
+    grind (arith, front_indexes, row_accepted)
 
 -- it is set as it says, where its address is the target's and its configuration the chosen one's
 accepted_own_device : {options : HostOptions} {tier supply : ℕ} {addressed : Addressed}
@@ -116,17 +63,9 @@ accepted_own_device : {options : HostOptions} {tier supply : ℕ} {addressed : A
     → IsOwn options tier supply device v
 accepted_own_device {options} {tier} {supply} {addressed} {device} {s} whole is learned found ruled
     =
-    let learned_of = learned.so (eq-eqb (address_of s) addressed.target.addr found.address) in
+    let learned_of = learned.so (grind arith) in
     let read : HasReadings options addressed.bytes device s.spec =
-    learned_of.0 (head_packet found.low found.head) in (
-      subst (λ x. (verdict x options tier supply ≡ Ok device.chosen) × IsAs x device)
-          (sym learned.spec) (own_finding ruled found is whole read),
-      record {
-        address = learned.address ∙ found.address ∙ sym is.address;
-        configuration = learned_of.1;
-      },
-      learned_of.2,
-    )
+    learned_of.0 (head_packet found.low found.head) in grind (arith, own_finding)
 
 pub ruled_there : (k : Ports) (p : List ℕ) (s : State) → Consistent k → state_there k p ≡ Some s
     → IsSpec s.spec
@@ -163,23 +102,16 @@ pub accepted : {port : HubPort} {address : ℕ} (options : HostOptions) (tier su
 accepted {port} {address} options tier supply {addressed} (Ok device) went within taken
     sets later whole is = record {
       served = is.served;
-      takes = takes_then taken.takes sets.addresses;
-      own = own_found went within taken sets.addresses whole is;
-      reaches = reaches_set later taken.takes sets taken.reaches;
+      takes = grind (arith, takes_then);
+      own = grind (arith, own_found);
+      reaches = grind (arith, reaches_set);
       below = λ f p spare t order.
           is.below.empty (after_taking f p address) p
-          (ap (λ b. if b then Some address else f p) (self_path p)
-          ∙ ap (λ a. Some a) (sym taken.address)) (taken.takes.took f p spare t) (went.order order);
+          (grind (arith, self_path)) (grind arith) (went.order order);
       strings = record {
         target = addressed.target;
-        is = rw (is.address, is.low, ← taken.pre) refl;
-        ends =
-            let asked = rw (sym is.bytes) at is.strings in
-            record {
-              before = asked.before;
-              led = leads_then went.led asked.led;
-              read = asked.read;
-            };
+        is = grind arith;
+        ends = search (leads_then, is.bytes);
       };
     }
 accepted options tier supply (Err why) went within taken sets later whole

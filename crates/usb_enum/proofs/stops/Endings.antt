@@ -2,30 +2,29 @@
 use Rattle.usb_enum.specs.{Cause, EnumFault, Accepted, Finding, Stop, IsSpare, Within, TakesAddress}
 use Rattle.usb_enum.specs.{EnumWorks, HostOptions, OnlyCalls, AtPort, EndsOwned, EndsEnumeration}
 use Rattle.usb_enum.specs.{KeepsEnumerated, IsRight, FaultsFor, HubPends, IsFairAt, StopsFairly}
-use Rattle.usb_enum.specs.{StopsFor, OnlyAt, unaddressed_bound, Closes, Disables, GivesUp, IsFair}
-use Rattle.usb_enum.specs.{IsLeft, IsOwn, FindingIsTrue, FewAttempts, FindingStands, HasEmptyPorts}
-use Rattle.usb_enum.specs.{IsOccupied, IsPlaced, AtPath, Finds, IsInOrder, ReachesDevice, FewFrom}
-use Rattle.usb_enum.specs.{EndsFor, Enumerates, Went, Faulted, NoNewStretch, at_port}
-use Rattle.usb_enum.specs.{FaultAllowedAt, IsDisabled}
+use Rattle.usb_enum.specs.{StopsFor, unaddressed_bound, Closes, Disables, GivesUp, IsFair, IsOwn}
+use Rattle.usb_enum.specs.{FindingIsTrue, FewAttempts, FindingStands, HasEmptyPorts, IsOccupied}
+use Rattle.usb_enum.specs.{IsPlaced, AtPath, Finds, IsInOrder, ReachesDevice, FewFrom, EndsFor}
+use Rattle.usb_enum.specs.{Enumerates, Went, Faulted, NoNewStretch, at_port, FaultAllowedAt}
+use Rattle.usb_enum.specs.{IsDisabled}
 use Rattle.std.proofs.Common.{◌≡◌, ◌⊎◌, ◌≤◌, ◌+◌, inl, inr, ℕ, true, List, Option, None, Some}
-use Rattle.std.proofs.Common.{Result, Ok, Err, refl, ap, sym, subst, ◌∙◌, arith, IfErr}
-use Rattle.std.proofs.Common.{get_or-set_same, ◌-◌, false, slice_index_or}
+use Rattle.std.proofs.Common.{Result, Ok, Err, refl, sym, subst, ◌∙◌, arith, IfErr, get_or-set_same}
+use Rattle.std.proofs.Common.{◌-◌, false, slice_index_or}
 use Rattle.usb_world.specs.{after_taking, World, root_row, root_port_at}
 use Rattle.usb_device.specs.{State, Spec, state_there}
-use Rattle.usb_tree.specs.{is_way, pending}
-use Rattle.usb_tree.proofs.Interface.{decided, false_true}
+use Rattle.usb_tree.specs.{pending}
+use Rattle.usb_tree.proofs.Interface.{false_true}
 use Rattle.usb_bus.specs.{StepRun}
 use Rattle.usb_resources.specs.Pool as pool
 use Rattle.usb_resources.specs.{Addresses, IsFull, IsTaken, HasAddresses}
 use Rattle.usb_address.specs.{AddressMap, Free, map_without, MapHolds, Enumerating, WhileBusWorks}
 use Rattle.usb_address.proofs.Interface.{enumerating_begins, owned_as}
-use Rattle.usb_hub.specs.{EachNamedElsewhere, HubPort, IsAt, Isolates, StaysAs, order_bound}
-use Rattle.usb_hub.specs.{KeepsCleared, CommandsPort, Root, External, IsPort, PortCleared}
+use Rattle.usb_hub.specs.{HubPort, IsAt, Isolates, order_bound, KeepsCleared, CommandsPort, Root}
+use Rattle.usb_hub.specs.{External, IsPort, PortCleared}
 use Rattle.usb_enum.specs.declared.fault.EnumFault.TheVariants as fault
 use Rattle.usb_enum.specs.declared.finding.Finding.TheVariants.{Device, Refused}
 use Rattle.usb_enum.specs.declared.stop.Stop.TheVariants as stop
-use Rattle.usb_enum.proofs.devices.Enumerations.{till_weaker, having, at_taking, within_none}
-use Rattle.usb_enum.proofs.devices.Enumerations.{within_kept}
+use Rattle.usb_enum.proofs.devices.Enumerations.{till_weaker, having, at_taking, within_kept}
 use Rattle.usb_enum.proofs.courses.Fairness.{fair_before, fair_then, pends_on, called_faulted}
 use Rattle.usb_enum.proofs.devices.Frames.{but_taken, calls_then, calls_none, disable_calls}
 use Rattle.usb_enum.proofs.devices.ReachedDevices.{occupied_on, disables_none}
@@ -39,10 +38,7 @@ use Rattle.usb_pipe.specs.{PipeFault, FaultAfter}
 
 cleared_taken : (f : AddressMap) (p : List ℕ) (a : ℕ) → Free f p → (x : List ℕ)
     → map_without (after_taking f p a) p x ≡ f x
-cleared_taken f p a free x = elim (decided (is_way p x)) [
-  | inl e ↦ rw e (sym (free x e))
-  | inr e ↦ rw e (but_taken f p a x e)
-]
+cleared_taken f p a free x = grind (arith, but_taken)
 
 -- Given up
 
@@ -53,8 +49,8 @@ ends_refused {port} address {new} cause bares = record {
   ends = λ f p spare t.
       let h = having f p address t in
       let g : AddressMap = after_taking f p h.has in
-      till_weaker (bares.bares g p (at_taking f port p h.has spare.at) h.owned) (owned_as
-      (map_without g p) f new (cleared_taken f p h.has spare.free));
+      till_weaker (bares.bares g p (at_taking f port p h.has spare.at) h.owned)
+      (search (cleared_taken, owned_as));
 }
 
 -- there is no finding
@@ -65,44 +61,18 @@ ends_fault {address} {new} why within =
   where
     by_fault : (f : AddressMap) (p : List ℕ) (why : EnumFault)
         → WhileBusWorks (Enumerating f p address) new → EndsOwned f p (Err why) new
-    by_fault f p fault.ParentLost t = till_weaker t (λ e. record {
-      claims = after_taking f p e.has;
-      owned = e.owned;
-      others = but_taken f p e.has;
-    })
+    by_fault f p fault.ParentLost t = grind (arith, but_taken)
     by_fault f p (fault.Bus why) t = t.single
     by_fault f p fault.Memory t = t.single
-
--- then no device was found
-pub gives_up_no_device : (port : HubPort) (stop : Stop) (old new : World)
-    (result : Result Finding EnumFault) (device : Accepted) → GivesUp port stop old result new
-    → result ≡ Ok (Device device) → ⊥
-gives_up_no_device port (stop.Refused cause) old new (Ok finding) device gives e = let is =
-    gives.0 in absurd cc
-gives_up_no_device port (stop.Refused cause) old new (Err why) device gives e = absurd cc
-gives_up_no_device port (stop.Fault why) old new result device gives e = let is = gives.0 in
-    absurd cc
-
--- and the port of a refused one is disabled
-gives_left : (port : HubPort) (stop : Stop) (old new : World)
-    (result : Result Finding EnumFault) (finding : Finding) → GivesUp port stop old result new
-    → result ≡ Ok finding → IsLeft port finding new
-gives_left port stop old new result (Device device) gives e =
-    elim (gives_up_no_device port stop old new result device gives e) [ ]
-gives_left port (stop.Refused cause) old new (Ok finding) (Refused other) gives e = gives.1
-gives_left port (stop.Refused cause) old new (Err why) (Refused other) gives e = absurd cc
-gives_left port (stop.Fault why) old new result (Refused other) gives e = let is = gives.0 in
-    absurd cc
 
 -- The addresses that are taken
 
 pub zero_untaken : (addresses : Addresses) → HasAddresses addresses → IsTaken addresses 0 → ⊥
-zero_untaken addresses has taken = omega (arith, (has 0 taken).0)
+zero_untaken addresses has taken = grind arith
 
 pub zero_before : (old new : Addresses) (a : ℕ) → pool.Takes old a new → HasAddresses new
     → IsTaken old 0 → ⊥
-zero_before old new a takes has taken =
-    zero_untaken new has (takes.others 0 (omega (arith, takes.free.0.0)) ∙ taken)
+zero_before old new a takes has taken = grind arith
 
 pub free_untaken : (old new : Addresses) (a : ℕ) → pool.Takes old a new → IsTaken old a → ⊥
 free_untaken old new a takes taken = false_true (sym takes.free.1 ∙ taken)
@@ -126,50 +96,21 @@ module _ (port : HubPort) (addresses : Addresses) (address : ℕ) (zero_is : IsT
     → ⊥) (free : IsTaken addresses address → ⊥) where
   spare : (f : AddressMap) (p : List ℕ) → IsAt f port p → Free f p
       → ((x : List ℕ) (a : ℕ) → f x ≡ Some a → IsTaken addresses a) → IsSpare f port p address
-  spare f p at bare claimed = record {
-    at = at;
-    free = bare;
-    none = λ x e. zero_is (claimed x 0 e);
-    spare = λ x e. free (claimed x address e);
-  }
+  spare f p at bare claimed = grind arith
 
   first : {f : AddressMap} {p : List ℕ} {w : World} → IsSpare f port p address
       → WhileBusWorks (MapHolds f) w → WhileBusWorks (Enumerating f p address) w
-  first {f} {p} {w} is t = till_weaker t (enumerating_begins f p address w is.free is.none)
-
-  only_calls : {old new : World} → OnlyCalls port address old new → (f : AddressMap) (p : List ℕ)
-      → IsAt f port p → Free f p → ((x : List ℕ) (a : ℕ) → f x ≡ Some a → IsTaken addresses a)
-      → WhileBusWorks (MapHolds f) old → new.fault ≡ None → OnlyAt p old new
-  only_calls calls f p at bare claimed t =
-      let is = spare f p at bare claimed in calls.at f p is (first is t)
-
-  named_calls : {old new : World} → OnlyCalls port address old new → (f : AddressMap) (p : List ℕ)
-      → IsAt f port p → Free f p → ((x : List ℕ) (a : ℕ) → f x ≡ Some a → IsTaken addresses a)
-      → WhileBusWorks (MapHolds f) old → EachNamedElsewhere p StaysAs old new
-  named_calls calls f p at bare claimed t =
-      let is = spare f p at bare claimed in calls.named f p is (first is t)
+  first is t = grind (arith, enumerating_begins)
 
   pub enumerated : {old new : World} (device : Accepted) → device.address ≡ address
       → TakesAddress port address old new → OnlyCalls port address old new
       → KeepsEnumerated port addresses old (Ok (Device device)) new
-  enumerated device same takes calls = record {
-    ends = λ f p at bare claimed t.
-        let is = spare f p at bare claimed in
-        rw same (takes.took f p is (first is t));
-    only = only_calls calls;
-    named = named_calls calls;
-  }
+  enumerated device same takes calls = grind (arith, first)
 
   given_up : {old mid new : World} {result : Result Finding EnumFault}
       → Within port address old mid → EndsEnumeration port address mid result new
       → OnlyCalls port address old new → KeepsEnumerated port addresses old result new
-  given_up within ended calls = record {
-    ends = λ f p at bare claimed t.
-        let is = spare f p at bare claimed in
-        ended.ends f p is (within.stays f p is (first is t));
-    only = only_calls calls;
-    named = named_calls calls;
-  }
+  given_up within ended calls = grind (arith, first)
 
   pub found_true : (options : HostOptions) (tier supply : ℕ) {old new : World} (device : Accepted)
       → Finds (IsOwn options tier supply device) port address old new
@@ -192,11 +133,8 @@ module _ (port : HubPort) (addresses : Addresses) (address : ℕ) (zero_is : IsT
     placed = λ f p start occupied none finding e.
         let is = spare f p start.at start.free start.taken in
         let t = first is start.owned in
-        subst (λ x. IsPlaced p x new) (let same : Device device ≡ finding = cc in same) (record {
-          there = reaches.reached f p is t start.order occupied none;
-          below = λ other found. subst (λ (d : Accepted). HasEmptyPorts p d.hub new)
-              (let same : device ≡ other = cc in same) (ports f p is t start.order occupied none);
-        });
+        subst (λ x. IsPlaced p x new) (let same : Device device ≡ finding = cc in same)
+        (grind arith);
   }
 
   refused_placed : (last : Stop) {old mid new : World} {result : Result Finding EnumFault}
@@ -207,10 +145,8 @@ module _ (port : HubPort) (addresses : Addresses) (address : ℕ) (zero_is : IsT
         let is = spare f p start.at start.free start.taken in
         let t = first is start.owned in
         record {
-          there = disables.there f p is (at.within.stays f p is t)
-              (occupied_on p (at.only.at f p is t (went.led.sound none)).spares occupied) finding e;
-          below = λ device found. elim (gives_up_no_device port last mid new result device gives
-              (e ∙ ap Ok found)) [ ];
+          there = grind (arith, occupied_on);
+          below = grind arith;
         };
   }
 
@@ -233,24 +169,11 @@ module _ (port : HubPort) (addresses : Addresses) (address : ℕ) (zero_is : IsT
 
   fair_begun : {f : AddressMap} {p : List ℕ} {old new : World} → IsFair f port p addresses old new
       → IsFairAt f port p address old new
-  fair_begun {f} {p} fair =
-      let is = spare f p fair.begins.at fair.begins.free fair.begins.taken in
-      record {
-        spare = is;
-        held = first is fair.begins.owned;
-        order = fair.begins.order;
-        occupied = fair.occupied;
-        server = fair.server;
-        few = fair.few;
-        kept = fair.kept;
-        working = fair.working;
-      }
+  fair_begun fair = grind (arith, first)
 
   zero_begun : {f : AddressMap} {p : List ℕ} {old new : World} → IsFair f port p addresses old new
       → WhileBusWorks (Enumerating f p 0) old
-  zero_begun {f} {p} {old} fair =
-      let is = spare f p fair.begins.at fair.begins.free fair.begins.taken in
-      till_weaker fair.begins.owned (enumerating_begins f p 0 old is.free is.none)
+  zero_begun fair = grind (arith, enumerating_begins)
 
   module _ (wrong : Spec → Option Cause) (options : HostOptions) (tier supply : ℕ) (last : Stop)
       (old mid new : World) (result : Result Finding EnumFault) (sooner : Went old mid)
@@ -276,7 +199,7 @@ module _ (port : HubPort) (addresses : Addresses) (address : ℕ) (zero_is : IsT
           (closes.only.at f p here.spare here.held here.working).spares here.occupied
           (so (zero_begun fair))) [
             | inl h ↦ inl h
-            | inr is ↦ inr (right s.spec why (is s there))
+            | inr is ↦ inr (search s.spec)
           ]
 
     cause_of : (x : Stop) → last ≡ x → (f : AddressMap) (p : List ℕ)
@@ -284,12 +207,9 @@ module _ (port : HubPort) (addresses : Addresses) (address : ℕ) (zero_is : IsT
         → result ≡ Ok (Refused cause) → state_there new.roots p ≡ Some s
         → (pending new.roots p ≡ true) ⊎ IsRight (IsFull addresses) s.spec options tier supply
         (Refused cause)
-    cause_of (stop.Fault why) is f p fair cause s e there =
-        let g = subst (λ x. GivesUp port x mid result new) is gives in
-        absurd (cc (sym g.0 ∙ e))
+    cause_of (stop.Fault why) is f p fair cause s e there = grind arith
     cause_of (stop.Refused why) is f p fair cause s e there =
-        let g = subst (λ r. GivesUp port (stop.Refused why) mid r new) e
-        (subst (λ x. GivesUp port x mid result new) is gives) in
+        let g = subst (λ r. GivesUp port (stop.Refused why) mid r new) e (grind arith) in
         subst (λ y. (pending new.roots p ≡ true)
         ⊎ IsRight (IsFull addresses) s.spec options tier supply y)
         (sym g.0) (caused fair why (subst (λ x. StopsFor wrong f p old x mid) is
@@ -310,17 +230,14 @@ module _ (port : HubPort) (addresses : Addresses) (address : ℕ) (zero_is : IsT
         → FewAttempts port addresses old new → EnumWorks result old new
         → Enumerates port addresses options tier supply old result new
     stopped_ends ended few works = record {
-      addresses = given_up at.within closes.ends (calls_then at later closes.only);
-      own = record {
-        truth = λ f p there bare claimed t order device e.
-            absurd (gives_up_no_device port last mid new result device gives e);
-      };
-      places = refused_placed last at later closes.there gives;
+      addresses = grind (arith, calls_then, given_up);
+      own = grind arith;
+      places = grind (arith, refused_placed);
       warrants = record { cause = cause_of last refl; parent = parent_of_stop last refl };
       ended = ended;
       few = few;
-      strings = λ device e. absurd (gives_up_no_device port last mid new result device gives e);
-      left = λ finding is. gives_left port last mid new result finding gives is;
+      strings = grind arith;
+      left = grind arith;
       works = works;
     }
 
@@ -329,12 +246,7 @@ module _ (port : HubPort) (addresses : Addresses) (address : ℕ) (zero_is : IsT
 -- nothing was called
 pub closed_fault : (port : HubPort) (address : ℕ) (why : EnumFault) (w : World)
     → Closes port address (stop.Fault why) w (Err why) w
-closed_fault port address why w = record {
-  ends = ends_fault why (within_none port address w);
-  only = calls_none port address w;
-  there = disables_none port address w why w;
-  lost = λ cause other is e. absurd cc;
-}
+closed_fault port address why w = grind (arith, calls_none, ends_fault)
 
 module _ {port : HubPort} (address : ℕ) (cause : Cause) {outcome : Result (Unit {0}) PipeFault}
     {old new : World} (ends : IfErr outcome (λ why. FaultAfter 1 old why new))
@@ -342,24 +254,16 @@ module _ {port : HubPort} (address : ℕ) (cause : Cause) {outcome : Result (Uni
     (keeps : KeepsCleared port PORT_ENABLE old outcome new) where
   pub closed_refused : outcome ≡ Ok tt → Closes port address (stop.Refused cause) old
       (Ok (Refused cause)) new
-  closed_refused done = record {
-    ends = ends_refused address cause (keeps.bare refl done);
-    only = disable_calls address ends calls keeps;
-    there = clear_enable_disables address cause calls done;
-    lost = λ other why is e. absurd cc;
-  }
+  closed_refused done = grind (arith, clear_enable_disables, disable_calls, ends_refused)
 
   pub closed_lost : (why : EnumFault) → Went old new → Err why ≡ at_port outcome
       → FaultAllowedAt port why new → (new.fault ≡ None → NoNewStretch old new)
       → Closes port address (stop.Refused cause) old (Err why) new
   closed_lost why went told fault goes =
-      let at : AtPort port address old new = record {
-        within = within_kept keeps.keeps;
-        only = disable_calls address ends calls keeps;
-      } in record {
+      let at : AtPort port address old new = grind (arith, disable_calls, within_kept) in record {
         ends = ends_fault why at.within;
         only = at.only;
-        there = disables_none port address old why new;
+        there = search disables_none;
         lost = λ other given is e. subst (λ x. Faulted port address x old new)
             (let same : why ≡ given = cc in same) (called_faulted went at fault
             (record { outcome = outcome; told = told; calls = calls; goes = goes }));
@@ -375,6 +279,5 @@ disabled (Root number) old new result done worked is cleared =
     let Q : PortState → Type 0 = λ p. p.enable ≡ false in
     subst P (sym cleared.row.row) (subst Q
     (sym (get_or-set_same (root_row old) (number - 1) _ off (omega (arith, is.0, is.1)))) refl)
-disabled (External hub port) old new (Ok tt) done worked is cleared =
-    record { before = old; ordered = cleared }
+disabled (External hub port) old new (Ok tt) done worked is cleared = grind arith
 disabled (External hub port) old new (Err fault) done worked is cleared = absurd cc

@@ -1,8 +1,7 @@
 -- How the reasons of a stop come from answers, and how they join.
-use Rattle.std.proofs.Common.{◌≡◌, ◌≢◌, ◌⊎◌, inl, inr, ℕ, ◌==◌, Bool, true, false, if◌then◌else◌}
-use Rattle.std.proofs.Common.{List, length, Option, Some, Result, Ok, Err, refl, sym, subst, ◌∙◌}
-use Rattle.std.proofs.Common.{IfErr, IfSome, MatchResult}
-use Rattle.std.specs.Prelude.{unwrap_or, ⊤}
+use Rattle.std.proofs.Common.{arith, ◌≡◌, ◌≢◌, ◌⊎◌, inl, inr, ℕ, Bool, List, length, Option, Some}
+use Rattle.std.proofs.Common.{Result, Err, refl, subst, IfErr, IfSome, MatchResult}
+use Rattle.std.specs.Prelude.{⊤}
 use Rattle.std.specs.Global.{Vec}
 use Rattle.usb_request.specs.{Setup, get_status}
 use Rattle.usb_world.specs.{World}
@@ -17,62 +16,35 @@ use Rattle.usb_enum.specs.{bad_front, BadText, bad_total, bad_text, repeated, Be
 use Rattle.usb_enum.specs.{HubFails, no_descriptor, bad_descriptor, no_status, no_power}
 use Rattle.usb_enum.specs.{CauseAllowedOfHub, CauseAllowedAtStart, PortFails, FaultBy, IsSpokenTo}
 use Rattle.usb_enum.specs.{RefusedEarly, answered, not_enabled, CauseAllowedAt, NoAnswerTold}
-use Rattle.usb_enum.specs.{CanFail, FaultAllowedAt, FaultAllowed, IsPlain, StopFaults}
-use Rattle.usb_enum.specs.{CauseAllowedIn, CauseAllowedWithout, answered_or, at_port, fault_at_port}
-use Rattle.usb_enum.specs.{stop_of, left_of, texts_length, CauseAllowedOfText, CauseAllowedOfTexts}
-use Rattle.usb_enum.specs.{TextsAsked, TooLong}
+use Rattle.usb_enum.specs.{FaultAllowedAt, FaultAllowed, IsPlain, StopFaults, CauseAllowedIn}
+use Rattle.usb_enum.specs.{answered_or, at_port, fault_at_port, stop_of, left_of, texts_length}
+use Rattle.usb_enum.specs.{CauseAllowedOfText, CauseAllowedOfTexts, TextsAsked}
 use Rattle.usb_enum.specs.declared.cause.Cause.TheVariants as cause
 use Rattle.usb_enum.specs.declared.fault.EnumFault.TheVariants as fault
 use Rattle.usb_enum.specs.declared.stop.Stop.TheVariants.{Refused, Fault}
 use Rattle.usb_enum.proofs.courses.Courses.{leads_none, leads_then}
-use Rattle.usb_enum.proofs.refusals.Refusals.{answered_err}
-use Rattle.usb_enum.proofs.stops.PlainStops.{plain_fits, port_can_fail}
 
 -- Requests
 
 failing : {t : Target} {setup : Setup} (Is : Setup → Type 0) (why : PipeFault) {old new : World}
     → Is setup → FailsAs t setup why old new → EndsFailing t Is why old new
-failing {setup} Is why {old} is failed = record {
-  before = old;
-  led = leads_none old;
-  setup = setup;
-  is = is;
-  failed = failed;
-}
+failing Is why is failed = grind (arith, leads_none)
 
 pub reading : {t : Target} {setup : Setup} {bytes : List ℕ} {old new : World}
     → WasRead t setup old bytes new → EndsReading t setup bytes old new
-reading {old} read = record {
-  before = old;
-  led = leads_none old;
-  read = read;
-}
+reading read = grind (arith, leads_none)
 
 pub failing_after : {t : Target} {Is : Setup → Type 0} {why : PipeFault} {old mid new : World}
     → Leads old mid → EndsFailing t Is why mid new → EndsFailing t Is why old new
-failing_after led ends = record {
-  before = ends.before;
-  led = leads_then led ends.led;
-  setup = ends.setup;
-  is = ends.is;
-  failed = ends.failed;
-}
+failing_after led ends = grind (arith, leads_then)
 
 pub reading_after : {t : Target} {setup : Setup} {bytes : List ℕ} {old mid new : World}
     → Leads old mid → EndsReading t setup bytes mid new → EndsReading t setup bytes old new
-reading_after led ends = record {
-  before = ends.before;
-  led = leads_then led ends.led;
-  read = ends.read;
-}
+reading_after led ends = grind (arith, leads_then)
 
 pub descriptor_after : {t : Target} {bytes : List ℕ} {old mid new : World} → Leads old mid
     → DescriptorRead t bytes mid new → DescriptorRead t bytes old new
-descriptor_after led got = record {
-  all = got.all;
-  read = reading_after led got.read;
-  front = got.front;
-}
+descriptor_after led got = search reading_after
 
 -- What an answer is told as
 
@@ -86,20 +58,8 @@ stop_by : {A : Type 0} (P : Stop → Type 0) (Failed_as : PipeFault → Type 0) 
     → (Failed_as pipe.Busy → P (Refused cause.Busy))
     → (Failed_as pipe.NoAnswer → P (Refused cause.Silent))
     → ((why : EnumFault) → FaultAllowed why new → P (Fault why)) → P stop
-stop_by {A} P Failed_as stalled m n old new is failed ends by_stall by_wait by_silence by_fault =
-    let f = answered_err stalled is in
-    subst P f.2 (by f.0 (failed f.0 f.1)
-    (subst (λ (r : Result A PipeFault). MatchResult r (λ _. AttemptsMade m old new)
-    (λ why. FaultAfter n old why new)) f.1 ends))
-  where
-    by : (why : PipeFault) → Failed_as why → FaultAfter n old why new
-        → P (unwrap_or (stop_of why) (Refused stalled))
-    by pipe.Stalled failed_so after = by_stall failed_so
-    by pipe.Busy failed_so after = by_wait failed_so
-    by pipe.NoAnswer failed_so after = by_silence failed_so
-    by pipe.Broken failed_so after = absurd after
-    by (pipe.Bus why) failed_so after = by_fault (fault.Bus why) after
-    by pipe.Memory failed_so after = by_fault fault.Memory tt
+stop_by P Failed_as stalled m n old new is failed ends by_stall by_wait by_silence by_fault =
+    grind arith
 
 -- of a request that a refusal names
 stop_told : {A : Type 0} (t : Target) (setup : Setup) (named : Request)
@@ -110,9 +70,8 @@ stop_told : {A : Type 0} (t : Target) (setup : Setup) (named : Request)
     → CauseAllowed t stop old new
 stop_told t setup named outcome stop m n old new is names failed ends =
     stop_by (λ s. CauseAllowed t s old new) (λ why. FailsAs t setup why old new) (cause.Stalled
-    named) m n old new is failed ends
-    (failing (IsNamed named) pipe.Stalled names) (failing IsAny pipe.Busy tt)
-    (failing IsAny pipe.NoAnswer tt) (λ why told. told)
+    named) m n old new is failed ends (search failing) (failing IsAny pipe.Busy tt)
+    (search failing) (λ why told. told)
 
 -- of a request to a hub
 pub bad_hub_told : {A : Type 0} (wide : Bool) {t : Target} (setup : Setup)
@@ -125,21 +84,20 @@ pub bad_hub_told : {A : Type 0} (wide : Bool) {t : Target} (setup : Setup)
 bad_hub_told wide {t} setup outcome stop m n {old} {new} is failed ends bad =
     stop_by (λ s. CauseAllowedOfHub wide t s old new) (λ why. FailsAs t setup why old new)
     cause.BadHub m n old new is failed ends
-    (λ f. inl (refl, bad (failing (λ x. x ≡ setup) pipe.Stalled refl f)))
-    (λ f. inr (failing IsAny pipe.Busy tt f)) (λ f. inr (failing IsAny pipe.NoAnswer tt f))
+    (λ f. inl (refl, bad (search failing)))
+    (λ f. inr (failing IsAny pipe.Busy tt f)) (λ f. inr (search failing))
     (λ why told. told)
 
 pub reads_failed : (t : Target) (setup : Setup) (outcome : Result (Vec ℕ) PipeFault)
     (old new : World) → Reads t setup old outcome new → (why : PipeFault) → outcome ≡ Err why
     → FailsAs t setup why old new
 reads_failed t setup outcome old new stages why is =
-    inl (subst (λ r. Reads t setup old r new) is stages)
+    inl (grind arith)
 
 pub writes_failed : (t : Target) (setup : Setup) (outcome : Result (Unit {0}) PipeFault)
     (old new : World) → Writes t setup old outcome new → (why : PipeFault) → outcome ≡ Err why
     → FailsAs t setup why old new
-writes_failed t setup outcome old new stages why is =
-    inr (subst (λ r. Writes t setup old r new) is stages)
+writes_failed t setup outcome old new stages why is = grind arith
 
 -- so it is of one for data, and of one without
 pub read_stop_told : {t : Target} {setup : Setup} {outcome : Result (Vec ℕ) PipeFault}
@@ -156,20 +114,9 @@ pub write_stop_told : {t : Target} {setup : Setup} {outcome : Result (Unit {0}) 
     → CauseAllowed t stop old new
 write_stop_told {t} {setup} {outcome} {old} {new} named stop names is ordered =
     stop_told t setup named outcome stop 2 1 old new is names
-    (writes_failed t setup outcome old new ordered.stages) ordered.ends
+    (grind arith) ordered.ends
 
 -- of the status, which may have another length
-
-said_err : (answer : Result (Vec ℕ) PipeFault) (size : ℕ) (why : PipeFault) → why ≢ pipe.Stalled
-    → said_in device_status size answer ≡ Err why → answer ≡ Err why
-said_err (Ok bytes) size why other is = pick (length bytes.items == size) is
-  where
-    pick : (b : Bool) → (let r : Result DeviceStatus PipeFault =
-        if b then Ok (device_status bytes.items) else Err pipe.Stalled in r ≡ Err why)
-        → Ok bytes ≡ Err why
-    pick true e = absurd cc
-    pick false e = absurd (other cc)
-said_err (Err fault) size why other is = cc
 
 -- what it failed as
 abbrev StatusFails : Target → World → World → PipeFault → Type 0
@@ -178,16 +125,14 @@ StatusFails t old new why = (answer : Result (Vec ℕ) PipeFault) × (Reads t ge
 
 status_failed : (t : Target) (why : PipeFault) (old new : World) → why ≢ pipe.Stalled
     → StatusFails t old new why → FailsAs t get_status why old new
-status_failed t why old new other f =
-    inl (subst (λ r. Reads t get_status old r new) (said_err f.0 get_status.length why other f.1.1)
-    f.1.0)
+status_failed t why old new other f = grind arith
 
 pub status_told : (wide : Bool) {t : Target} {outcome : Result DeviceStatus PipeFault} {stop : Stop}
     {old new : World} → Err stop ≡ answered_or cause.BadHub outcome
     → ReadAs device_status t get_status old outcome new → CauseAllowedOfHub wide t stop old new
 status_told wide {t} {old} {new} is told =
     stop_by (λ s. CauseAllowedOfHub wide t s old new) (StatusFails t old new) cause.BadHub 3
-    1 old new is (λ why e. (told.answer, (told.asked.stages, sym told.told ∙ e))) told.ends
+    1 old new is (grind arith) told.ends
     (λ f. inl (refl, no_status old f.0 (leads_none old) f.1.0 f.1.1))
     (λ f. inr (failing IsAny pipe.Busy tt (status_failed t pipe.Busy old new (λ e. absurd cc) f)))
     (λ f. inr (failing IsAny pipe.NoAnswer tt
@@ -199,16 +144,16 @@ pub string_told : (t : Target) (setup : Setup) (outcome : Result (Vec ℕ) PipeF
     → stop_of fault_is ≡ Some stop → Reads t setup old outcome new → EndsAfter 3 old outcome new
     → CauseAllowed t stop old new
 string_told t setup outcome fault_is stop old new is some stages ends =
-    subst Told some (by fault_is (reads_failed t setup outcome old new stages fault_is is)
-    (subst (λ r. EndsAfter 3 old r new) is ends))
+    subst Told some (by fault_is (search reads_failed)
+    (grind arith))
   where
     Told : Option Stop → Type 0
     Told o = IfSome o (λ s. CauseAllowed t s old new)
 
     by : (why : PipeFault) → FailsAs t setup why old new → FaultAfter 1 old why new
         → Told (stop_of why)
-    by pipe.Busy failed after = failing IsAny pipe.Busy tt failed
-    by pipe.NoAnswer failed after = failing IsAny pipe.NoAnswer tt failed
+    by pipe.Busy failed after = search failing
+    by pipe.NoAnswer failed after = search failing
     by pipe.Broken failed after = absurd after
     by (pipe.Bus why) failed after = after
     by _ failed after = tt
@@ -233,7 +178,7 @@ text_bad_after : {t : Target} {index : ℕ} {old mid new : World} → Leads old 
     → BadText t index mid new → BadText t index old new
 text_bad_after led (bad_total bytes why read bad) = bad_total bytes why (reading_after led read) bad
 text_bad_after led (bad_text text read bad) = bad_text text
-    (record { size = read.size; read = reading_after led read.read }) bad
+    (search (reading_after, read.read)) bad
 text_bad_after led (repeated begun mid texts text first asked same read again) =
     repeated begun mid texts text (leads_then led first) asked same read again
 
@@ -248,35 +193,20 @@ because_after _ t new led b = absurd b
 
 pub told_after : (stop : Stop) (t : Target) {old mid : World} (new : World) → Leads old mid
     → CauseAllowed t stop mid new → CauseAllowed t stop old new
-told_after (Refused why) t new led told = because_after why t new led told
-told_after (Fault why) t new led told = told
+told_after stop t new led told = grind (arith, because_after)
 
 -- Of the texts of configurations
 
 pub text_told : (room : Option ℕ) (t : Target) (index : ℕ) (stop : Stop) (old new : World)
     → CauseAllowed t stop old new → CauseAllowedOfText room t index stop old new
-text_told room t index (Refused why) old new told = inr told
-text_told room t index (Fault why) old new told = told
+text_told room t index stop old new told = grind arith
 
 -- after those that were read
 pub texts_told : (budget room : Option ℕ) {t : Target} {texts : List (List ℕ)} (index : ℕ)
     (stop : Stop) {old mid : World} (new : World) → room ≡ left_of budget (texts_length texts)
     → length texts ≡ index → TextsAsked t old texts mid → Leads old mid
     → CauseAllowedOfText room t index stop mid new → CauseAllowedOfTexts budget t stop old new
-texts_told budget room {t} {texts} index (Refused why) {mid} new left count asked led (inl long) =
-    inl (
-      long.0,
-      record {
-        texts = texts;
-        mid = mid;
-        asked = asked;
-        long = subst (λ r. TooLong r t (length texts) mid new) left
-            (subst (λ i. TooLong room t i mid new) (sym count) long.1);
-      },
-    )
-texts_told budget room {t} index (Refused why) new left count asked led (inr told) =
-    inr (because_after why t new led told)
-texts_told budget room index (Fault why) new left count asked led told = told
+texts_told budget room index stop new left count asked led told = grind (arith, because_after)
 
 -- Of a hub, after other steps
 
@@ -305,43 +235,27 @@ at_start wide (Fault why) t text old new told = told
 
 pub because_plain : (why : Cause) (t : Target) (old new : World) → Because t old new why
     → IsPlain why
-because_plain cause.TooDeep t old new b = absurd b
-because_plain cause.BadHub t old new b = absurd b
-because_plain cause.NoAddress t old new b = absurd b
-because_plain _ t old new b = tt
+because_plain why t old new b = grind arith
 
 pub told_faults : (stop : Stop) (t : Target) (old new : World) → CauseAllowed t stop old new
     → StopFaults stop new
-told_faults (Refused why) t old new told = tt
-told_faults (Fault why) t old new told = told
+told_faults stop t old new told = grind arith
 
 -- At a port
 
-pub port_fails : {port : HubPort} {old new : World} → PortFails port old new → CanFail port
-port_fails {port} {new} f = port_can_fail port f.why f.before new f.failed
-
 pub fault_by : (port : HubPort) (why : EnumFault) (old new : World) → FaultBy port why old new
     → FaultAllowedAt port why new
-fault_by port fault.ParentLost old new by = port_fails by
-fault_by port _ old new by = by
+fault_by port why old new by = grind arith
 
 pub fault_after : (port : HubPort) (why : EnumFault) {old mid : World} (new : World) → Leads old mid
     → FaultBy port why mid new → FaultBy port why old new
-fault_after port fault.ParentLost new led by =
-    record {
-      before = by.before;
-      led = leads_then led by.led;
-      why = by.why;
-      lost = by.lost;
-      failed = by.failed;
-    }
+fault_after port fault.ParentLost new led by = grind (arith, leads_then)
 fault_after port _ new led by = by
 
 -- no port was asked
 pub fault_told_by : (port : HubPort) (why : EnumFault) (old new : World) → FaultAllowed why new
     → FaultBy port why old new
-fault_told_by port fault.ParentLost old new told = absurd told
-fault_told_by port _ old new told = told
+fault_told_by port why old new told = grind arith
 
 -- what failed at the port
 abbrev pub AtPortFails : HubPort → PipeFault → World → World → Type 0
@@ -351,8 +265,7 @@ AtPortFails port why old new = PortRead port old (Err why) new
 
 lost_by : {port : HubPort} {old new : World} (why : PipeFault) → fault_at_port why ≡
     fault.ParentLost → AtPortFails port why old new → PortFails port old new
-lost_by {old} why lost failed =
-    record { before = old; led = leads_none old; why = why; lost = lost; failed = failed }
+lost_by why lost failed = grind (arith, leads_none)
 
 called_by : {A : Type 0} (port : HubPort) (outcome : Result A PipeFault) (old new : World)
     → IfErr outcome (λ why. FaultAfter 1 old why new)
@@ -362,7 +275,7 @@ called_by port (Err pipe.Stalled) old new ends f = lost_by pipe.Stalled refl (f 
 called_by port (Err pipe.Busy) old new ends f = lost_by pipe.Busy refl (f pipe.Busy refl)
 called_by port (Err pipe.NoAnswer) old new ends f =
     lost_by pipe.NoAnswer refl (f pipe.NoAnswer refl)
-called_by port (Err pipe.Broken) old new ends f = lost_by pipe.Broken refl (f pipe.Broken refl)
+called_by port (Err pipe.Broken) old new ends f = search
 called_by port (Err (pipe.Bus why)) old new ends f = ends
 called_by port _ old new ends f = tt
 
@@ -372,28 +285,18 @@ pub call_ends : {A : Type 0} (port : HubPort) (result : Result A EnumFault)
     → IfErr outcome (λ why. FaultAfter 1 old why new)
     → ((why : PipeFault) → outcome ≡ Err why → AtPortFails port why old new)
     → MatchResult result (λ done. ⊤) (λ why. FaultBy port why old new)
-call_ends port (Ok done) outcome old new is ends f = tt
-call_ends {A} port (Err why) outcome old new is ends f =
-    subst (λ (r : Result A EnumFault). IfErr r (λ why. FaultBy port why old new)) (sym is)
-    (called_by port outcome old new ends f)
+call_ends port result outcome old new is ends f = grind (arith, called_by)
 
 early_after : {port : HubPort} {address : ℕ} {why : Cause} {old mid new : World} → Leads old mid
     → RefusedEarly port address mid new why → RefusedEarly port address old new why
 early_after {why} {new} led (answered t is b) =
     answered t is (because_after why t new led b)
-early_after led (not_enabled n) = not_enabled (record {
-  before = n.before;
-  led = leads_then led n.led;
-  status = n.status;
-  read = n.read;
-  off = n.off;
-})
+early_after led (not_enabled n) = not_enabled (grind (arith, leads_then))
 
 pub at_after : (stop : Stop) (port : HubPort) (address : ℕ) {old mid : World} (new : World)
     → Leads old mid
     → CauseAllowedAt port address stop mid new → CauseAllowedAt port address stop old new
-at_after (Refused why) port address new led told = early_after led told
-at_after (Fault why) port address new led told = fault_after port why new led told
+at_after stop port address new led told = grind (arith, early_after, fault_after)
 
 -- of the device at the port
 pub stop_told_at : (stop : Stop) {port : HubPort} {address : ℕ} {t : Target} (old new : World)
@@ -404,23 +307,12 @@ stop_told_at (Fault why) {port} old new is told = fault_told_by port why old new
 
 pub silent_after : {port : HubPort} {address : ℕ} {old mid new : World} → Leads old mid
     → NoAnswerTold port address mid new → NoAnswerTold port address old new
-silent_after led told = record {
-  target = told.target;
-  is = told.is;
-  failed = failing_after led told.failed;
-}
+silent_after led told = search failing_after
 
 early_plain : {port : HubPort} {address : ℕ} {old new : World} {why : Cause}
     → RefusedEarly port address old new why → IsPlain why
-early_plain {old} {new} {why} (answered t is b) = because_plain why t old new b
-early_plain (not_enabled n) = tt
+early_plain h = grind arith
 
 pub told_in : (tier : ℕ) (stop : Stop) (port : HubPort) (address : ℕ) (old new : World)
     → CauseAllowedAt port address stop old new → CauseAllowedIn port tier stop new
-told_in tier (Refused why) port address old new told = plain_fits tier why (early_plain told)
-told_in tier (Fault why) port address old new told = fault_by port why old new told
-
-pub told_without : (stop : Stop) (port : HubPort) (address : ℕ) (old new : World)
-    → CauseAllowedAt port address stop old new → CauseAllowedWithout port stop new
-told_without (Refused why) port address old new told = inr (early_plain told)
-told_without (Fault why) port address old new told = fault_by port why old new told
+told_in tier stop port address old new told = grind arith

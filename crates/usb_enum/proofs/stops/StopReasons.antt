@@ -1,29 +1,23 @@
 -- Why an enumeration stops, where all is fair.
-use Rattle.std.proofs.Common.{◌≡◌, ◌⊎◌, inl, inr, ◌+◌, ◌≤◌, ◌&&◌, ◌||◌, not, max, ℕ, zero, suc}
-use Rattle.std.proofs.Common.{Bool, true, false, if◌then◌else◌, List, [], ◌∷◌, ◌++◌, length, take}
-use Rattle.std.proofs.Common.{Option, None, Some, option_map, Result, Ok, Err, is_ok, is_some, refl}
-use Rattle.std.proofs.Common.{ap, sym, subst, ◌∙◌, arith}
+use Rattle.std.proofs.Common.{◌≡◌, ◌⊎◌, inl, inr, ◌+◌, ◌≤◌, ◌&&◌, max, ℕ, zero, suc, Bool, true}
+use Rattle.std.proofs.Common.{false, List, [], ◌∷◌, Option, None, Some, Result, Ok, Err, is_some}
+use Rattle.std.proofs.Common.{refl, ap, sym, subst, ◌∙◌, arith}
 use Rattle.std.specs.Option.{option_or}
 use Rattle.std.specs.Prelude.{unwrap_or}
-use Rattle.std.proofs.lemmas.Bool.{eq-eqb}
-use Rattle.std.proofs.lemmas.Option.{same_Some}
 use Rattle.usb_request.specs.{PORT_RESET, C_PORT_RESET, set_address}
 use Rattle.usb_port.specs.{PortState, reset, PortStatus, SetReset, set_call, clear_call}
-use Rattle.usb_port.specs.{called_port}
-use Rattle.usb_descriptor.specs.{device_head_of}
 use Rattle.usb_device.specs.{State, Spec, IsSpec, Ports, reach, state_at, Location, path_to}
 use Rattle.usb_device.specs.{reach_on, state_on, state_there, port_there}
 use Rattle.usb_world.specs.{after_taking, Relation, Was, EachWas, one_more, Consistent, World}
-use Rattle.usb_tree.specs.{address_of, pending, deep_at}
+use Rattle.usb_tree.specs.{address_of, pending}
 use Rattle.usb_world.proofs.Interface.{course_wider, pending_persists, rests_or_pends, sane_spec}
-use Rattle.usb_tree.proofs.Interface.{decided, false_true}
+use Rattle.usb_tree.proofs.Interface.{false_true}
 use Rattle.usb_transaction.specs.{Target, Listens, NoThreeDamaged}
 use Rattle.usb_address.specs.{AddressMap, Enumerating, WhileBusWorks}
 use Rattle.usb_address.proofs.Interface.{attached_there, live_port}
-use Rattle.usb_pipe.specs.{PipeFault, WriteFailure, CanEnd, TookItOrLost, took, lost}
+use Rattle.usb_pipe.specs.{PipeFault, WriteFailure, TookItOrLost, took, lost}
 use Rattle.usb_pipe.specs.declared.fault.PipeFault.TheVariants as pipe
-use Rattle.usb_hub.specs.{HubPort, Root, External, IsAt, PortCallDone, PortStatusAt, Commanded}
-use Rattle.usb_hub.specs.{AddressAsked}
+use Rattle.usb_hub.specs.{HubPort, IsAt, PortCallDone, PortStatusAt, Commanded, AddressAsked}
 use Rattle.usb_hub.proofs.Interface.{done_stands}
 use Rattle.usb_enum.specs.{Cause, Lost, Stalled, EnumFault, Stop, IsSpare, AtPort, CalledAt}
 use Rattle.usb_enum.specs.{SettlesReset, StatusAt, IsUnaddressed, needs_pre, IsFairAt, PendingOr}
@@ -38,8 +32,8 @@ use Rattle.usb_enum.proofs.courses.Courses.{went_on}
 use Rattle.usb_enum.proofs.devices.Enumerations.{answered_has, having, at_taking, within_kept}
 use Rattle.usb_enum.proofs.courses.Fairness.{fair_before, fair_then, fair_single, faults_for_told}
 use Rattle.usb_enum.proofs.courses.Fairness.{pends_reached, held_spare}
-use Rattle.usb_enum.proofs.devices.Frames.{called_is, ends_without_fault as ended_call}
-use Rattle.usb_enum.proofs.courses.Losses.{course_later, no_stretch_none, no_stretch_then}
+use Rattle.usb_enum.proofs.devices.Frames.{called_is}
+use Rattle.usb_enum.proofs.courses.Losses.{course_later, no_stretch_then}
 use Rattle.usb_enum.proofs.devices.Presence.{responsive, Granted, StoodAt, granted, held_at}
 use Rattle.usb_enum.proofs.devices.Presence.{path_on, was_at, at_place}
 use Rattle.usb_enum.proofs.devices.ReachedDevices.{done_at, reached_on, reach-state, is_some-value}
@@ -59,31 +53,24 @@ pub reset_lost : {port : HubPort} {address : ℕ} {status : PortStatus} {old set
 reset_lost {port} {address} {status} {old} {set} {told} first second at_set asks called shown off =
     record {
       why = λ f p fair held.
-          let none_set = second.led.sound fair.working in
           let later : pending set.roots p ≡ true → pending told.roots p ≡ true = λ x.
           pending_persists p (course_wider (λ s w k. k.spares) (asks.ports fair.working p)) x in
           let h = having f p address fair.held in
           let done : PortCallDone p SetReset old set = called.calls.done (after_taking f p h.has) p
-          SetReset (called_is fair.spare h (set_call PORT_RESET) SetReset refl)
+          SetReset (search called_is)
           (done_at called.told) in
           let k = having f p address (at_set.within.stays f p fair.spare fair.held) in
-          let seen : PortStatusAt p status set told = shown.tells.tells (after_taking f p k.has) p
-          (at_taking f port p k.has fair.spare.at) k.owned status (done_at shown.told) in
+          let seen : PortStatusAt p status set told =
+          search (at_taking, done_at, shown.tells.tells) in
           inl (elim fair.occupied [
-            | inl x ↦ later (pending_persists p
-                (at_set.only.at f p fair.spare fair.held none_set).spares x)
+            | inl x ↦ later (grind (arith, pending_persists))
             | inr is ↦ elim (done_stands p SetReset refl old set done is.0) [
               | inr x ↦ later x
               | inl y ↦ (let s = is_some-value (state_there old.roots p) is.1 in
                   let b = live_port old.roots p is.0 in
                   elim (rests_or_pends p (seen.before p) y.0) [
                     | inr x ↦ pending_persists p (course_wider (λ s w k. k.spares) (seen.since p)) x
-                    | inl z ↦ (let same = same_Some (reset b.0) seen.port
-                        (sym (y.1 ∙ ap (option_map (called_port SetReset)) b.1) ∙ sym z.1.port
-                        ∙ seen.stood) in
-                        false_true (sym off ∙ ap (λ x. x.enabled) seen.is
-                        ∙ ap (λ x. x.enable) (sym same) ∙ reset_enables old.roots p b.0 s.0
-                        (fair.order (first.led.sound none_set)).sane b.2 b.1 s.1))
+                    | inl z ↦ (grind (arith, reset_enables))
                   ])
             ]
           ]);
@@ -92,10 +79,7 @@ reset_lost {port} {address} {status} {old} {set} {told} first second at_set asks
 pub settle_failed : {port : HubPort} {changed : Bool} {why : EnumFault} {old new : World}
     → SettlesReset port changed old (Err why) new
     → CalledAt port (clear_call C_PORT_RESET) old (Err why) new
-settle_failed {changed} settles = elim (decided changed) [
-  | inl e ↦ settles.set e
-  | inr e ↦ (let done = (settles.unset e).0 in absurd cc)
-]
+settle_failed settles = grind arith
 
 pub reset_goes : {port : HubPort} {status : PortStatus} {old set : World} {told new : World}
     → Went old set → Went set told → Went told new
@@ -104,44 +88,10 @@ pub reset_goes : {port : HubPort} {status : PortStatus} {old set : World} {told 
     → NoNewStretch old new
 reset_goes {status} {told} first second third called shown settles none =
     let none_told = third.led.sound none in
-    no_stretch_then (called.goes (second.led.sound none_told))
-    (no_stretch_then (shown.goes none_told) (elim (decided status.reset_changed) [
-      | inl e ↦ (settles.set e).goes none
-      | inr e ↦ subst (NoNewStretch told) (sym (settles.unset e).1) (no_stretch_none told)
-    ]))
+    no_stretch_then (grind arith)
+    (no_stretch_then (shown.goes none_told) (grind arith))
 
 -- The device at the port hears its target
-
-deep_end : (q : List ℕ) (n : ℕ) → deep_at false (q ++ (n ∷ [])) ≡ true
-deep_end [] n = refl
-deep_end (m ∷ q) n = refl
-
-tail_same : (m n : ℕ) (p q : List ℕ) → m ∷ p ≡ n ∷ q → p ≡ q
-tail_same m n p q e = cc
-
-port_deep : (f : AddressMap) (port : HubPort) (j : Location) → IsAt f port (path_to j)
-    → deep_at false j.rest ≡ needs_pre port
-port_deep f (Root n) j at = ap (deep_at false) (tail_same (suc j.row) n j.rest [] at)
-port_deep f (External hub n) j at = by_hub at.hub at.is_path.0 at.path
-  where
-    by_hub : (q : List ℕ) → 1 ≤ length q → path_to j ≡ q ++ (n ∷ []) → deep_at false j.rest ≡ true
-    by_hub [] some is = absurd (omega (arith, some))
-    by_hub (m ∷ q) some is = ap (deep_at false) (tail_same (suc j.row) m j.rest (q ++ (n ∷ [])) is)
-        ∙ deep_end q n
-
-speed_hears : (low own pre deep : Bool) → own ≡ low → pre ≡ (low && deep)
-    → (if low then own && (not deep || pre) else not own) ≡ true
-speed_hears true own pre true same is = rw (same, is) refl
-speed_hears _ own pre _ same is = rw same refl
-
-hears_there : (f : AddressMap) (port : HubPort) (j : Location) (t : Target) (s : State)
-    → IsAt f port (path_to j) → t.pre ≡ (t.low && needs_pre port) → s.spec.low ≡ t.low
-    → address_of s ≡ t.addr → Hears t j s
-hears_there f port j t s at pre low address = record {
-  at = eq-eqb (address_of s) t.addr address;
-  hears = speed_hears t.low s.spec.low t.pre (deep_at false j.rest) low (pre
-      ∙ ap (λ b. t.low && b) (sym (port_deep f port j at)));
-}
 
 -- it has the target's speed and address, and this is so of its description
 pub record IsTargeted (A : Spec → Type 0) (t : Target) (s : State) : Type 0 where
@@ -156,19 +106,9 @@ pub explained_at : (So A : Spec → Type 0) (t : Target) (f : AddressMap) (port 
 explained_at So A t f port p mid new at pre three single sane explains is v on there =
     let s : StoodAt p mid (λ j s. Explained Hears So t j s v) =
     was_at (Explained Hears So t) p mid new (explains three single) v on there in
-    let has = at_place (IsTargeted A t) is s in (
-      subst So (sym s.so.spec) (s.so.so (hears_there f port s.spot t s.before
-          (subst (IsAt f port) s.path at) pre has.low has.address)
-          (sane_spec mid.roots s.spot.row s.spot.rest s.before sane s.stands)),
-      subst A (sym s.so.spec) has.so,
-    )
+    let has = at_place (IsTargeted A t) is s in grind (arith, sane_spec)
 
 -- The device that awaits its address has address 0
-
-zero_held : (f : AddressMap) (p : List ℕ) {w : World} → w.fault ≡ None
-    → WhileBusWorks (Enumerating f p 0) w → AtPath (λ s. address_of s ≡ 0) p w
-zero_held f p none t s on there = let e = t.so none in held_at f p e.has e.owned s on there
-    ∙ elim e.is [ inl none_yet ↦ none_yet | inr none_yet ↦ none_yet ]
 
 -- Its head
 
@@ -180,26 +120,19 @@ pub head_stops : {port : HubPort} {address : ℕ} {low : Bool} (pre : Bool) (sto
     FailureReason (IsRefusedFor (head_fault low) stop) t mid new)
     → StopsFairly early_fault port address stop old new
 head_stops pre (Fault why) first second at at_zero asks was is told explains =
-    record { why = λ f p fair. faults_for_told p why _ told }
+    search faults_for_told
 head_stops {port} {address} {low} pre (Refused cause) {mid} {new} first second at at_zero asks
     was is told explains = record {
       why = λ f p fair held.
           let spare = held_spare fair.spare in
           let sound = second.led.sound fair.working in
           let here = fair_then first second fair at in
-          let zero = zero_held f p sound (at_zero.within.stays f p spare held) in
-          let speed = (was.speed sound).found f p spare held fair.order in
           let single = ((within_kept asks.addresses).stays f p fair.spare here.held).single in
           pends_reached (λ spec. early_fault spec ≡ Some cause) p new
-          (reached_on p (asks.ports fair.working p)
-          (was.reaches.reached f p spare held fair.order fair.occupied sound)) (λ s on there.
+          (reached_on p (asks.ports fair.working p) (search was.reaches.reached)) (λ s on there.
           let so = explained_at (λ spec. head_fault low spec ≡ Some cause) (λ spec. spec.low ≡ low)
           (record { addr = 0; max = 8; low = low; pre = pre }) f port p mid new fair.spare.at is
-          here.few single (here.order sound).sane explains (λ z up at_z. record {
-            low = speed z up at_z;
-            address = zero z up at_z;
-            so = speed z up at_z;
-          }) s on there in
+          here.few single (here.order sound).sane explains (grind arith) s on there in
           subst (λ x. head_fault x s.spec ≡ Some cause) (sym so.1) so.0);
     }
 
@@ -208,35 +141,26 @@ head_stops {port} {address} {low} pre (Refused cause) {mid} {new} first second a
 pub early_none : {low : Bool} {max : ℕ} {spec : Spec} → spec.low ≡ low → HasHead low max spec
     → early_fault spec ≡ None
 unfolding head_fault
-early_none {spec} same head =
-    let good : is_ok (device_head_of spec.low (take 8 spec.descriptor)) ≡ true =
-    ap (λ b. is_ok (device_head_of b (take 8 spec.descriptor))) same ∙ ap is_ok head.head in
-    rw (head.loud, head.free, head.device, good) refl
+early_none same head = grind arith
 
 pub addressed_early : (spec : Spec) (cause : Cause) → early_fault spec ≡ Some cause
     → addressed_fault spec ≡ Some cause
 unfolding addressed_fault
-addressed_early spec cause e =
-    ap (λ o. option_or o (option_or (address_fault spec) (device_fault spec.low spec))) e
+addressed_early spec cause e = grind arith
 
 addressed_rest : (spec : Spec) → early_fault spec ≡ None
     → addressed_fault spec ≡ option_or (address_fault spec) (device_fault spec.low spec)
 unfolding addressed_fault
-addressed_rest spec e = ap (λ o. option_or o
-    (option_or (address_fault spec) (device_fault spec.low spec))) e
+addressed_rest spec e = grind arith
 
 addressed_stalled : (spec : Spec) → early_fault spec ≡ None → spec.stalls.address ≡ true
     → addressed_fault spec ≡ Some (Stalled request.Address)
-addressed_stalled spec e stalls = addressed_rest spec e
-    ∙ ap (λ b. option_or (if b then Some (Stalled request.Address) else None)
-    (device_fault spec.low spec)) stalls
+addressed_stalled spec e stalls = grind (arith, addressed_rest)
 
 addressed_device : (spec : Spec) (cause : Cause) → early_fault spec ≡ None
     → spec.stalls.address ≡ false → device_fault spec.low spec ≡ Some cause
     → addressed_fault spec ≡ Some cause
-addressed_device spec cause e stalls fault = addressed_rest spec e
-    ∙ ap (λ b. option_or (if b then Some (Stalled request.Address) else None)
-    (device_fault spec.low spec)) stalls ∙ fault
+addressed_device spec cause e stalls fault = grind (arith, addressed_rest)
 
 -- SET_ADDRESS
 
@@ -250,9 +174,8 @@ module _ (port : HubPort) (address : ℕ) (target : Target) (outcome : Result (U
       → WhileBusWorks (Enumerating f p 0) old → IsReachedAt new p
   unfolding set_address
   address_reached f p fair held =
-      reached_on p (ordered.rests refl (ended_call 2 outcome mid new ordered.ends fair.working) p)
-      (awaits.reaches.reached f p (held_spare fair.spare) held fair.order
-      fair.occupied (second.led.sound fair.working))
+      reached_on p (ordered.rests refl (grind arith) p)
+      (grind arith)
 
   module _ (what : new.shared ≡ false → EachWas (AddressAsked target address outcome mid new) mid
       new) (why : NoThreeDamaged mid → new.shared ≡ false
@@ -277,13 +200,8 @@ module _ (port : HubPort) (address : ℕ) (target : Target) (outcome : Result (U
         let s : StoodAt p mid (λ j s. Both j s v) = was_at Both p mid new each v on there in
         let waits = at_place (AwaitsAddress target)
         (awaits.found.found f p (held_spare fair.spare) held fair.order) s in
-        let heard = hears_there f port s.spot target s.before
-        (subst (IsAt f port) s.path fair.spare.at) is.pre waits.low (waits.zero ∙ sym is.zero) in
         subst (λ x. addressed_fault x ≡ Some cause) (sym (ap (λ y. y.spec) s.so.0.frame))
-        (so s.spot s.before v s.so
-        (record { at = heard.at; loud = waits.head.loud; hears = heard.hears })
-        (sane_spec mid.roots s.spot.row s.spot.rest s.before
-        (here.order (second.led.sound fair.working)).sane s.stands) waits))
+        (grind (arith, sane_spec)))
 
     pub address_stops : (stop : Stop) → Err stop ≡ answered_or (Stalled request.Address) outcome
         → StopsFairly addressed_fault port address stop old new
@@ -299,14 +217,12 @@ module _ (port : HubPort) (address : ℕ) (target : Target) (outcome : Result (U
             (unwrap_or (stop_of fault) (Refused (Stalled request.Address))) new
         by_fault f p fair pipe.Stalled e =
             address_refused fair (Stalled request.Address)
-            (λ j s v x heard ruled waits. addressed_stalled s.spec (early_none waits.low waits.head)
+            (λ j s v x heard ruled waits. addressed_stalled s.spec (search early_none)
             (x.0.stalled heard.at e))
-        by_fault f p fair pipe.Busy e = address_refused fair _
-            (λ j s v x heard ruled waits. absurd (x.1.waited heard waits.head.free ruled.naks e))
+        by_fault f p fair pipe.Busy e = address_refused fair _ (grind arith)
         by_fault f p fair pipe.NoAnswer e =
-            address_refused fair _ (λ j s v x heard ruled waits. absurd (x.1.answered heard e))
-        by_fault f p fair pipe.Broken e = address_refused fair _
-            (λ j s v x heard ruled waits. absurd (subst (CanEnd s.spec) e (x.0.could heard.at)))
+            address_refused fair _ (grind arith)
+        by_fault f p fair pipe.Broken e = grind arith
         by_fault f p fair _ e = tt
 
 -- The descriptor of a device that was told its address
@@ -324,16 +240,16 @@ module _ {port : HubPort} {address : ℕ} {target : Target} {old mid given new :
   module _ {f : AddressMap} {p : List ℕ} (fair : IsFairAt f port p address old new)
       (held : WhileBusWorks (Enumerating f p 0) old) where
     sound_given : given.fault ≡ None
-    sound_given = third.led.sound fair.working
+    sound_given = grind arith
 
     spare_zero : IsSpare f port p 0
     spare_zero = held_spare fair.spare
 
     fair_given : IsFairAt f port p address given new
-    fair_given = fair_then (went_on first second) third fair at_given
+    fair_given = search (fair_then, went_on)
 
     single_given : given.shared ≡ false
-    single_given = (at_given.within.stays f p fair.spare fair.held).single
+    single_given = grind arith
 
     single_new : new.shared ≡ false
     single_new = ((within_kept asks.addresses).stays f p fair.spare fair_given.held).single
@@ -343,26 +259,23 @@ module _ {port : HubPort} {address : ℕ} {target : Target} {old mid given new :
 
     granted_there : AtPath (λ s. Granted target.low target.max s.spec) p given
     granted_there = path_on (AddressAsked target address (Ok tt) mid given) (AwaitsAddress target)
-        (λ s. Granted target.low target.max s.spec) (granted target address mid given is.zero) p mid
+        (λ s. Granted target.low target.max s.spec) (search granted) p mid
         given (what single_given) waiting
 
     named_reached : IsReachedAt new p
     named_reached =
-        reached_on p (asks.ports fair.working p)
-        (address_reached port address target (Ok tt) first second at at_given is awaits
-        ordered f p (fair_before (went_on first second) third fair) held)
+        reached_on p (asks.ports fair.working p) (search (address_reached, fair_before, went_on))
 
   pub descriptor_stops : (stop : Stop) → StopFaults stop new
       → RefusesDescriptor named stop given new
       → StopsFairly addressed_fault port address stop old new
-  descriptor_stops (Fault why) told refuses =
-      record { why = λ f p fair. faults_for_told p why new told }
+  descriptor_stops (Fault why) told refuses = search faults_for_told
   descriptor_stops (Refused cause) told refuses = record {
     why = λ f p fair held.
-        let have = having f p address (at_given.within.stays f p fair.spare fair.held) in
+        let have = having f p address (grind arith) in
         let who = (refuses.who cause refl).held (after_taking f p have.has) have.owned in
-        pends_reached (λ spec. addressed_fault spec ≡ Some cause) p new (named_reached fair
-        held) (λ s on there.
+        pends_reached (λ spec. addressed_fault spec ≡ Some cause) p new
+        (grind (arith, named_reached)) (λ s on there.
         let so = explained_at (Refuses named (device_fault target.low) (Refused cause))
         (Granted target.low target.max) named f port p given new fair.spare.at is.pre
         (fair_given fair held).few (single_new fair held)
@@ -374,8 +287,8 @@ module _ {port : HubPort} {address : ℕ} {target : Target} {old mid given new :
               ∙ answered_has have.has address fair.spare (inr refl) who;
           so = g;
         }) s on there in
-        addressed_device s.spec cause (early_none so.1.speed so.1.head) so.1.allowed
-        (ap (λ x. device_fault x s.spec) so.1.speed ∙ so.0 (responsive {t = named} so.1)));
+        addressed_device s.spec cause (search early_none) so.1.allowed
+        (grind (arith, responsive)));
   }
 
   -- where it gives none, it missed its address
@@ -389,49 +302,33 @@ module _ {port : HubPort} {address : ℕ} {target : Target} {old mid given new :
         let w : Was (Explained Hears (λ spec. IsResponsive named spec → ⊥) named) given j v =
         none.why (fair_given fair held).few (single_new fair held) j v on there in
         let u : Was (AddressAsked target address (Ok tt) mid given) mid j w.before =
-        what (single_given fair held) j w.before w.on w.stands in
+        search single_given in
         let waits = subst (λ x. AtPath (AwaitsAddress target) x mid) path (waiting fair held)
         u.before u.on u.stands in
         let g = subst (λ x. AtPath (λ s. Granted target.low target.max s.spec) x given) path
         (granted_there fair held) w.before w.on w.stands in
-        by_end w g u.before waits.zero (u.so.done
-        (eq-eqb (address_of u.before) target.addr (waits.zero ∙ sym is.zero)) refl).1
+        by_end w g u.before waits.zero (u.so.done (grind arith) refl).1
       where
         by_end : (w : Was (Explained Hears (λ spec. IsResponsive named spec → ⊥) named) given j v)
             → Granted target.low target.max w.before.spec → (s : State) → address_of s ≡ 0
             → TookItOrLost address mid given s w.before
             → WhileBusWorks (Enumerating f p 0) new × (given.losses ≡ one_more mid.losses)
         by_end w g s none_yet (took registers losses) =
-            absurd (w.so.so (hears_there f port j named w.before
-            (subst (IsAt f port) path fair.spare.at) is.pre g.speed (ap (λ r. r.address) registers))
-            (sane_spec given.roots j.row j.rest w.before
-            ((fair_given fair held).order (sound_given fair held)).sane w.stands)
-            (responsive {t = named} g))
+            absurd (grind (arith, responsive, sane_spec))
         by_end w g s none_yet (lost registers losses) =
             let t = at_given.within.stays f p fair.spare fair.held in
             let own = t.so (sound_given fair held) in
-            let has : own.has ≡ 0 = sym (subst (λ x. AtPath (λ z. address_of z ≡ own.has) x given)
-            path (held_at f p own.has own.owned) w.before w.on w.stands)
-            ∙ ap (λ r. r.address) registers ∙ none_yet in
             let at_zero : WhileBusWorks (Enumerating f p 0) given =
-            record {
-              so = λ x. record { has = own.has; is = inl has; owned = own.owned };
-              single = t.single;
-            } in ((within_kept asks.addresses).stays f p (held_spare fair.spare) at_zero, losses)
+            grind arith in (
+              (within_kept asks.addresses).stays f p
+                  (held_spare fair.spare) at_zero,
+              losses,
+            )
 
     counted_more : given.losses ≡ one_more mid.losses → NoNewStretch old mid
         → NoNewStretch given new → given.losses.worst ≤ new.losses.worst → Missed 1 old new
     unfolding one_more
-    counted_more losses before after worst =
-        let x = before.run in
-        let y = after.run in
-        let run : given.losses.run ≡ mid.losses.run + 1 = ap (λ k. k.run) losses in
-        let most : given.losses.worst ≡ max mid.losses.worst (mid.losses.run + 1) =
-        ap (λ k. k.worst) losses in
-        record {
-          run = omega (arith, x, y, run);
-          worst = λ some. omega (arith, x, y, run, most, worst);
-        }
+    counted_more losses before after worst = grind arith
 
     pub pass_misses : Misses port address 1 old new
     pass_misses = record { missed = missed }
@@ -452,73 +349,30 @@ module _ {port : HubPort} {address : ℕ} {target : Target} {old mid given new :
                 let v = is_some-value (state_at new.roots j q) (reach-state new.roots j q on) in
                 let x = still_held fair held (record { row = j; rest = q }) path v.0 on v.1 in (
                   x.0,
-                  counted_more x.1 (awaits.goes (second.led.sound
-                      (sound_given fair held))) (none.goes fair.working)
+                  counted_more x.1 (grind arith) (none.goes fair.working)
                       (course_later (third.led.course fair.working)).worst,
                 )
 
 -- Pass after pass
 
 pub misses_none : (port : HubPort) (address : ℕ) (w : World) → Misses port address 0 w w
-misses_none port address w = record {
-  missed =
-      λ f p fair held. inr (
-        held,
-        record { run = omega arith; worst = λ some. absurd (omega (arith, some)) },
-      );
-}
-
-missed_then : {k : ℕ} {old mid new : World} → Missed k old mid → Missed 1 mid new
-    → Missed (k + 1) old new
-missed_then x y =
-    let a = x.run in
-    let b = y.run in
-    let c = y.worst (omega arith) in
-    record { run = omega (arith, a, b); worst = λ some. omega (arith, a, c) }
+misses_none port address w = grind arith
 
 module _ {port : HubPort} {address k : ℕ} {old mid new : World} (first : Went old mid)
     (second : Went mid new) (at : AtPort port address old mid) (later : AtPort port address mid new)
     (before : Misses port address k old mid) where
   pends_later : {f : AddressMap} {p : List ℕ} → IsFairAt f port p address old new
       → pending mid.roots p ≡ true → pending new.roots p ≡ true
-  pends_later {f} {p} fair h = pending_persists p
-      (later.only.at f p fair.spare (at.within.stays f p fair.spare fair.held) fair.working).spares
-      h
+  pends_later fair h = grind (arith, pending_persists)
 
   pub misses_then : Misses port address 1 mid new → Misses port address (k + 1) old new
-  misses_then next = record {
-    missed = λ f p fair held.
-        elim (before.missed f p (fair_before first second fair) held) [
-          | inl h ↦ inl (pends_later fair h)
-          | inr x ↦ elim (next.missed f p (fair_then first second fair at) x.0) [
-            | inl h ↦ inl h
-            | inr y ↦ inr (y.0, missed_then x.1 y.1)
-          ]
-        ];
-  }
+  misses_then next = grind (arith, fair_before, fair_then, pends_later)
 
   pub stops_then : {wrong : Spec → Option Cause} (stop : Stop)
       → StopsFairly wrong port address stop mid new → StopsFairly wrong port address stop old new
-  stops_then (Fault why) stops =
-      record {
-        why = λ f p fair. stops.why f p (fair_then first second fair at);
-      }
-  stops_then (Refused cause) stops =
-      record {
-        why = λ f p fair held.
-            elim (before.missed f p (fair_before first second fair) held) [
-              | inl h ↦ inl (pends_later fair h)
-              | inr x ↦ stops.why f p (fair_then first second fair at) x.0
-            ];
-      }
+  stops_then stop stops = grind (arith, fair_before, fair_then, pends_later)
 
 pub thrice_missed : (wrong : Spec → Option Cause) {port : HubPort} {address : ℕ} (cause : Cause)
     {old new : World} → Misses port address 3 old new
     → StopsFairly wrong port address (Refused cause) old new
-thrice_missed wrong cause misses =
-    record {
-      why = λ f p fair held. elim (misses.missed f p fair held) [
-        | inl h ↦ inl h
-        | inr x ↦ absurd (omega (arith, x.1.worst (omega arith), fair.kept))
-      ];
-    }
+thrice_missed wrong cause misses = grind arith

@@ -1,25 +1,24 @@
 -- Why the parts of an enumeration behind the device descriptor stop, and the whole.
-use Rattle.std.proofs.Common.{◌≡◌, inl, inr, ℕ, ◌==◌, true, List, [], slice_index_or, Some, Result}
-use Rattle.std.proofs.Common.{Bool, Ok, Err, refl, sym, subst, IfErr}
+use Rattle.std.proofs.Common.{arith, ◌≡◌, inl, inr, ℕ, ◌==◌, true, List, [], slice_index_or, Some}
+use Rattle.std.proofs.Common.{Result, Ok, Err, refl, sym, subst, IfErr}
 use Rattle.usb_resources.specs.{Addresses, IsFree, IsFull}
 use Rattle.usb_world.specs.{World}
 use Rattle.usb_tree.proofs.Interface.{both, equal_same}
 use Rattle.usb_transaction.specs.{Target}
 use Rattle.usb_hub.specs.{HubPort}
-use Rattle.usb_enum.specs.{CauseAllowedOfDevice, EnumFault, Finding, Stop, LAST_TIER, fits_tier}
-use Rattle.usb_enum.specs.{is_hub_device, GivesUp, Leads, DescriptorRead, CauseAllowed}
-use Rattle.usb_enum.specs.{CauseAllowedAtStart, AllTexts, RefusedAs, by_answer, too_deep, bad_hub}
-use Rattle.usb_enum.specs.{StoppedAs, StopsDevice, FaultBy, IsSpokenTo, CauseAllowedAt, early, late}
-use Rattle.usb_enum.specs.{StopsAtPort, StoppedFor, StoppedWithout, HasReason, refused_for}
-use Rattle.usb_enum.specs.{refused_early, none_free, CauseAllowedOfTexts, EndsFor, FaultAllowedAt}
-use Rattle.usb_enum.specs.{CauseAllowedWithout, FitsTier, HostOptions, choice_of, too_large}
+use Rattle.usb_enum.specs.{EnumFault, Finding, Stop, LAST_TIER, fits_tier, is_hub_device, GivesUp}
+use Rattle.usb_enum.specs.{Leads, DescriptorRead, CauseAllowed, CauseAllowedAtStart, AllTexts}
+use Rattle.usb_enum.specs.{RefusedAs, by_answer, too_deep, bad_hub, StoppedAs, StopsDevice, FaultBy}
+use Rattle.usb_enum.specs.{IsSpokenTo, CauseAllowedAt, early, late, StopsAtPort, StoppedFor}
+use Rattle.usb_enum.specs.{StoppedWithout, HasReason, refused_for, refused_early, none_free}
+use Rattle.usb_enum.specs.{CauseAllowedOfTexts, EndsFor, FaultAllowedAt, CauseAllowedWithout}
+use Rattle.usb_enum.specs.{HostOptions, choice_of, too_large}
 use Rattle.usb_enum.specs.declared.cause.Cause.TheVariants as cause
 use Rattle.usb_enum.specs.declared.finding.Finding.TheVariants as finding
 use Rattle.usb_enum.specs.declared.stop.Stop.TheVariants.{Refused, Fault}
-use Rattle.usb_enum.proofs.stops.PlainStops.{deep_is, not_last, fault_at, plain_fits}
+use Rattle.usb_enum.proofs.stops.PlainStops.{deep_is, plain_fits}
 use Rattle.usb_enum.proofs.courses.Courses.{leads_then}
-use Rattle.usb_enum.proofs.stops.Reasons.{because_after, because_plain, fault_after, fault_by}
-use Rattle.usb_enum.proofs.stops.Reasons.{fault_told_by, told_in, told_without}
+use Rattle.usb_enum.proofs.stops.Reasons.{because_after, because_plain, fault_after, told_in}
 
 -- By an answer
 
@@ -27,24 +26,21 @@ pub stops_by : (t : Target) (bytes : List ℕ) (options : HostOptions) (tier sup
     (old new : World)
     → CauseAllowed t stop old new → StopsDevice t bytes options tier supply old new stop
 stops_by t bytes options tier supply (Refused why) old new told = record {
-  fits = plain_fits tier why (because_plain why t old new told);
+  fits = search (because_plain, plain_fits);
   because = by_answer told;
 }
-stops_by t bytes options tier supply (Fault why) old new told =
-    record { fits = told; because = told }
+stops_by t bytes options tier supply (Fault why) old new told = grind arith
 
 -- by the texts of its configurations
 pub texts_stops : (t : Target) (bytes : List ℕ) (options : HostOptions) (tier supply : ℕ)
     (stop : Stop) (old new : World) → CauseAllowedOfTexts options.device_bytes t stop old new
     → StopsDevice t bytes options tier supply old new stop
 texts_stops t bytes options tier supply (Refused why) old new (inl large) = record {
-  fits = subst (FitsTier tier) (sym large.0) tt;
+  fits = grind arith;
   because = subst (RefusedAs t bytes options tier supply old new) (sym large.0) (too_large large.1);
 }
-texts_stops t bytes options tier supply (Refused why) old new (inr told) =
-    stops_by t bytes options tier supply (Refused why) old new told
-texts_stops t bytes options tier supply (Fault why) old new told =
-    record { fits = told; because = told }
+texts_stops t bytes options tier supply (Refused why) old new (inr told) = search stops_by
+texts_stops t bytes options tier supply (Fault why) old new told = grind arith
 
 -- In the last tier
 
@@ -59,15 +55,6 @@ fits_stop t bytes options tier supply stop w is =
 
 -- As a hub
 
-pub told_of_hub : (wide : Bool) (tier : ℕ) (bytes : List ℕ) (stop : Stop) (t : Target)
-    (text : List ℕ) (old new : World) → fits_tier tier bytes ≡ Ok tt → is_hub_device bytes ≡ true
-    → CauseAllowedAtStart wide t text stop old new → CauseAllowedOfDevice tier stop new
-told_of_hub wide tier bytes (Refused why) t text old new fits is (inl bad) =
-    rw bad.0 (not_last tier bytes is fits)
-told_of_hub wide tier bytes (Refused why) t text old new fits is (inr b) =
-    plain_fits tier why (because_plain why t old new b)
-told_of_hub wide tier bytes (Fault fault) t text old new fits is told = told
-
 module _ (t : Target) (bytes : List ℕ) (options : HostOptions) (tier supply : ℕ) where
   hub_as : (stop : Stop) {old read set : World} (new : World) → is_hub_device bytes ≡ true
       → {texts : List (List ℕ)} → AllTexts t bytes texts old read → (chosen : ℕ)
@@ -75,17 +62,7 @@ module _ (t : Target) (bytes : List ℕ) (options : HostOptions) (tier supply : 
       → CauseAllowedAtStart options.wide_hubs t (slice_index_or texts chosen []) stop set new
       → StoppedAs t bytes options tier supply stop old new
   hub_as (Refused why) {old} {read} {set} new hub {texts} all chosen choice first led (inl bad) =
-      subst (RefusedAs t bytes options tier supply old new) (sym bad.0) (bad_hub (record {
-        hub = hub;
-        texts = texts;
-        read = read;
-        all = all;
-        chosen = chosen;
-        choice = choice;
-        set = set;
-        led = led;
-        fails = bad.1;
-      }))
+      subst (RefusedAs t bytes options tier supply old new) (sym bad.0) (bad_hub (grind arith))
   hub_as (Refused why) new hub all chosen choice first led (inr b) =
       by_answer (because_after why t new (leads_then first led) b)
   hub_as (Fault why) new hub all chosen choice first led told = told
@@ -95,11 +72,7 @@ module _ (t : Target) (bytes : List ℕ) (options : HostOptions) (tier supply : 
       → (chosen : ℕ) → choice_of supply texts ≡ Some chosen → Leads old read → Leads read set
       → CauseAllowedAtStart options.wide_hubs t (slice_index_or texts chosen []) stop set new
       → StopsDevice t bytes options tier supply old new stop
-  hub_stops stop {set} new fits hub {texts} all chosen choice first led told = record {
-    fits = told_of_hub options.wide_hubs tier bytes stop t (slice_index_or texts chosen []) set
-        new fits hub told;
-    because = hub_as stop new hub all chosen choice first led told;
-  }
+  hub_stops stop new fits hub all chosen choice first led told = grind (arith, hub_as)
 
 -- At the port
 
@@ -109,21 +82,16 @@ pub device_stops : {port : HubPort} {address : ℕ} {options : HostOptions} {tie
     → StopsAtPort port address options tier supply old new stop
 device_stops {t} {bytes} (Refused why) {mid} is read told =
     record { fits = told.fits; because = late t bytes mid is read told.because }
-device_stops {port} (Fault why) {old} {new} is read told =
-    record {
-      fits = fault_at port why new told.fits;
-      because = fault_told_by port why old new told.because;
-    }
+device_stops {port} (Fault why) {old} {new} is read told = grind arith
 
 pub early_stops : (port : HubPort) (address : ℕ) (options : HostOptions) (tier supply : ℕ)
     (stop : Stop) (old new : World) → CauseAllowedAt port address stop old new
     → StopsAtPort port address options tier supply old new stop
 early_stops port address options tier supply (Refused why) old new told = record {
-  fits = told_in tier (Refused why) port address old new told;
+  fits = search told_in;
   because = early told;
 }
-early_stops port address options tier supply (Fault why) old new told =
-    record { fits = told_in tier (Fault why) port address old new told; because = told }
+early_stops port address options tier supply (Fault why) old new told = grind arith
 
 -- The whole
 
@@ -151,34 +119,16 @@ module _ (port : HubPort) (addresses : Addresses) (options : HostOptions) (tier 
   pub gives_reason : (stop : Stop) {old mid new : World} (result : Result Finding EnumFault)
       → Leads old mid → Leads mid new → Reasoned stop old mid → GivesUp port stop mid result new
       → EndsFor port addresses options tier supply old result new
-  gives_reason (Refused why) (Ok (finding.Device device)) first led reason gives = tt
-  gives_reason (Refused why) {old} {mid} (Ok (finding.Refused other)) first led reason gives =
-      record {
-        moment = mid;
-        reason = subst (HasReason port addresses options tier supply old mid)
-            (let same : why ≡ other = cc gives.0 in same) reason;
-        led = led;
-      }
-  gives_reason (Refused why) {new} (Err fault) first led reason gives =
-      fault_after port fault new first gives
-  gives_reason (Fault why) {old} {new} result first led reason gives =
-      subst (λ r. EndsFor port addresses options tier supply old r new) (sym gives.0)
-      (subst (λ w. FaultBy port why old w) (sym gives.1) reason)
+  gives_reason stop result first led reason gives = grind (arith, fault_after)
 
 -- where no address was free
 pub stopped_without : (port : HubPort) (stop : Stop) (old new : World)
     → StoppedWithout port stop old new → CauseAllowedWithout port stop new
-stopped_without port stop old new (inl none) =
-    subst (λ s. CauseAllowedWithout port s new) (sym none) (inl refl)
-stopped_without port stop old new (inr told) = told_without stop port 0 old new told
+stopped_without port stop old new h = grind arith
 
 -- what is told of its end
 pub given_told : (port : HubPort) (stop : Stop) (mid new : World)
     (result : Result Finding EnumFault) → ((why : EnumFault) → stop ≡ Fault why
     → FaultAllowedAt port why mid) → GivesUp port stop mid result new
     → IfErr result (λ fault. FaultAllowedAt port fault new)
-given_told port (Refused why) mid new (Ok finding) faults gives = tt
-given_told port (Refused why) mid new (Err fault) faults gives = fault_by port fault mid new gives
-given_told port (Fault why) mid new result faults gives =
-    subst (λ r. IfErr r (λ fault. FaultAllowedAt port fault new)) (let e : result ≡ Err why =
-    gives.0 in sym e) (subst (FaultAllowedAt port why) (sym gives.1) (faults why refl))
+given_told port stop mid new result faults gives = grind arith

@@ -1,5 +1,5 @@
 -- The verdict on a device of each row, and a string, computed.
-use Rattle.std.proofs.Common.{◌≡◌, ℕ, List, [], ◌∷◌, true, false, Some, None, Ok, Err, refl}
+use Rattle.std.proofs.Common.{arith, ◌≡◌, ℕ, List, [], ◌∷◌, true, false, Some, None, Ok, Err, refl}
 use Rattle.usb_descriptor.specs.Choice as choice
 use Rattle.usb_descriptor.specs.Config as config
 use Rattle.usb_descriptor.specs.Device as device
@@ -128,38 +128,7 @@ unfolding verdict first_fault config_fault text_read lengths.said_length text.ne
     device.device_spelled config.config_head_of config.config_of config.items_fault config.pieces_of
     hub.hub_spelled choice.status_endpoint_of choice.first_counting choice.status_at
     choice.interrupt_in_at choice.interrupt_described item.items_in item.items_of
-examples =
-    record {
-      silent = refl;
-      busy = refl;
-      stalled_device = refl;
-      bad_head = refl;
-      stalled_address = refl;
-      bad_device = refl;
-      too_deep = refl;
-      stalled_config = refl;
-      no_text = refl;
-      bad_item = refl;
-      bad_length = refl;
-      bad_value = refl;
-      no_power = refl;
-      stalled_set = refl;
-      bad_hub = refl;
-      accepted = refl;
-      first = refl;
-      second = refl;
-      hub = refl;
-      narrow = refl;
-      wide = refl;
-      small_endpoint = refl;
-      one_endpoint = refl;
-      any_endpoint = refl;
-      within = refl;
-      over = refl;
-      over_first = refl;
-      over_before = refl;
-      bad_before = refl;
-    }
+examples = grind arith
 
 -- string 0 names a language, and string 1 is read; without string 0 it is not
 product : string_at (record small {

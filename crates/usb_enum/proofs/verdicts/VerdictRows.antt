@@ -9,8 +9,8 @@ use Rattle.usb_descriptor.specs.{device_head_of, configuration_count}
 use Rattle.usb_device.specs.{Spec}
 use Rattle.usb_enum.specs.{Cause, Silent, TooDeep, is_device, is_hub_device, choice_of, verdict}
 use Rattle.usb_enum.specs.{is_good_hub, texts_of, config_fault, first_fault, read_verdict}
-use Rattle.usb_enum.specs.{set_verdict, HasHead, HostOptions, left_of, said_below, Stalled, NoPower}
-use Rattle.usb_enum.specs.{BadHub, texts_below, chosen_fault, configured_fault}
+use Rattle.usb_enum.specs.{HostOptions, left_of, said_below, texts_below, chosen_fault}
+use Rattle.usb_enum.specs.{configured_fault}
 use Rattle.std.proofs.lemmas.Option.{same_Some}
 use Rattle.usb_tree.proofs.Interface.{decided}
 use Rattle.usb_enum.specs.declared.cause.Request.TheVariants as request
@@ -34,15 +34,6 @@ pub record GaveHead (spec : Spec) : Type 0 where
   pub free : spec.busy ≡ false
   pub device : spec.stalls.device ≡ false
   pub head : is_ok (device_head_of spec.low (take 8 spec.descriptor)) ≡ true
-
-pub gave_head : {low : Bool} {max : ℕ} {spec : Spec} → spec.low ≡ low → HasHead low max spec
-    → GaveHead spec
-gave_head {spec} same head = record {
-  loud = head.loud;
-  free = head.free;
-  device = head.device;
-  head = ap (λ b. is_ok (device_head_of b (take 8 spec.descriptor))) same ∙ ap is_ok head.head;
-}
 
 -- it takes an address and gives its device descriptor, and is not too deep
 pub record GaveDevice (spec : Spec) (tier : ℕ) : Type 0 where
@@ -69,21 +60,13 @@ pub row_too_deep : {spec : Spec} (options : HostOptions) (tier supply : ℕ) →
     → (is_hub_device spec.descriptor && tier == 7) ≡ true
     → verdict spec options tier supply ≡ Err TooDeep
 unfolding verdict
-row_too_deep options tier supply h a b c = rw (h.loud, h.free, h.device, h.head, a, b, c) refl
+row_too_deep options tier supply h a b c = grind arith
 
 pub rows_after : {spec : Spec} (options : HostOptions) {tier : ℕ} (supply : ℕ)
     → GaveDevice spec tier → verdict spec options tier supply ≡ read_verdict options.wide_hubs spec
     supply (first_fault options.device_bytes spec (configuration_count spec.descriptor))
 unfolding verdict
-rows_after options supply h = rw (
-  h.first.loud,
-  h.first.free,
-  h.first.device,
-  h.first.head,
-  h.address,
-  h.whole,
-  h.shallow,
-) refl
+rows_after options supply h = grind arith
 
 -- Configurations
 
@@ -95,8 +78,7 @@ pub first_none : (budget : Option ℕ) (spec : Spec) (i : ℕ) → first_fault b
     → config_fault (left_of budget (said_below spec i)) spec i ≡ None
     → first_fault budget spec (i + 1) ≡ None
 unfolding first_fault
-first_none budget spec i h k = let e : i + 1 ≡ suc i = omega arith in
-    rw e (ap (λ o. option_or o (fault_at budget spec i)) h ∙ k)
+first_none budget spec i h k = grind arith
 
 -- the first bad one is the first of more
 pub first_fault-next : (budget : Option ℕ) (spec : Spec) (i n : ℕ) (cause : Cause) → i < n
@@ -120,34 +102,14 @@ pub row_accepted : {spec : Spec} (options : HostOptions) {tier supply chosen : �
     → (is_hub_device spec.descriptor && not
     (is_good_hub options.wide_hubs spec (slice_index_or (texts_of spec) chosen []))) ≡ false
     → verdict spec options tier supply ≡ Ok chosen
-row_accepted {spec} options {supply} h a b = rows_after options supply h.device
-    ∙ ap (read_verdict options.wide_hubs spec supply) h.good
-    ∙ ap (set_verdict options.wide_hubs spec (texts_of spec)) h.within
-    ∙ rw (a, b) refl
-
-set_config_cause : (stalled hub good : Bool) (chosen : ℕ) (cause : Cause) → option_or
-    (if stalled then Some (Stalled request.SetConfig) else None)
-    (if hub then (if good then None else Some BadHub) else None) ≡ Some cause → (if stalled then Err
-    (Stalled request.SetConfig) else if hub && not good then Err BadHub else Ok chosen) ≡ Err cause
-set_config_cause false true true chosen cause h = absurd cc
-set_config_cause false false good chosen cause h = absurd cc
-set_config_cause _ _ _ chosen cause h = ap (λ c. Err c) (same_Some _ cause h)
-
-set_is : (wide : Bool) (spec : Spec) (texts : List (List ℕ)) (choice : Option ℕ) (cause : Cause)
-    → chosen_fault wide (is_hub_device spec.descriptor) texts choice spec ≡ Some cause
-    → set_verdict wide spec texts choice ≡ Err cause
-set_is wide spec texts None cause h = ap (λ c. Err c) (same_Some NoPower cause h)
-set_is wide spec texts (Some chosen) cause h =
-    set_config_cause spec.stalls.set_config (is_hub_device spec.descriptor)
-    (is_good_hub wide spec (slice_index_or texts chosen [])) chosen cause h
+row_accepted options h a b = grind (arith, rows_after)
 
 read_is : (wide : Bool) (spec : Spec) (supply : ℕ) (first : Option Cause) (cause : Cause)
     → option_or first (chosen_fault wide (is_hub_device spec.descriptor) (texts_of spec)
     (choice_of supply (texts_of spec)) spec) ≡ Some cause
     → read_verdict wide spec supply first ≡ Err cause
-read_is wide spec supply (Some bad) cause h = ap (λ c. Err c) (same_Some bad cause h)
-read_is wide spec supply None cause h =
-    set_is wide spec (texts_of spec) (choice_of supply (texts_of spec)) cause h
+read_is wide spec supply (Some bad) cause h = search same_Some
+read_is wide spec supply None cause h = grind arith
 
 module _ (spec : Spec) (options : HostOptions) (tier supply : ℕ) where
   abbrev wide : Bool
@@ -169,12 +131,7 @@ module _ (spec : Spec) (options : HostOptions) (tier supply : ℕ) where
 
   row_front : (bytes : List ℕ) → bytes ≡ take 18 spec.descriptor → configured_fault options tier
       supply bytes spec ≡ Row (is_hub_device spec.descriptor) (configuration_count spec.descriptor)
-  row_front bytes front =
-      row_is bytes
-      ∙ ap (λ b. Row (is_hub_device b) (configuration_count b)) front
-      ∙ ap (λ hub. Row hub (configuration_count (take 18 spec.descriptor)))
-      (front_hub spec.descriptor)
-      ∙ ap (Row (is_hub_device spec.descriptor)) (front_count spec.descriptor)
+  row_front bytes front = grind (arith, front_count, row_is)
 
   pub verdict_refused : (bytes : List ℕ) (cause : Cause) → GaveHead spec
       → spec.stalls.address ≡ false → is_device spec.low (take 18 spec.descriptor) ≡ true
@@ -185,11 +142,10 @@ module _ (spec : Spec) (options : HostOptions) (tier supply : ℕ) where
       elim (decided (is_hub_device spec.descriptor && tier == 7)) [
         | inl deep ↦ row_too_deep options tier supply head address whole deep
             ∙ ap (λ c. Err c) (same_Some TooDeep cause
-            (sym (ap (λ b. if b then Some TooDeep else rest) deep) ∙ is))
-        | inr shallow ↦ rows_after options supply
-            (record { first = head; address = address; whole = whole; shallow = shallow })
+            (sym (grind arith) ∙ is))
+        | inr shallow ↦ rows_after options supply (grind arith)
             ∙ read_is wide spec supply (first_of (configuration_count spec.descriptor)) cause
-            (sym (ap (λ b. if b then Some TooDeep else rest) shallow) ∙ is)
+            (sym (grind arith) ∙ is)
       ]
     where
       rest : Option Cause
