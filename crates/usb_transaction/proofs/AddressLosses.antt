@@ -1,21 +1,20 @@
 -- Address losses over a transaction, seen from the device at the target's address.
-use Rattle.usb_device.specs.{Location, Registers, Stage, ending, State, ends_with_address}
-use Rattle.std.proofs.Common.{◌≡◌, ◌≢◌, ℕ, true, false, List, [], Some, Result, Ok, Err, refl, sym}
-use Rattle.std.proofs.Common.{subst, ap, ◌∙◌}
+use Rattle.usb_device.specs.{Location, Stage, ending, State, ends_with_address}
+use Rattle.std.proofs.Common.{arith, ◌≡◌, ◌≢◌, ℕ, true, false, List, [], Some, Result, Ok, Err}
+use Rattle.std.proofs.Common.{refl, ◌∙◌}
 use Rattle.usb_packet.specs.{Toggle, One}
 use Rattle.usb_request.specs.{setup_of}
-use Rattle.usb_world.specs.{Attempt, Outcome, TookOrLost, took, lost as lost_it, one_more, IsMade}
-use Rattle.usb_world.specs.{World, attempt, after, outcome_in, Relation, EachWas}
+use Rattle.usb_world.specs.{Attempt, Outcome, TookOrLost, IsMade, World, attempt, after, outcome_in}
+use Rattle.usb_world.specs.{Relation, EachWas}
 use Rattle.usb_world.specs.declared.types.Outcome.TheVariants.{Payload}
 use Rattle.usb_tree.specs.{IsSettled}
 use Rattle.usb_world.proofs.Interface.{CountsNone, Counts, EndsWithAddress, StaysEndless, brings}
 use Rattle.usb_world.proofs.Interface.{each_counts, got_it, got_none, in_counts, made_of}
 use Rattle.usb_world.proofs.Interface.{out_counts, set_up_counts}
 use Rattle.usb_tree.proofs.Interface.{false_true, not-true}
-use Rattle.usb_transaction.specs.{Target, TransFault, Stalled, Bus, heard_as, is_at}
-use Rattle.usb_transaction.specs.{begins_no_stretch, LossesIn, LosesNone, AttemptLog, start, next}
-use Rattle.usb_transaction.specs.{IsNoEnd, LastOutcome, TransactionDone, packed, setup_attempt}
-use Rattle.usb_transaction.specs.{in_attempt, out_attempt}
+use Rattle.usb_transaction.specs.{Target, TransFault, heard_as, is_at, begins_no_stretch, LossesIn}
+use Rattle.usb_transaction.specs.{LosesNone, AttemptLog, start, next, IsNoEnd, LastOutcome}
+use Rattle.usb_transaction.specs.{TransactionDone, packed, setup_attempt, in_attempt, out_attempt}
 use Rattle.usb_transaction.proofs.DeviceRuns.{Any, EachIf, IsEnd, RunThrough, at_end, at_from}
 use Rattle.usb_transaction.proofs.DeviceRuns.{each_device, over_last, tells_end}
 use Rattle.usb_transaction.proofs.LastOutcomes.{read_last}
@@ -33,20 +32,16 @@ trail_counts {a} each settled (next w t made) = each w (made_of a w (trail_settl
 pub set_up_losses : (t : Target) (bytes : List ℕ) (old new : World) {outcomes : List Outcome}
     → begins_no_stretch (setup_of bytes) ≡ true → IsSettled old.roots
     → AttemptLog (setup_attempt t bytes) old outcomes new → new.losses ≡ old.losses
-set_up_losses t bytes old new h = trail_counts (set_up_counts (setup_attempt t bytes) bytes refl
-    refl (not-true _ h))
+set_up_losses t bytes old new h h1 h2 = grind (arith, not-true, set_up_counts, trail_counts)
 
 pub out_losses : (t : Target) (ep : ℕ) (toggle : Toggle) (bytes : List ℕ) (old new : World)
     {outcomes : List Outcome} → IsSettled old.roots
     → AttemptLog (out_attempt t ep toggle bytes) old outcomes new → new.losses ≡ old.losses
-out_losses t ep toggle bytes old new =
-    trail_counts (out_counts (out_attempt t ep toggle bytes) bytes
-    (record { kind = refl; payload = refl }))
+out_losses t ep toggle bytes old new h h1 = grind (arith, out_counts, trail_counts)
 
 pub other_losses : (t : Target) (ep : ℕ) (old new : World) {outcomes : List Outcome} → ep ≢ 0
     → IsSettled old.roots → AttemptLog (in_attempt t ep) old outcomes new → new.losses ≡ old.losses
-other_losses t ep old new other = trail_counts
-    (in_counts (in_attempt t ep) (record { kind = refl; payload = refl }) other)
+other_losses t ep old new other h h1 = grind (arith, in_counts, trail_counts)
 
 -- IN of endpoint 0
 
@@ -66,7 +61,7 @@ module _ (t : Target) (old : World) (settled : IsSettled old.roots) {new : World
         Of = Any;
         back = λ w j u v d h. tt;
         does = λ w m u j v on there h. each_counts (in_attempt t 0) w m
-            (record { kind = refl; payload = refl }) refl u j v on there;
+            (grind arith) refl u j v on there;
       }) old settled hear Last ⊥ single e.trail e.onward is
 
 module _ (t : Target) {hear : _} {Last : Outcome → List Outcome → Type 0} {old new : World}
@@ -76,11 +71,8 @@ module _ (t : Target) {hear : _} {Last : Outcome → List Outcome → Type 0} {o
   none_lost : ((n : ℕ) → s.stage ≢ ending (Some n)) → new.losses ≡ old.losses
   none_lost f =
       at_end hear (λ outcomes w u. StaysEndless s u × (w.losses ≡ old.losses))
-      ((endless s.stage f, refl), refl)
-      (λ outcomes w u y trail made i d n. let c : _ = (d (at_from t s u i.0.1 at)).none i.0.0 in
-      ((c.0.0, c.0.1 ∙ i.0.1), c.1 ∙ i.1)) (λ y. new.losses ≡ old.losses) v
-      (λ outcomes w u trail i d is told. ap (λ y. y.losses) (told (λ z. z)).1
-      ∙ ((d (at_from t s u i.0.1 at)).none i.0.0).1 ∙ i.1) (λ gave outcomes w i. absurd gave)
+      ((endless s.stage f, refl), refl) (grind (arith, at_from)) (λ y. new.losses ≡ old.losses) v
+      (grind (arith, at_from)) (grind arith)
       x
     where
       endless : (g : Stage) → ((n : ℕ) → g ≢ ending (Some n)) → ends_with_address g ≡ false
@@ -108,39 +100,26 @@ module _ (t : Target) (result : Result (List ℕ) TransFault) {old new : World} 
 
   stays_on : (w : World) (u y : State) → Stays w u → EndsWithAddress a w n u y
       → IsNoEnd (heard_as One (outcome_in a w)) → Stays (after (attempt a) w) y
-  stays_on w u y i (got_it o e) c = elim (subst (λ z. IsNoEnd (heard_as One z)) o c) [ ]
-  stays_on w u y i (got_none o g r l) c = (g ∙ i.0, r ∙ i.1, l ∙ i.2)
+  stays_on w u y i h c = grind (arith, got_it, got_none)
 
   took_from : (w : World) (u : State) → Stays w u → new ≡ after (attempt a) w
       → TookOrLost n w (after (attempt a) w) u v → TookOrLost n old new s v
-  took_from w u i e (took g r l) = took g (r
-      ∙ ap {A = Registers} (λ y. record y { address = n }) i.1) (ap (λ y. y.losses) e ∙ l ∙ i.2)
-  took_from w u i e (lost_it g r l) = lost_it (g ∙ i.0) (r ∙ i.1) (ap (λ y. y.losses) e ∙ l
-      ∙ ap one_more i.2)
+  took_from w u i e h = grind arith
 
   unended : (fault : TransFault) (outcomes : List Outcome)
       → Answers (Err fault) (Payload One (packed [])) outcomes → ⊥
-  unended Stalled outcomes c = cc c.0
-  unended (Bus fault) outcomes c = c.1
-  unended _ outcomes c = c.0.0
+  unended fault outcomes c = grind arith
 
   fits : (outcomes : List Outcome) (w : World) (u : State) → Stays w u → EndsWithAddress a w n u v
       → Answers result (outcome_in a w) outcomes → new ≡ after (attempt a) w → Fits v
-  fits outcomes w u i (got_it o e) c is =
-      (λ bytes r. took_from w u i is e, λ fault r. absurd (unended fault outcomes (rw (r, o) at c)))
-  fits outcomes w u i (got_none o g r l) c is = (
-    λ bytes q. false_true (sym o ∙ ap brings (read_last One (outcome_in a w) bytes (rw q at c).0)),
-    λ fault q. ap (λ y. y.losses) is ∙ l ∙ i.2,
-  )
+  fits outcomes w u i h c is =
+      grind (arith, brings, false_true, got_it, got_none, read_last, took_from, unended)
 
   ends_lost : Fits v
   ends_lost =
       at_end (heard_as One) (λ outcomes w u. Stays w u) (refl, refl, refl)
-      (λ outcomes w u y trail made i d c. stays_on w u y i
-      ((d (at_from t s u i.1 at)).ends n (i.0 ∙ stage)) c) Fits v
-      (λ outcomes w u trail i d is told. fits outcomes w u i
-      ((d (at_from t s u i.1 at)).ends n (i.0 ∙ stage)) is (told (λ z. z)).1)
-      (λ gave outcomes w i. absurd gave) x
+      (grind (arith, at_from, stays_on)) Fits v
+      (grind (arith, at_from, fits)) (grind arith) x
 
 pub in_losses : (t : Target) (result : Result (List ℕ) TransFault) (old new : World)
     → IsSettled old.roots → TransactionDone (heard_as One) (in_attempt t 0) old result new

@@ -1,10 +1,10 @@
 -- Bulk endpoints over a transaction: what IN and OUT leave of them, and why one fails.
 use Rattle.usb_device.specs.{Location, State, Reply, forgotten, sunk, in_end, InEnd, OutEnd}
-use Rattle.usb_device.specs.{out_end, with_in, given_on, taken_on, no_in, no_out, next_packet}
-use Rattle.usb_device.specs.{next_place, hesitated, in_hesitates, out_hesitates, out_halts}
-use Rattle.usb_device.specs.{taken_row, given_law, GivesWithin, IsPrompt, sink_row, data_row, Way}
-use Rattle.usb_device.specs.{is_whole, heard, gave, in_law, out_law, taken_of, IsSource, SourceAt}
-use Rattle.usb_device.specs.{SourceOn, OnlySource, IsSink, SinkAt, level, ahead, Joined, OnlySink}
+use Rattle.usb_device.specs.{out_end, with_in, given_on, taken_on, next_packet, next_place}
+use Rattle.usb_device.specs.{hesitated, in_hesitates, out_hesitates, out_halts, taken_row}
+use Rattle.usb_device.specs.{given_law, GivesWithin, IsPrompt, sink_row, data_row, Way, is_whole}
+use Rattle.usb_device.specs.{heard, gave, in_law, out_law, taken_of, IsSource, SourceAt, SourceOn}
+use Rattle.usb_device.specs.{OnlySource, IsSink, SinkAt, level, ahead, Joined, OnlySink}
 use Rattle.std.proofs.Common.{◌≡◌, ◌≢◌, ◌⊎◌, inl, inr, ℕ, ◌+◌, ◌<◌, ◌≤◌, nat_le, nat_lt}
 use Rattle.std.proofs.Common.{if◌then◌else◌, is_some, Bool, true, false, List, length, Option, None}
 use Rattle.std.proofs.Common.{Some, Result, Ok, Err, refl, sym, subst, ap, ◌∙◌, arith}
@@ -51,17 +51,17 @@ abbrev pub stepped : ℕ → ℕ → State → Bool → State
 stepped e most s came = if came then forgotten (with_in s e (end_behind e most s)) else s
 
 pub stepped_end : (e most : ℕ) (s : State) → in_end (stepped e most s true) e ≡ end_behind e most s
-stepped_end e most s = at_same no_in e (end_behind e most s) s.ins
+stepped_end e most s = grind (arith, at_same)
 
 -- the endpoint after a NAK
 abbrev pub end_hesitated : ℕ → State → InEnd
 end_hesitated e s = record (in_end s e) { pace = hesitated (in_end s e).pace }
 
 pub hesitates_end : (e : ℕ) (s : State) → in_end (in_hesitates s e) e ≡ end_hesitated e s
-hesitates_end e s = at_same no_in e (end_hesitated e s) s.ins
+hesitates_end e s = grind (arith, at_same)
 
 pub only_same : (e : ℕ) (s : State) → OnlySource e s s
-only_same e s = record { rest = refl; others = λ a h. refl }
+only_same e s = grind arith
 
 only_stepped : (e most : ℕ) (s : State) → OnlySource e s (stepped e most s true)
 only_stepped e most s = grind (arith, at_other)
@@ -86,7 +86,7 @@ hesitates_paced : (e : ℕ) (s : State) → StaysPaced e s (in_hesitates s e)
 hesitates_paced e s n x = grind (arith, hesitates_end)
 
 only_then : (e : ℕ) (s u v : State) → OnlySource e s u → OnlySource e u v → OnlySource e s v
-only_then e s u v x y = grind (arith, x.rest, x.others, y.rest, y.others)
+only_then e s u v x y = grind arith
 
 abbrev pub SourceStep : ℕ → ℕ → Toggle → State → Option (List ℕ) → State → Type 0
 SourceStep e most awaited s came v = (got : ℕ) → 1 ≤ most → SourceAt e most got awaited s
@@ -118,7 +118,8 @@ module _ (e most max : ℕ) (awaited : Toggle) (s : State) (Clear : Type 0) wher
   Fits r = SourceStep e most awaited s (taken_of awaited max r.0) r.1
       → SourceGave e most max awaited Clear s (heard_as awaited (got max r.0)) r.1
 
-  gives : IsSource e most s → (bytes : List ℕ) → next_packet s e most (in_end s e).place ≡ Some bytes
+  gives : IsSource e most s → (bytes : List ℕ)
+      → next_packet s e most (in_end s e).place ≡ Some bytes
       → (waits fits same : Bool) (t2 t3 : Way) → (in_end s e).state.halted ≡ false
       → nat_lt 0 (in_end s e).pace.naks ≡ waits → nat_le (length bytes) max ≡ fits
       → is_same awaited (in_end s e).state.toggle ≡ same → (Clear → (t2 ≡ whole) × (t3 ≡ whole))
@@ -133,10 +134,8 @@ module _ (e most max : ℕ) (awaited : Toggle) (s : State) (Clear : Type 0) wher
   gives i bytes is false true false whole t3 h n l q c =
       rw (l, q, i.endpoint) (λ on. again (is_whole t3) h (grind (arith, nat_tests, n)) q
       (λ d. ap is_whole (c d).1) on)
-  gives i bytes is false false same whole t3 h n l q c = rw l (λ on. unheard (λ d. (
-    h,
-    λ m. absurd (grind (arith, nat_tests, l, m (in_end s e).place bytes is)),
-  )))
+  gives i bytes is false false same whole t3 h n l q c =
+      rw l (λ on. unheard (grind (arith, nat_tests)))
   gives i bytes is false fits same t2 t3 h n l q c = λ on. unheard (λ d. cc (c d).0)
 
   by_packet : IsSource e most s → (next : Option (List ℕ))
@@ -145,9 +144,7 @@ module _ (e most max : ℕ) (awaited : Toggle) (s : State) (Clear : Type 0) wher
       → Fits (given_law s e next max t2 t3)
   by_packet i None is whole t3 h c = λ on. empty h is
   by_packet i None is t2 t3 h c = λ on. unheard (λ d. cc (c d).0)
-  by_packet i (Some bytes) is t2 t3 h c = gives i bytes is (nat_lt 0 (in_end s e).pace.naks)
-      (nat_le (length bytes) max) (is_same awaited (in_end s e).state.toggle) t2 t3 h refl refl
-      refl c
+  by_packet i (Some bytes) is t2 t3 h c = grind (arith, gives)
 
   by_law : IsSource e most s → (halted : Bool) (t2 t3 : Way) → (in_end s e).state.halted ≡ halted
       → (Clear → (t2 ≡ whole) × (t3 ≡ whole))
@@ -155,19 +152,17 @@ module _ (e most max : ℕ) (awaited : Toggle) (s : State) (Clear : Type 0) wher
       (next_packet s e most (in_end s e).place) max t2 t3)
   by_law i true whole t3 h c = λ on. refused h
   by_law i true t2 t3 h c = λ on. unheard (λ d. cc (c d).0)
-  by_law i false t2 t3 h c =
-      by_packet i (next_packet s e most (in_end s e).place) refl t2 t3 h c
+  by_law i false t2 t3 h c = grind (arith, by_packet)
 
   gave_in : IsSource e most s → (row : List PortState) (t1 t2 t3 : Way)
       → (Clear → (t1 ≡ whole) × (t2 ≡ whole) × (t3 ≡ whole)) → Fits (in_law s row e max t1 t2 t3)
   gave_in i row whole t2 t3 c =
-      rw (bulk_law_is e most s i row max t2 t3)
-      (by_law i (in_end s e).state.halted t2 t3 refl (λ d. ((c d).1, (c d).2)))
+      rw (bulk_law_is e most s i row max t2 t3) (grind (arith, by_law))
   gave_in i row t1 t2 t3 c = λ on. unheard (λ d. cc (c d).0)
 
 pub source_kept : (ep most : ℕ) (s u : State) → OnlySource ep s u → IsSource ep most s
     → IsSource ep most u
-source_kept ep most s u e i = grind (arith, e.rest, i.endpoint, i.not_zero, i.alone)
+source_kept ep most s u e i = grind arith
 
 pub source_at_kept : (t : Target) {ep : ℕ} (s u : State) → OnlySource ep s u → is_at s t ≡ true
     → is_at u t ≡ true
@@ -207,7 +202,7 @@ module _ {e most : ℕ} {awaited : Toggle} {s : State} (h : HeardOutcome) where
     halted = λ c. false_true (sym f ∙ c);
     stalls = λ q. absurd (not q);
     paced = hesitates_paced e s;
-    spent = λ q p. absurd (omega (arith, p.0, one));
+    spent = grind arith;
   }
 
   stepped_in : (came : Bool) → h ≢ Refused → h ≢ NotReady → (in_end s e).state.halted ≡ false
@@ -226,8 +221,8 @@ module _ {e most : ℕ} {awaited : Toggle} where
   pub one_in : {max : ℕ} {Clear : Type 0} {s v : State} {h : HeardOutcome}
       → SourceGave e most max awaited Clear s h v → SourceResult e most awaited s h v
   one_in (unheard c) = stood_in Lost refl (λ q. cc q) (λ q. cc q)
-  one_in (refused f) = stood_in Refused refl (λ q. f) (λ q. cc q)
-  one_in (empty f is) = stood_in NotReady refl (λ q. cc q) (λ q. (f, is))
+  one_in (refused f) = grind (arith, stood_in)
+  one_in (empty f is) = grind (arith, stood_in)
   one_in (hesitates f one) = hesitated_in NotReady refl (λ q. cc q) f one
   one_in (lost_nak d f one) = hesitated_in Lost refl (λ q. cc q) f one
   one_in (moved b came f on) = stepped_in (Moved b) came (λ q. cc q) (λ q. cc q) f on
@@ -252,7 +247,7 @@ module _ {e most : ℕ} {awaited : Toggle} where
   lost_in s v h n x = let nothing : packet_heard h ≡ None = no_packet h n in record {
     frame = x.frame;
     goes = subst (λ c. SourceStep e most awaited s c v) nothing x.goes;
-    halted = λ c. ((x.halted c).0, refl, λ q. cc q);
+    halted = grind arith;
     stalls = λ q. cc q;
     paced = x.paced;
     spent = λ q. cc q;
@@ -265,8 +260,7 @@ cut_source e most n awaited s v c x = grind arith
 pub unheard_in : {e most max : ℕ} {awaited : Toggle} {Clear : Type 0} {s v : State}
     → SourceGave e most max awaited Clear s Lost v → Clear
     → ((in_end s e).state.halted ≡ false) × (GivesWithin max e most s → ⊥)
-unheard_in (unheard c) = c
-unheard_in (lost_nak d f n) = λ c. absurd (d c)
+unheard_in h h1 = grind arith
 
 no_waits_in : {e most max : ℕ} {awaited : Toggle} {Clear : Type 0} {s v : State} {h : HeardOutcome}
     → SourceGave e most max awaited Clear s h v → (in_end s e).state.halted ≡ true
@@ -295,8 +289,7 @@ module _ (t : Target) (ep : ℕ) (awaited : Toggle) where
       let y : _ = asked_in t ep w j u v d at in
       let x : _ = y.1 in
       rw (x.is, x.gave) (gave_in ep most t.max awaited u ((damage_in w ≡ None) × Listens t j u) i
-      y.0 x.first x.second x.third (λ c. x.heard c.0 c.1)
-      (λ n m so. source_on ep most n awaited u i m so y.0 t.max x.first x.second x.third))
+      y.0 x.first x.second x.third (λ c. x.heard c.0 c.1) (search source_on))
 
   -- what an attempt keeps of its kind
   pub only_in : (most : ℕ) (w : World) (j : Location) (u v : State) → DidIn a_in w j u v
@@ -309,10 +302,8 @@ module _ (t : Target) (ep : ℕ) (awaited : Toggle) where
 
   pub stays_in : (most : ℕ) (w : World) (j : Location) (u v : State) → DidIn a_in w j u v
       → ListensIn most j u → ListensIn most j v
-  stays_in most w j u v d is = let f = only_in most w j u v d is.0.at is.1 in (
-    listens_on t j u v (ap (λ x. x.spec) f.rest) (ap (λ x. x.registers) f.rest) is.0,
-    source_kept ep most u v f is.1,
-  )
+  stays_in most w j u v d is = let f = only_in most w j u v d is.0.at is.1 in
+      grind (arith, listens_on, source_kept)
 
   -- with packets as short as the host wants them
   abbrev pub IsShort : ℕ → Location → State → Type 0
@@ -342,7 +333,7 @@ module _ (t : Target) (ep : ℕ) (awaited : Toggle) where
         (λ w u y d so.
         let g = one_in (did_in most w j u y d so.0 so.1) in
         (g, (source_at_kept t u y g.frame so.0, source_kept ep most u y g.frame so.1)))
-        (λ u x y o. then_in u x y (heard_as awaited o))
+        (search then_in)
         (λ u y o n. lost_in u y (heard_as awaited o) (hears.goes o n)) (at, i)
         (stood_in Lost refl (λ q. cc q) (λ q. cc q))
 
@@ -362,12 +353,11 @@ module _ (t : Target) (ep : ℕ) (awaited : Toggle) where
         let (o, outcomes, is, x) = whole_in (as_read awaited) run up h most i in
         result_of (λ b. Some b) (λ c. SourceOn ep most n awaited s c v)
         (λ r. SourceEnds ep most n awaited s r v) (λ b z. z) (λ z. (z, z, z))
-        (λ fault c z. cut_source ep most n awaited s v c z) result
-        (packet_heard (heard_as awaited o)) (brought awaited result o outcomes is) (x.goes n m at);
+        (grind (arith, cut_source)) result
+        (packet_heard (heard_as awaited o)) (search brought) (x.goes n m at);
     stalled = λ h most i e.
         let (o, outcomes, is, x) = whole_in (as_read awaited) run up h most i in
-        x.stalls (ap (heard_as awaited)
-        (subst (λ r. IsEnd (heard_as awaited) r o outcomes) e is));
+        x.stalls (grind arith);
     halted = λ h most i c.
         let (o, outcomes, is, x) = whole_in (as_read awaited) run up h most i in (
           (x.halted c).0,
@@ -379,8 +369,7 @@ module _ (t : Target) (ep : ℕ) (awaited : Toggle) where
     where
       up : IsOfBus result → (outcomes : List Outcome)
           → IsEnd (heard_as awaited) result Nothing outcomes
-      up gave outcomes =
-          of_bus (λ r. IsEnd (heard_as awaited) r Nothing outcomes) (λ f. tt) result gave
+      up gave outcomes = grind (arith, of_bus)
 
   -- between two attempts
   pub between_in : {hear : Outcome → HeardOutcome} → HearsRead awaited hear
@@ -393,8 +382,8 @@ module _ (t : Target) (ep : ℕ) (awaited : Toggle) where
       let run : RunThrough (DidIn a_in) a_in hear (λ o os. o ≡ Nothing) (Unit {0}) old now j s v =
       stopped tt ran onward in
       record {
-        others = away_in hears run (λ g os. refl);
-        frame = frame_in hears run (λ g os. refl);
+        others = search away_in;
+        frame = search frame_in;
         source = λ h most n i m at. let x = whole_in hears run (λ g os. refl) h most i in
             subst (λ o. SourceOn ep most n awaited s (packet_heard (heard_as awaited o)) v) x.2
             (x.3.goes n m at);
@@ -428,18 +417,18 @@ module _ (t : Target) (ep : ℕ) (awaited : Toggle) {hear : Outcome → HeardOut
 
     pub short_answered : NoThreeDamaged old → GivesWithin t.max ep most s → result ≢ Err NoAnswer
     short_answered three m = heeded Done result run (IsShort t ep awaited most j)
-        (λ w u y d n. stays_short t ep awaited most w j u y d) (listens, m) three
+        (search stays_short) (listens, m) three
         (λ w u y d is sound f. (erred w u y d is.0 sound f).1 is.1)
 
     pub halted_answered : NoThreeDamaged old → (in_end s ep).state.halted ≡ true
         → (result ≢ Err NoAnswer) × (result ≢ Err Busy)
     halted_answered three c = (
       heeded Done result run IsHalted (λ w u y d n. stays_halted w u y d) (listens, c) three
-          (λ w u y d is sound f. false_true (sym (erred w u y d is.0 sound f).0 ∙ is.1)),
+          (λ w u y d is sound f. false_true (grind (arith, erred))),
       spared Done result run IsHalted (λ w u y d n. stays_halted w u y d) (listens, c) (λ u. 0)
           (λ w u y d is n. omega (
             arith,
-            hears.few (outcome_in (a_in t ep awaited) w) n,
+            hears.few (grind arith) n,
             no_waits_in (did_in t ep awaited most w j u y d is.0.0.at is.0.1) is.1 n,
           )) (omega arith),
     )
@@ -459,9 +448,9 @@ module _ (t : Target) (ep : ℕ) (awaited : Toggle) (old : World) (three : NoThr
 
   first_stands : (most had : ℕ) (s : State) → SourceAt ep most had awaited s
       → IsPrompt (in_end s ep).pace → Stands most had 0 old s
-  first_stands most had s (level g q) x = even g q (omega (arith, x.0))
+  first_stands most had s (level g q) x = grind arith
   first_stands most had s (ahead g p q) x =
-      behind g p q 0 (lost_run_none old.damages old.attempts) (inr refl) (omega (arith, x.0)) x.1
+      behind g p q 0 (search lost_run_none) (inr refl) (omega (arith, x.0)) x.1
 
   too_many : (most had n : ℕ) (w : World) (u : State) → Stands most had n w u → n ≡ 256 → ⊥
   too_many most had n w u (even g q few) e = omega (arith, few, e)
@@ -469,24 +458,20 @@ module _ (t : Target) (ep : ℕ) (awaited : Toggle) (old : World) (three : NoThr
       omega (arith, few, e, run_short old k w.attempts three ran)
 
   none_there : {o : Option (List ℕ)} {P : Type 0} → o ≡ None → is_some o ≡ true → P
-  none_there {o} n s = absurd (cc (ap is_some (sym n) ∙ s))
+  none_there n s = grind arith
 
   -- after a NAK
   waited_stands : {most had n : ℕ} {w v : World} {u : State} (m : ℕ)
       → m ≤ n + 1 → 1 ≤ (in_end u ep).pace.naks → Stands most had n w u
       → Stands most had m v (in_hesitates u ep)
-  waited_stands {most} {had} {n} {w} {v} {u} m less one (even g q few) = even
-      (ap (λ (x : InEnd). x.place) (hesitates_end ep u) ∙ g)
-      (ap (λ (x : InEnd). x.state.toggle) (hesitates_end ep u) ∙ q)
-      (subst (λ (x : InEnd). m + x.pace.naks ≤ 203) (sym (hesitates_end ep u))
-      (omega (arith, few, one, less)))
+  waited_stands {most} {had} {n} {w} {v} {u} m less one (even g q few) =
+      grind (arith, hesitates_end)
   waited_stands {most} {had} {n} {w} {v} {u} m less one (behind g p q k ran or few each) = behind
-      (g ∙ ap (λ (x : InEnd). next_place u ep most x.place) (sym (hesitates_end ep u)))
-      (ap (λ (x : InEnd). is_some (next_packet u ep most x.place)) (hesitates_end ep u) ∙ p)
-      (ap (λ (x : InEnd). x.state.toggle) (hesitates_end ep u) ∙ q)
-      0 (lost_run_none old.damages v.attempts) (inr refl)
-      (subst (λ (x : InEnd). m + x.pace.naks ≤ 100) (sym (hesitates_end ep u)) (no_run or))
-      (subst (λ (x : InEnd). x.pace.each ≤ 100) (sym (hesitates_end ep u)) each)
+      (grind (arith, hesitates_end))
+      (grind (arith, hesitates_end))
+      (grind (arith, hesitates_end))
+      0 (lost_run_none old.damages v.attempts) (inr refl) (grind (arith, hesitates_end))
+      (grind (arith, hesitates_end))
     where
       no_run : ((in_end u ep).pace.naks ≡ 0) ⊎ (k ≡ 0)
           → m + (hesitated (in_end u ep).pace).naks ≤ 100
@@ -502,7 +487,7 @@ module _ (t : Target) (ep : ℕ) (awaited : Toggle) (old : World) (three : NoThr
   damaged_stands trail made d (behind g p q k ran (inl none) few each) =
       behind g p q (k + 1) (damaged_more trail made k d ran) (inl none) (omega (arith, few)) each
   damaged_stands {w = w} trail made d (behind g p q k ran (inr zero) few each) =
-      behind g p q 0 (lost_run_none old.damages (after (attempt (a_in t ep awaited)) w).attempts)
+      behind g p q 0 (grind (arith, lost_run_none))
       (inr refl) (omega (arith, few, zero)) each
 
   next_stands : {most : ℕ} {Clear : Type 0} {u v : State} {h : HeardOutcome} (had n : ℕ) (w : World)
@@ -555,8 +540,7 @@ module _ (t : Target) (ep : ℕ) (awaited : Toggle) (old : World) (three : NoThr
       (waits_in (heard_as awaited) outcomes) w trail made (λ e. (e, so.0.0.0)) so.0.1 so.1
       (did_in t ep awaited most w j u y d so.0.0.0.at so.0.0.1) n stands)
       (Err Busy) tt (λ outcomes. waits_in (heard_as awaited) outcomes ≡ 256)
-      (λ o outcomes end. end) (λ outcomes w stands full.
-      too_many most had (waits_in (heard_as awaited) outcomes) w v stands full)
+      (λ o outcomes end. end) (search (had, too_many))
 
 -- Each device, whatever the answer is
 pub source_told : (t : Target) (ep : ℕ) (awaited : Toggle) (result : Result (List ℕ) TransFault)
@@ -590,14 +574,14 @@ end_taken e bytes s = taken_on (out_halts s e) bytes (out_end s e)
 
 sunk_end : (e : ℕ) (bytes : List ℕ) (s : State)
     → out_end (sunk s e bytes) e ≡ end_taken e bytes s
-sunk_end e bytes s = at_same no_out e (end_taken e bytes s) s.outs
+sunk_end e bytes s = grind (arith, at_same)
 
 -- after a NAK
 abbrev out_hesitated : ℕ → State → OutEnd
 out_hesitated e s = record (out_end s e) { pace = hesitated (out_end s e).pace }
 
 out_hesitates_end : (e : ℕ) (s : State) → out_end (out_hesitates s e) e ≡ out_hesitated e s
-out_hesitates_end e s = at_same no_out e (out_hesitated e s) s.outs
+out_hesitates_end e s = grind (arith, at_same)
 
 out_hesitates_prompt : (e : ℕ) (s : State) → IsPrompt (out_end s e).pace
     → IsPrompt (out_end (forgotten (out_hesitates s e)) e).pace
@@ -629,16 +613,16 @@ hesitates_fewer_left : (e : ℕ) (t : Toggle) (s : State) → 1 ≤ (out_end s e
 hesitates_fewer_left e t s one h = grind (arith, out_hesitates_end)
 
 only_forgotten : (e : ℕ) (s : State) → OnlySink e s (forgotten s)
-only_forgotten e s = record { rest = refl; others = λ a h. refl }
+only_forgotten e s = grind arith
 
 sink_same : (e : ℕ) (s : State) → OnlySink e s s
-sink_same e s = record { rest = refl; others = λ a h. refl }
+sink_same e s = grind arith
 
 only_sunk : (e : ℕ) (bytes : List ℕ) (s : State) → OnlySink e s (forgotten (sunk s e bytes))
 only_sunk e bytes s = grind (arith, at_other)
 
 sink_then : (e : ℕ) (s u v : State) → OnlySink e s u → OnlySink e u v → OnlySink e s v
-sink_then e s u v x y = grind (arith, x.rest, x.others, y.rest, y.others)
+sink_then e s u v x y = grind arith
 
 sink_at_forgotten : {e : ℕ} {before bytes : List ℕ} {t : Toggle} {s : State}
     → SinkAt e before bytes t s
@@ -729,22 +713,18 @@ module _ (e most max : ℕ) (s : State) (i : IsSink e most s) (t : Toggle) (byte
   by_row true long same whole h l k c = refused h
   by_row false true same whole h l k c =
       unheard _ (λ d m. false_true (sym (l m))) forgotten_stays
-  by_row false false true t3 h l k c = by_naks (nat_lt 0 (out_end s e).pace.naks) t3 refl h k c
+  by_row false false true t3 h l k c = grind (arith, by_naks)
   by_row false false false whole h l k c = acked _ h (only_forgotten e s) (λ before at. had k at)
       (λ x. x) nothing_left
   by_row halted long same t3 h l k c = unheard _ (λ d. cc (c d)) forgotten_stays
 
   row_is : data_row s e t bytes ≡ sink_row s e most t bytes
-  row_is = rw (i.not_zero, i.endpoint)
+  row_is = grind arith
 
   took_out : (t1 t2 t3 : Way) → (Clear → (t1 ≡ whole) × (t2 ≡ whole) × (t3 ≡ whole))
       → Took e most t bytes Clear s (heard_when_sent (got max (out_law s e t bytes t1 t2 t3).0))
       (out_law s e t bytes t1 t2 t3).1
-  took_out whole whole t3 c =
-      subst (Answers t3) (sym row_is) (by_row (out_end s e).state.halted
-      (nat_lt most (length bytes))
-      (is_same t (out_end s e).state.toggle) t3 refl (λ m. not_long most bytes m)
-      refl (λ d. (c d).2))
+  took_out whole whole t3 c = grind (arith, by_row, not_long, row_is)
   took_out t1 t2 t3 c = unheard _ (λ d. (let x = c d in cc))
       (sink_same e s, λ before at. at, λ g f. refl, λ x. x, omega arith)
 
@@ -828,7 +808,7 @@ module _ (t : Target) (ep : ℕ) (toggle : Toggle) (bytes : List ℕ) where
   }
     where
       away : is_at s t ≡ false → v ≡ s
-      away = stays_away t (λ w u y. out_others t ep toggle bytes w j u y) x
+      away = search (out_others, stays_away)
 
       left : is_at s t ≡ true → (most : ℕ) → IsSink ep most s → SinkLeft ep toggle bytes result s v
       left h most i =
@@ -839,7 +819,7 @@ module _ (t : Target) (ep : ℕ) (toggle : Toggle) (bytes : List ℕ) where
           let g = stays_out (did_out most w j u y d so.0 so.1) in (
             at_kept t u y g.0 so.0,
             sink_kept ep most u y g.0 so.1,
-            λ z l. so.2 z (after_stay ep toggle bytes result u y z g l),
+            λ z l. so.2 z (search after_stay),
           ))
           (SinkLeft ep toggle bytes result s) v
           (λ outcomes w u trail so d is told. so.2 v
@@ -852,8 +832,7 @@ each_rests : {R S : Relation} (old new : World) → IsSettled old.roots
     → EachWas S old new
 each_rests old new settled f x j v on there =
     let was = x j v on there tt in
-    was_then was (f j was.before v (remembers was.before
-    (settled_memory old.roots j.row j.rest was.before settled was.stands)) was.so)
+    was_then was (grind (arith, remembers, settled_memory))
 
 -- Between two attempts
 pub sink_between : (t : Target) (ep : ℕ) (toggle : Toggle) (bytes : List ℕ)
@@ -865,8 +844,7 @@ sink_between t ep toggle bytes outcomes old now settled trail onward single =
     each_rests old now settled
     (λ j s v rests run.
     let x : SinkOut t ep toggle bytes (Err NoAnswer) j s v =
-    sink_out t ep toggle bytes (Err NoAnswer) (Unit {0})
-    (λ y gave. (sink_same ep y, λ before at. at, λ c h. (refl, λ done e. cc e), λ x. x))
+    sink_out t ep toggle bytes (Err NoAnswer) (Unit {0}) (grind (arith, sink_same))
     old now j s v rests
     (stopped tt run onward) in
     record { others = x.others; frame = x.frame; sink = x.sink })
@@ -888,10 +866,7 @@ module _ (t : Target) (ep : ℕ) (toggle : Toggle) (bytes : List ℕ)
   listens_out most w u y d is =
       let f : OnlySink ep u y =
       (stays_out (did_out t ep toggle bytes most w j u y d is.0.at is.1)).0
-      in (
-        listens_on t j u y (ap (λ x. x.spec) f.rest) (ap (λ x. x.registers) f.rest) is.0,
-        sink_kept ep most u y f is.1,
-      )
+      in grind (arith, listens_on, sink_kept)
 
   sink_fails : SinkOutFailure t ep toggle bytes result j s v
   sink_fails = record {
@@ -903,7 +878,7 @@ module _ (t : Target) (ep : ℕ) (toggle : Toggle) (bytes : List ℕ)
     waited = λ l most i prompt. spared (Moves heard_when_sent) result run (ListensOut most)
         (λ w u y d n. listens_out most w u y d) (l, i) (naks_left ep toggle)
         (λ w u y d is n. few_waits_out (did_out t ep toggle bytes most w j u y d is.0.at is.1) n)
-        (few_left (is_same toggle (out_end s ep).state.toggle) prompt.0);
+        (grind arith);
   }
     where
       few_left : (same : Bool) → (out_end s ep).pace.naks ≤ 100
@@ -922,10 +897,8 @@ sink_told t ep toggle bytes result old new settled x single =
     each_rests old new settled
     (λ j s v rests run. record {
       leaves = sink_out t ep toggle bytes result (IsOfBus result)
-          (λ v gave. of_bus (λ r. SinkLeft ep toggle bytes r v v)
-          (λ fault. (sink_same ep v, λ before at. at, λ c h. (refl, λ done e. cc e), λ x. x)) result
-          gave) old new j s v rests run;
-      why = sink_fails t ep toggle bytes result old new j s v run;
+          (grind (arith, of_bus, sink_same)) old new j s v rests run;
+      why = search sink_fails;
     })
     (over_transaction (out_kind t ep toggle bytes) old settled heard_when_sent new single result x)
 
@@ -940,5 +913,4 @@ pub sink_over : (t : Target) (ep : ℕ) (toggle : Toggle) (bytes : List ℕ)
     (result : Result (List ℕ) TransFault) (old new : World) → IsSettled old.roots
     → TransactionDone heard_when_sent (out_attempt t ep toggle bytes) old result new
     → new.shared ≡ false → EachWas (SinkOut t ep toggle bytes result) old new
-sink_over t ep toggle bytes result old new settled e single =
-    grind (arith, as_transacted, sink_leaves)
+sink_over t ep toggle bytes result old new settled e single = search (as_transacted, sink_leaves)

@@ -1,15 +1,15 @@
 -- What each call tells, by what was heard: who answered, and what its answer says of that device;
 -- what it leaves of each device; why it failed.
-use Rattle.std.proofs.Common.{◌≡◌, ◌≢◌, ◌⊎◌, inl, inr, ℕ, Bool, true, false, ◌&&◌, List, ◌∷◌}
-use Rattle.std.proofs.Common.{length, None, Some, Ok, Err, if◌then◌else◌, refl, sym, subst, ap, ◌∙◌}
-use Rattle.std.proofs.Common.{arith, ◌≤◌, [], Option, Result, IfOk, IfSome, OnOk}
+use Rattle.std.proofs.Common.{◌≡◌, ◌≢◌, ◌⊎◌, inl, inr, ℕ, Bool, true, false, List, ◌∷◌, length}
+use Rattle.std.proofs.Common.{None, Some, Ok, Err, if◌then◌else◌, refl, sym, ap, ◌∙◌, arith, ◌≤◌}
+use Rattle.std.proofs.Common.{[], Option, Result, IfOk, IfSome, OnOk}
 use Rattle.usb_packet.specs.{Toggle}
 use Rattle.usb_request.specs.{setup_of}
-use Rattle.usb_device.specs.{Answer, Way, is_whole, heard, State, Reply, forgotten, Location}
-use Rattle.usb_device.specs.{reach_on, state_on}
+use Rattle.usb_device.specs.{Answer, Way, heard, State, Reply, forgotten, Location, reach_on}
+use Rattle.usb_device.specs.{state_on}
 use Rattle.usb_world.specs.{Relation, Attempt, Outcome, is_harmless, AttemptAnswerer, IsSetup, got}
-use Rattle.usb_world.specs.{hears_attempt, token_way, payload_way, World, at_attempt, damage_in}
-use Rattle.usb_world.specs.{outcome_in, with_attempt, attempt, Course, here, Was, EachWas}
+use Rattle.usb_world.specs.{hears_attempt, World, at_attempt, damage_in, outcome_in, with_attempt}
+use Rattle.usb_world.specs.{attempt, Course, here, Was, EachWas}
 use Rattle.usb_tree.specs.{address_of, IsSettled, deep_at}
 use Rattle.usb_world.proofs.Interface.{course_then, due_back, given_by, got_given, holder_in, in_in}
 use Rattle.usb_world.proofs.Interface.{each_wider, is_state, made_is, made_of, made_unshared}
@@ -47,8 +47,7 @@ asked_last : {a : Attempt} {old new : World} {last : Outcome} {outcomes : List O
     → IsSettled old.roots → AttemptLog a old (last ∷ outcomes) new → new.shared ≡ false
     → last ≢ outcome.Nothing → (q : AskedLast a old new) × (outcome_in a q.mid ≡ last)
 asked_last {a} settled (next {outcomes = os} w t made) single loud =
-    let y : AttemptAnswerer a w =
-    one_answers a w (made_of a w (trail_settled t settled) made) single loud in (
+    let y : AttemptAnswerer a w = grind (arith, made_of, one_answers, trail_settled) in (
       record {
         outcomes = os;
         mid = w;
@@ -76,13 +75,12 @@ trail_answered : (t : Target) (ep : ℕ) (g : Answer) (old new : World) {last : 
     → new.shared ≡ false → Answered t ep g old new
 trail_answered t ep g old new {last} settled trail is h =
     let (q, came) = asked_last settled trail h (given_loud is) in
-    let x = in_in (in_attempt t ep) q.mid q.holder q.loud
-    (record { kind = refl; payload = refl }) in
+    let x = in_in (in_attempt t ep) q.mid q.holder q.loud (grind arith) in
     record {
       asked = q;
-      gave = got_given t.max _ last (sym x.outcome ∙ came) (given_loud is) ∙ is;
+      gave = grind (arith, given_loud, got_given);
       on = asked_last-reach q;
-      state = ap (λ w. state_on w.roots q.holder.spot) q.last ∙ x.state;
+      state = grind arith;
     }
 
 took : (t : Target) (ep : ℕ) (toggle : Toggle) (bytes : List ℕ) (g : Answer) (old new : World)
@@ -92,20 +90,19 @@ took : (t : Target) (ep : ℕ) (toggle : Toggle) (bytes : List ℕ) (g : Answer)
 took t ep toggle bytes g old new {last} settled trail is h =
     let (q, came) = asked_last settled trail h (given_loud is) in
     let x = out_in (out_attempt t ep toggle bytes) q.mid q.holder q.loud toggle bytes
-    (record { kind = refl; payload = refl }) in
+    (grind arith) in
     record {
       asked = q;
-      gave = got_given t.max _ last (sym x.outcome ∙ came) (given_loud is) ∙ is;
+      gave = grind (arith, given_loud, got_given);
       on = asked_last-reach q;
-      state = ap (λ w. state_on w.roots q.holder.spot) q.last ∙ x.state;
+      state = grind arith;
     }
 
 -- setup data that were answered were accepted
 pub taken_up : (x : Bool) (t : Way) (s v : State) (max : ℕ)
     → got max (if◌then◌else◌ {A = Reply} x (heard t (Some answer.Ack), v) (None, s)).0 ≡ outcome.Ack
     → (if◌then◌else◌ {A = Reply} x (heard t (Some answer.Ack), v) (None, s)).1 ≡ v
-taken_up true t s v max e = refl
-taken_up false t s v max e = cc e
+taken_up x t s v max e = grind arith
 
 pub set_up_done : (t : Target) (bytes done : List ℕ) (old new : World) → length bytes ≡ 8
     → IsSettled old.roots
@@ -113,19 +110,13 @@ pub set_up_done : (t : Target) (bytes done : List ℕ) (old new : World) → len
     → SetupAccepted t bytes old new
 set_up_done t bytes done old new eight settled e h =
     let a = setup_attempt t bytes in
-    let last : e.last ≡ outcome.Ack = set_up_last e.last (packed done) e.tells in
+    let last : e.last ≡ outcome.Ack = grind (arith, set_up_last) in
     let (q, came) = asked_last settled e.trail h (given_loud (ap given_by last)) in
     let own = q.holder.own in
     let spot = q.holder.spot in
     let d = damage_in (at_attempt q.mid) in
-    let x = setup_in a q.mid q.holder q.loud bytes (record {
-      kind = refl;
-      ep = refl;
-      payload = refl;
-      whole = eight;
-    }) in
-    let whole : Bool = is_whole (token_way a d (deep_at false spot.rest) own) &&
-    is_whole (payload_way a d (deep_at false spot.rest) own) in
+    let x = setup_in a q.mid q.holder q.loud bytes (grind arith) in
+    let whole : Bool = grind arith in
     record {
       asked = q;
       on = asked_last-reach q;
@@ -136,8 +127,7 @@ set_up_done t bytes done old new eight settled e h =
 
 unheard_at : (a : Attempt) (w : World) (bytes : List ℕ) → IsSetup a bytes
     → outcome_in a w ≢ outcome.Ack → IsUnheard (attempt a) w
-unheard_at a w bytes i c h = pick (decided h.own.spec.silent)
-    (decided (hears_attempt a (deep_at false h.spot.rest) h.own))
+unheard_at a w bytes i c h = pick (decided h.own.spec.silent) (grind (arith, decided))
   where
     pick : (h.own.spec.silent ≡ true) ⊎ (h.own.spec.silent ≡ false)
         → (hears_attempt a (deep_at false h.spot.rest) h.own ≡ true)
@@ -151,7 +141,7 @@ unheard_at a w bytes i c h = pick (decided h.own.spec.silent)
 
 -- while it goes on, and at its last error
 no_ack : (o : Outcome) → IsNoEnd (set_up_as o) → o ≢ outcome.Ack
-no_ack o h e = subst (λ x. IsNoEnd (set_up_as x)) e h
+no_ack o h = grind arith
 
 unheard_course : {a : Attempt} {old new : World} {outcomes : List Outcome} (bytes : List ℕ)
     → IsSetup a bytes → AttemptLog a old outcomes new → KeepsTrying set_up_as outcomes
@@ -159,23 +149,21 @@ unheard_course : {a : Attempt} {old new : World} {outcomes : List Outcome} (byte
 unfolding KeepsTrying
 unheard_course {a} {old} bytes i start g = here old
 unheard_course {a} bytes i (next w t made) g =
-    course_then (attempt a) (unheard_course bytes i t g.3)
-    (unheard_at a w bytes i (no_ack (outcome_in a w) g.0))
+    course_then (attempt a) (unheard_course bytes i t g.3) (grind (arith, no_ack, unheard_at))
 
 pub set_up_unheard : (t : Target) (bytes : List ℕ) (old new : World) → length bytes ≡ 8
     → Transacted set_up_as (setup_attempt t bytes) old (Err NoAnswer) new → Course IsUnheard old new
 set_up_unheard t bytes old new eight e =
-    at_last e.trail (last_erred set_up_as e.last e.outcomes e.tells)
+    at_last e.trail (grind (arith, last_erred))
   where
     kind : IsSetup (setup_attempt t bytes) bytes
-    kind = record { kind = refl; ep = refl; payload = refl; whole = eight }
+    kind = grind arith
 
     at_last : {o : Outcome} {now : World} → AttemptLog (setup_attempt t bytes) old (o ∷ e.outcomes)
         now → IsNoEnd (set_up_as o) → Course IsUnheard old now
     at_last (next w r made) on = course_then (attempt (setup_attempt t bytes))
         (unheard_course bytes kind r e.onward)
-        (unheard_at (setup_attempt t bytes) w bytes kind
-        (no_ack (outcome_in (setup_attempt t bytes) w) on))
+        (unheard_at (setup_attempt t bytes) w bytes kind (grind (arith, no_ack)))
 
 -- Who answered
 
@@ -210,10 +198,10 @@ module _ (t : Target) {a : Attempt} (its : a.addr ≡ t.addr) (k : Kind a)
         let x = (one_answers a w (made_of a w (trail_settled r settled) made) single loud).holder in
         let h = holder_in a w x in
         let due : _ = due_back w x.spot x.on in
-        let at : is_at x.own t ≡ true = same_equal (address_of x.own) t.addr (x.at ∙ its) in
+        let at : is_at x.own t ≡ true = grind (arith, same_equal) in
         let was : Was (λ j s v. Run k.Did a old j s outcomes w v) old x.spot x.own =
         over_trail k old settled r (made_unshared a w made single).before x.spot x.own due.0
-        (sym due.1 ∙ sym (state_stands (at_attempt w).roots x.spot.row x.spot.rest)
+        (sym due.1 ∙ sym (grind (arith, state_stands))
         ∙ ap stands x.stands) (there x.own at) in
         record {
           spot = x.spot;
@@ -224,7 +212,7 @@ module _ (t : Target) {a : Attempt} (its : a.addr ≡ t.addr) (k : Kind a)
           before = was.before;
           was_on = was.on;
           stood = was.stands;
-          at = was_so (λ s. is_at s t ≡ true) (λ w j s v d. had_address t s v (others w j s v d))
+          at = was_so (λ s. is_at s t ≡ true) (search had_address)
               was.so
               at;
         }
@@ -289,8 +277,7 @@ brings_nothing hear a empty old new result x = grind arith
 -- where it is done, a device answered it
 if_done : {A : Type 0} (G : Type 0) (result : Result A TransFault) → (IsGiven result → G)
     → OnOk result G
-if_done G (Ok done) f = f tt
-if_done G (Err fault) f = tt
+if_done G result f = grind arith
 
 -- IN
 
@@ -313,9 +300,8 @@ module _ (t : Target) (ep : ℕ) (awaited : Toggle) (old new : World) (settled :
         → ControlInTold t awaited result old j s v)) old new
     told_in result x single =
         each_beside (SourceTold result) (ControlInTold t awaited result old) _ (ep ≡ 0)
-        (λ j s v b c. (b, c)) old new (source_told t ep awaited result old new settled x single)
-        (λ z. control_in_told t awaited result old new settled
-        (subst (λ k. Transacted (heard_as awaited) (in_attempt t k) old result new) z x) single)
+        (λ j s v b c. (b, c)) old new (grind (arith, source_told))
+        (grind (arith, control_in_told))
 
     pub asks_in : {toggle : Toggle} → toggle ≡ awaited → (result : Result (List ℕ) TransFault)
         → Transacted (heard_as toggle) (in_attempt t ep) old result new
@@ -324,20 +310,15 @@ module _ (t : Target) (ep : ℕ) (awaited : Toggle) (old new : World) (settled :
         let x : Transacted (heard_as awaited) (in_attempt t ep) old result new = rw same at heard in
         record {
           heard = x;
-          ends = ends_of (heard_as awaited) (in_attempt t ep) old new result x;
+          ends = grind (arith, ends_of);
           short = short;
           what = λ single. each_wider _ _ (λ j s v y. record {
             control = λ z. (y.1 z).leaves;
             write = λ z. (y.1 z).write;
             bulk = y.0.leaves;
           }) old new (told_in result x single);
-          why = λ u. each_wider _ _ (λ j s v y. record {
-            control = λ z. (y.1 z).why u.few;
-            write = λ z. (y.1 z).write_why u.few;
-            bulk = y.0.why u.few;
-          }) old new (told_in result x u.single);
-          who = if_done _ result (λ y. who_in t ep (heard_as awaited) refl result old new settled y
-              x);
+          why = λ u. each_wider _ _ (grind arith) old new (told_in result x u.single);
+          who = if_done _ result (grind (arith, who_in));
           means = means_in result x;
         }
 
@@ -361,27 +342,23 @@ module _ (t : Target) (ep : ℕ) (toggle : Toggle) (bytes : List ℕ) (old new :
       → ControlOutTold t toggle bytes result old j s v)) old new
   told_out result x single =
       each_beside (SinkTold result) (ControlOutTold t toggle bytes result old) _ (ep ≡ 0)
-      (λ j s v b c. (b, c)) old new (sink_told t ep toggle bytes result old new settled x single)
-      (λ z. control_out_told t toggle bytes result old new settled (rw z at x) single)
+      (λ j s v b c. (b, c)) old new (grind (arith, sink_told))
+      (grind (arith, control_out_told))
 
   pub sends_out : (result : Result (List ℕ) TransFault)
       → Transacted heard_when_sent (out_attempt t ep toggle bytes) old result new
       → SendsOut t ep toggle bytes old result new
   sends_out result x = record {
     heard = x;
-    ends = ends_of heard_when_sent (out_attempt t ep toggle bytes) old new result x;
+    ends = grind (arith, ends_of);
     nothing = grind (arith, brings_nothing, sent_empty);
     what = λ single. each_wider _ _ (λ j s v y. record {
       control = λ z. (y.1 z).read;
       write = λ z. (y.1 z).leaves;
       bulk = y.0.leaves;
     }) old new (told_out result x single);
-    why = λ u. each_wider _ _ (λ j s v y. record {
-      control = λ z. (y.1 z).read_why u.few;
-      write = λ z. (y.1 z).why u.few;
-      bulk = y.0.why u.few;
-    }) old new (told_out result x u.single);
-    who = if_done _ result (λ y. who_out t ep toggle bytes result old new settled y x);
+    why = λ u. each_wider _ _ (grind arith) old new (told_out result x u.single);
+    who = grind (arith, if_done, who_out);
     means = means_out result x;
   }
 
@@ -399,8 +376,8 @@ module _ (t : Target) (bytes : List ℕ) (old new : World) (eight : length bytes
       → (Ends old result new → SetupEnds old result new) → SetsUp t bytes old result new
   sets_up result x ends = record {
     heard = x;
-    ends = ends (ends_of set_up_as (setup_attempt t bytes) old new result x);
-    nothing = brings_nothing set_up_as (setup_attempt t bytes) set_up_empty old new result x;
+    ends = grind (arith, ends_of);
+    nothing = grind (arith, brings_nothing, set_up_empty);
     what = λ single. spared_wider t (setup_of bytes) _ _ (λ j s v y. y.leaves) old new
         (set_up_told t bytes result old new eight settled x single);
     why = λ u. spared_wider t (setup_of bytes) _ _ (λ j s v y. y.why u.few) old new
@@ -416,7 +393,7 @@ module _ (t : Target) (ep : ℕ) (toggle : Toggle) (old new : World) (settled : 
     who_poll : (result : Result (Option (List ℕ)) TransFault)
         → Polled toggle (in_attempt t ep) old result new
         → OnOk result (new.shared ≡ false → Answerer t old new)
-    who_poll (Ok None) x = who_waits t ep toggle old new settled x
+    who_poll (Ok None) x = search who_waits
     who_poll (Ok (Some bytes)) x =
         who_in t ep (polled_as toggle) refl (Ok bytes) old new settled tt x
     who_poll (Err fault) x = tt
@@ -431,10 +408,10 @@ module _ (t : Target) (ep : ℕ) (toggle : Toggle) (old new : World) (settled : 
         let source = source_poll_told t ep toggle result old new settled x in
         record {
           heard = x;
-          ends = poll_ends toggle (in_attempt t ep) old new result x;
+          ends = grind (arith, poll_ends);
           short = short;
           what = λ single. told_leaves old new (told single);
-          why = λ u. each_wider _ _ (λ j s v y. y.why u.few u.whole) old new (told u.single);
+          why = λ u. each_wider _ _ (grind arith) old new (told u.single);
           source = λ single. told_leaves old new (source single);
           source_why = λ u. told_why old new u.few (source u.single);
           who = who_poll result x;

@@ -67,8 +67,7 @@ gives_no_answer : (max : ℕ) (u : State) → ControlGives max u (None, u)
 gives_no_answer max u = silence u.naks (omega arith)
 
 heard_or : (P : Option Answer → Type 0) (o : Option Answer) (t : Way) → P o → P None → P (heard t o)
-heard_or P o whole x y = x
-heard_or P o t x y = y
+heard_or P o t x y = grind arith
 
 gives_packet : (max : ℕ) (toggle : Toggle) (bytes : List ℕ) (u : State) (t2 t3 : Way)
     → ControlGave u (Payload toggle (packed bytes)) (forgotten (acknowledged u by.Control))
@@ -94,8 +93,7 @@ gives_read : (max : ℕ) (s : State) (text : List ℕ) (wanted k : ℕ) (t2 t3 :
       | Some bytes ↦
           gave (record_stage s (reading text wanted k)) by.Control max (toggle_at k) bytes t2 t3
     ])
-gives_read max s text wanted k t2 t3 free None =
-    gives_no_answer max (record_stage s (reading text wanted k))
+gives_read max s text wanted k t2 t3 free None = search gives_no_answer
 gives_read max s text wanted k t2 t3 free (Some bytes) =
     gives_packet max (toggle_at k) bytes (record_stage s (reading text wanted k)) t2 t3
     (acked (is_some (packet_at (max_packet s.spec) wanted text k)))
@@ -118,14 +116,13 @@ gives_write max s w t2 t3 free true done =
     (a_written free w _ (writing w) refl done (inr refl))
 gives_write max s w t2 t3 free false unended =
     heard_or (λ o. ControlGives max (record_stage s (writing w)) (o, record_stage s (writing w)))
-    (Some answer.Stall) t2 (a_stall free (ap not unended))
-    (gives_no_answer max (record_stage s (writing w)))
+    (Some answer.Stall) t2 (a_stall free (ap not unended)) (search gives_no_answer)
 
 gives_stage : (max : ℕ) (s : State) (st : Stage) (t2 t3 : Way) → is_busy s ≡ false
     → ControlGives max (record_stage s st) (in_stage_law (record_stage s st) st max t2 t3)
 gives_stage max s refused t2 t3 free =
     heard_or (λ o. ControlGives max (record_stage s refused) (o, record_stage s refused))
-    (Some answer.Stall) t2 (a_stall free refl) (gives_no_answer max (record_stage s refused))
+    (Some answer.Stall) t2 (a_stall free refl) (search gives_no_answer)
 gives_stage max s (reading text wanted k) t2 t3 free =
     gives_read max s text wanted k t2 t3 free (packet_at (max_packet s.spec) wanted text k)
 gives_stage max s (ending None) t2 t3 free = gives_packet max One [] (record_stage s (ending None))
@@ -135,8 +132,8 @@ gives_stage max s (ending (Some a)) t2 t3 free =
     gives_packet max One [] (record_stage s (ending (Some a))) t2 t3
     (a_status free (Some a) _ refl (seen refl refl) refl refl)
     (a_status free (Some a) _ refl (unseen refl refl) refl refl)
-gives_stage max s (writing w) t2 t3 free = gives_write max s w t2 t3 free (is_done w) refl
-gives_stage max s st t2 t3 free = gives_no_answer max (record_stage s st)
+gives_stage max s (writing w) t2 t3 free = grind (arith, gives_write)
+gives_stage max s st t2 t3 free = search gives_no_answer
 
 gives_control : (max : ℕ) (u : State) (t2 t3 : Way) (b : Bool) → is_busy u ≡ b
     → ControlGives max u (if b then (heard t2 (Some answer.Nak), (nak_row u).1) else in_stage_law u
@@ -147,7 +144,7 @@ gives_control max u t2 t3 false free = gives_stage max u u.stage t2 t3 free
 
 pub gives_in : (max : ℕ) (u : State) (row : List PortState) (t1 t2 t3 : Way)
     → ControlGives max u (in_law u row 0 max t1 t2 t3)
-gives_in max u row whole t2 t3 = gives_control max u t2 t3 (is_busy u) refl
+gives_in max u row whole t2 t3 = search gives_control
 gives_in max u row t1 t2 t3 = gives_no_answer max u
 
 -- What a device is after attempts of which the last had this outcome
@@ -207,7 +204,7 @@ module _ (t : Target) (awaited : Toggle) where
   kept c s k few same none = grind (arith, same, none)
 
   pub unmoved : (s : State) → InResult s None s
-  unmoved s = kept None s s.naks (omega arith) (λ a. refl) (λ at. refl)
+  unmoved s = grind (arith, kept)
 
   abbrev Reads : State → Option (List ℕ) → State → Type 0
   Reads s c v = (answer : List ℕ) (wanted n : ℕ) → awaited ≡ toggle_at n
@@ -215,11 +212,9 @@ module _ (t : Target) (awaited : Toggle) where
 
   gave_step : (u : State) (o : Outcome) (v : State) → ControlGave u o v → is_at u t ≡ true
       → u.spec.silent ≡ false → Reads u (came o) v → InResult u (came o) v
-  gave_step u o v (silence k few) at loud reads = kept None u k few (mine t u at) (λ a. refl)
-  gave_step u o v (a_nak busy) at loud reads =
-      kept None u (u.naks - 1) (omega arith) (mine t u at) (λ a. refl)
-  gave_step u o v (a_stall free h) at loud reads =
-      kept None u u.naks (omega arith) (mine t u at) (λ a. refl)
+  gave_step u o v (silence k few) at loud reads = search (kept, mine)
+  gave_step u o v (a_nak busy) at loud reads = grind (arith, kept, mine)
+  gave_step u o v (a_stall free h) at loud reads = grind (arith, kept, mine)
   gave_step u o v (a_packet free text bytes wanted k n m h) at loud reads =
       grind (arith, mine, reads)
   gave_step u o v (a_status free a x h given frame naks) at loud reads =
@@ -235,7 +230,7 @@ module _ (t : Target) (awaited : Toggle) where
       → is_at u t ≡ true → ControlGave u (outcome_in (in_attempt t 0) w) v
   gave_in w j u v d at =
       let x = asked_in t 0 w j u v d at in
-      rw (x.1.is, x.1.gave) (gives_in t.max u x.0 x.1.first x.1.second x.1.third)
+      rw (x.1.is, x.1.gave) (search gives_in)
 
   -- one attempt; what another device answered is not this one's
   pub did_step : (w : World) (j : Location) (u v : State) → DidIn (in_attempt t 0) w j u v
@@ -271,17 +266,14 @@ module _ (t : Target) (awaited : Toggle) where
           later.1 ∙ before.1,
         );
     status = λ at e a h. let before = x.status at e a h in
-        status_from a s u v c before.1 (y.status (at_from t s u before.1 at) e a before.0);
+        status_from a s u v c before.1 (grind (arith, at_from));
     written = λ at e w h.
         let before = x.written at e w h in
         let later = y.written (at_from t s u before.1 at) e w before.0 in
         (later.0, later.1 ∙ before.1);
-    stays = λ text wanted k h.
-        let before = x.stays text wanted k h in
-        let later = y.stays text wanted before.1 before.2 in
-        (later.0 ∙ before.0, later.1, later.2);
+    stays = grind arith;
     refuses = grind (arith, at_from, x.refuses, y.refuses);
-    fails = λ e nothing. y.fails e nothing ∙ x.fails e refl;
+    fails = grind arith;
     back = λ h. x.back (y.back h);
   }
 
@@ -298,10 +290,7 @@ trail_begun : (t : Target) {old new : World} {o : Outcome} {outcomes : List Outc
     → IsSettled old.roots → AttemptLog (in_attempt t 0) old (o ∷ outcomes) new → new.shared ≡ false
     → (repeats (held_addresses (at_attempt old).roots) ≡ false)
     × ((j : Location) → reach_on new.roots j ≡ true → reach_on (at_attempt old).roots j ≡ true)
-trail_begun t settled (next w start made) single = (
-  (made_unshared (in_attempt t 0) w made single).single,
-  data_back (in_attempt t 0) w (made_of (in_attempt t 0) w settled made) refl,
-)
+trail_begun t settled (next w start made) single = grind (arith, data_back, made_of, made_unshared)
 trail_begun t settled (next w (next x r before) made) single =
     let b = trail_begun t settled (next x r before)
     (made_unshared (in_attempt t 0) w made single).before in (
@@ -313,8 +302,7 @@ trail_begun t settled (next w (next x r before) made) single =
 
 gave_stall : (u : State) (o : Outcome) (v : State) → ControlGave u o v → o ≡ Stall
     → refuses_in u.stage ≡ true
-gave_stall u o v (a_stall free h) e = h
-gave_stall u o v g e = cc e
+gave_stall u o v g e = grind arith
 
 refused_back : (t : Target) {old : World} {j : Location} {s : State} {outcomes : List Outcome}
     {w : World} {v : State} → Run (DidIn (in_attempt t 0)) (in_attempt t 0) old j s outcomes w v
@@ -334,25 +322,24 @@ pub stalled_refused : (t : Target) {old new : World} {o : Outcome} {outcomes : L
     → is_at s t ≡ true → refuses_in s.stage ≡ true
 stalled_refused t {old} settled (next {outcomes} w r made) stall single j s on there at =
     let y : AttemptAnswerer (in_attempt t 0) w =
-    one_answers (in_attempt t 0) w (made_of (in_attempt t 0) w (trail_settled r settled) made)
-    single (λ n. cc (sym stall ∙ n)) in
+    grind (arith, made_of, one_answers, trail_settled) in
     let h = y.holder in
-    let x = in_in (in_attempt t 0) w h y.loud (record { kind = refl; payload = refl }) in
+    let x = in_in (in_attempt t 0) w h y.loud (grind arith) in
     let back : _ = due_back w h.spot h.on in
     let was : Was (λ j s v. Run (DidIn (in_attempt t 0)) (in_attempt t 0) old j s outcomes w v) old
     h.spot h.own =
     over_trail (in_kind t 0) old settled r (made_unshared (in_attempt t 0) w made single).before
-    h.spot h.own back.0 (sym back.1 ∙ sym (state_stands (at_attempt w).roots h.spot.row h.spot.rest)
+    h.spot h.own back.0 (sym back.1 ∙ sym (grind (arith, state_stands))
     ∙ ap stands h.stands) tt in
     let refuses : _ = refused_back t was.so (
       same_equal (address_of h.own) t.addr h.at,
       gave_stall h.own _ _ (gives_in t.max h.own (row_of h.below) _ _ _) (sym x.outcome ∙ stall),
     ) in
     let b = trail_begun t settled (next w r made) single in
-    let far : _ = b.1 h.spot (stays_reachable_in (in_attempt t 0) w h) in
+    let far : _ = grind (arith, stays_reachable_in) in
     ap (λ z. refuses_in z.stage) (one_state t.addr (at_attempt old).roots h.spot.row j.row
     h.spot.rest j.rest was.before s b.0 far ((due_back old h.spot far).1 ∙ was.stands)
-    (equal_same (address_of was.before) t.addr refuses.0)
+    (grind (arith, equal_same))
     (b.1 j on) ((due_back old j (b.1 j on)).1 ∙ there) (equal_same (address_of s) t.addr at))
     ∙ refuses.1
 
@@ -375,27 +362,20 @@ module _ (t : Target) (awaited : Toggle) (result : Result (List ℕ) TransFault)
 
   whole_in : (o : Outcome) × (outcomes : List Outcome) × IsEnd hears result o outcomes
       × InResult t awaited s (came t awaited o) v
-  whole_in = summed run
-      (λ gave outcomes. of_bus (λ r. IsEnd hears r Nothing outcomes) (λ f. tt) result gave)
+  whole_in = summed run (grind (arith, of_bus))
       (λ u. Unit {0}) (λ u o y. InResult t awaited u (came t awaited o) y)
-      (λ w u y d i. (did_step t awaited w j u y d, tt))
-      (λ u x y o. joined t awaited u x y (came t awaited o)) (quiet t awaited) tt
+      (search did_step) (search joined) (quiet t awaited) tt
       (unmoved t awaited s)
 
   same : IsNotOfBus result → came t awaited whole_in.0 ≡ packet_in result
-  same = brought awaited result whole_in.0 whole_in.1 whole_in.2
+  same h = grind (arith, brought, whole_in)
 
   so_could : is_at s t ≡ true → CanAnswer s.spec result
   so_could at =
       could (Moves hears) result run (λ u. InResult t awaited s None u) (λ w u y d n i.
       quiet t awaited s y (outcome_in (in_attempt t 0) w) n
-      (joined t awaited s u y _ i (did_step t awaited w j u y d))) (unmoved t awaited s) s.spec refl
-      (λ bytes o e. (λ f. cc (sym e ∙ f), λ f. cc (sym e ∙ f)))
-      (λ w u y d i. elim (i.there at) [
-        | inl e ↦ subst (λ z. OutcomeOfSpec z (hears (outcome_in (in_attempt t 0) w)))
-            (ap (λ z. z.spec) i.frame) (did_says t awaited w j u y d (at_from t s u e at))
-        | inr free ↦ inr (free.0, inr free.1)
-      ])
+      (search (did_step, joined))) (unmoved t awaited s) s.spec refl
+      (grind arith) (grind (arith, at_from, did_says))
 
   control_in : (is_at s t ≡ true → result ≡ Err Stalled → refuses_in s.stage ≡ true)
       → ControlIn t awaited result j s v
@@ -404,7 +384,7 @@ module _ (t : Target) (awaited : Toggle) (result : Result (List ℕ) TransFault)
     frame = x.frame;
     reading = λ at text wanted n f r.
         result_of (λ b. Some b) (λ c. ReadOn text wanted n s c v)
-        (λ y. ReadEnds text wanted n s y v) (λ b z. z) (λ z. (z, z, z)) (λ fault c z. cut_read text wanted n s v c z) result
+        (λ y. ReadEnds text wanted n s y v) (λ b z. z) (λ z. (z, z, z)) (search cut_read) result
         (came t awaited whole_in.0) same (x.reading at text wanted n f r).0;
     status = λ at f a h.
         result_of (λ b. Some b) (λ c. StatusOn a s c v) (λ y. StatusEnds a s y v) (λ b z. z)
@@ -422,10 +402,10 @@ module _ (t : Target) (awaited : Toggle) (result : Result (List ℕ) TransFault)
   module _ (at : is_at s t ≡ true) (one : awaited ≡ One) (before : List ℕ) (w : Write)
       (so : WritingAt before w s) where
     kept_bytes : v.taken ≡ taken_with before w
-    kept_bytes = ap (λ z. z.taken) whole_in.3.frame ∙ so.taken
+    kept_bytes = grind (arith, whole_in)
 
     still_writing : v.stage ≡ writing w → WritingAt before w v
-    still_writing stage = record { stage = stage; taken = kept_bytes }
+    still_writing stage = search kept_bytes
 
     ended_write : (c : Option (List ℕ)) → WrittenOn w c v → WriteEnded before w v
     ended_write c x = grind (arith, kept_bytes, still_writing)
@@ -433,8 +413,7 @@ module _ (t : Target) (awaited : Toggle) (result : Result (List ℕ) TransFault)
     status_in : WriteStatusEnds before w result v
     status_in =
         result_of (λ b. Some b) (λ c. WrittenOn w c v) (λ y. WriteStatusEnds before w y v)
-        (λ b z. (z.0, z.1, ended_write (Some b) z))
-        (λ z. let y = still_writing z in (y, y, y))
+        (λ b z. (z.0, z.1, ended_write (Some b) z)) (search still_writing)
         (λ fault c z. ended_write c z) result (came t awaited whole_in.0) same
         (whole_in.3.written at one w so.stage).0
 
@@ -448,8 +427,7 @@ fits awaited (writing w) = is_same awaited One
 fits awaited st = true
 
 heard_some : (x : Bool) (b : ArrayVec ℕ) → (if x then Moved b else Repeat) ≢ Lost
-heard_some true b e = cc e
-heard_some false b e = cc e
+heard_some x b = grind arith
 
 -- a device that has what is next is heard, and gives no repeat after it has given one
 abbrev Heeds : Target → Toggle → State → Reply → Type 0
@@ -486,25 +464,14 @@ heeds_write t u w done = grind (arith, false_true, nat_le-true)
 
 heeds_stage : (t : Target) (awaited : Toggle) (u : State) → Ready t awaited u
     → Heeds t awaited u (in_stage_law u u.stage t.max whole whole)
-heeds_stage t awaited u (writes_on w e h) =
-    subst (λ st. Heeds t awaited (record_stage u st)
-    (in_stage_law (record_stage u st) st t.max whole whole)) (sym h)
-    (rw e (heeds_write t u w (is_done w)))
+heeds_stage t awaited u (writes_on w e h) = grind (arith, heeds_write)
 heeds_stage t awaited u (reads_on (data_stage text wanted n e r some short)) =
     subst (λ st. Heeds t awaited (record_stage u st)
     (in_stage_law (record_stage u st) st t.max whole whole)) (sym r.stage)
-    (heeds_read t awaited u text wanted r.known short
-    (elim r.near [ inl f ↦ inl (e ∙ ap toggle_at f) | inr f ↦ inr (e ∙ ap toggle_at f.0) ])
-    (packet_at (max_packet u.spec) wanted text r.known) refl
-    (elim r.near [ inl f ↦ rw (← f) some | inr f ↦ f.1 ]))
-heeds_stage t awaited u (reads_on (status a h e)) =
-    subst (λ st. Heeds t awaited (record_stage u st)
-    (in_stage_law (record_stage u st) st t.max whole whole)) (sym h)
-    (rw (e, nat_le-true 0 t.max (omega arith)) (λ f. cc f, λ free miss. false_true (sym miss)))
-heeds_stage t awaited u (reads_on (refusal h)) =
-    subst (λ st. Heeds t awaited (record_stage u st)
-    (in_stage_law (record_stage u st) st t.max whole whole)) (sym h)
-    (λ f. cc f, λ free miss. false_true (sym miss))
+    (heeds_read t awaited u text wanted r.known short (grind arith)
+    (packet_at (max_packet u.spec) wanted text r.known) refl (grind arith))
+heeds_stage t awaited u (reads_on (status a h e)) = grind (arith, false_true, nat_le-true)
+heeds_stage t awaited u (reads_on (refusal h)) = grind (arith, false_true)
 
 heeds_whole : (t : Target) (awaited : Toggle) (u : State) (row : List PortState)
     → Ready t awaited u → Heeds t awaited u (in_law u row 0 t.max whole whole whole)
@@ -513,7 +480,7 @@ heeds_whole t awaited u row h = pick (is_busy u) refl
     pick : (b : Bool) → is_busy u ≡ b
         → Heeds t awaited u (if b then (Some answer.Nak, (nak_row u).1) else in_stage_law u u.stage
         t.max whole whole)
-    pick true busy = (λ f. cc f, λ free. false_true (sym free ∙ busy))
+    pick true busy = grind (arith, false_true)
     pick false busy = heeds_stage t awaited u h
 
 -- what a device does that is busy, or gives no repeat: it stands where it stood, and a wait is a
@@ -522,24 +489,18 @@ steady : (awaited : Toggle) (u : State) (o : Outcome) (v : State) → ControlGav
     → (is_busy u ≡ true) ⊎ (fits awaited u.stage ≡ true) → u.spec.busy ≡ false
     → IsNoEnd (heard_as awaited o)
     → (v.stage ≡ u.stage) × ((n : ℕ) → waits_with (heard_as awaited o) n + v.naks ≤ n + u.naks)
-steady awaited u o v (silence k few) q calm end = (refl, λ n. omega (arith, few))
-steady awaited u o v (a_nak busy) q calm end = (refl, λ n. omega (arith, positive u busy calm))
+steady awaited u o v (silence k few) q calm end = grind arith
+steady awaited u o v (a_nak busy) q calm end = grind (arith, positive)
 steady awaited u o v (a_stall free h) q calm end = absurd end
 steady awaited u o v (a_packet free text bytes wanted k n m h) (inl busy) calm end =
     false_true (sym free ∙ busy)
-steady awaited u o v (a_packet free text bytes wanted k n m h) (inr fit) calm end =
-    absurd (subst (λ x. IsNoEnd (if x then Moved (packed bytes) else Repeat))
-    (ap (fits awaited) (sym h) ∙ fit) end)
+steady awaited u o v (a_packet free text bytes wanted k n m h) (inr fit) calm end = grind arith
 steady awaited u o v (a_status free a x h given frame naks) (inl busy) calm end =
     false_true (sym free ∙ busy)
-steady awaited u o v (a_status free a x h given frame naks) (inr fit) calm end =
-    absurd (subst (λ x. IsNoEnd (if x then Moved (packed []) else Repeat))
-    (ap (fits awaited) (sym h) ∙ fit) end)
+steady awaited u o v (a_status free a x h given frame naks) (inr fit) calm end = grind arith
 steady awaited u o v (a_written free w m st h done is) (inl busy) calm end =
     false_true (sym free ∙ busy)
-steady awaited u o v (a_written free w m st h done is) (inr fit) calm end =
-    absurd (subst (λ x. IsNoEnd (if x then Moved (packed []) else Repeat))
-    (ap (fits awaited) (sym h) ∙ fit) end)
+steady awaited u o v (a_written free w m st h done is) (inr fit) calm end = grind arith
 
 naks_none_left : (u : State) → is_busy u ≡ false → u.naks ≡ 0
 naks_none_left u free = grind (arith, nat_tests)
@@ -556,8 +517,7 @@ next_kept t awaited place u v x l (reads_on (data_stage text wanted n e r some s
     )
 next_kept t awaited place u v x l (reads_on (status a h e)) = let q = x.status l.at e a h in
     (listens_on t place u v (ap (λ z. z.spec) x.frame) q.1 l, reads_on (status a q.0 e))
-next_kept t awaited place u v x l (reads_on (refusal h)) = let q = x.refuses h in
-    (listens_on t place u v (ap (λ z. z.spec) x.frame) q.1 l, reads_on (refusal q.0))
+next_kept t awaited place u v x l (reads_on (refusal h)) = grind (arith, listens_on)
 next_kept t awaited place u v x l (writes_on w e h) = let q = x.written l.at e w h in
     (listens_on t place u v (ap (λ z. z.spec) x.frame) q.1 l, writes_on w e q.0)
 
@@ -653,7 +613,7 @@ module _ (t : Target) (awaited : Toggle) (old : World) (three : NoThreeDamaged o
         )) ((l, h), calm) Waits waits_none
         (λ outcomes w u y trail made i so d n. one_more outcomes w u y trail made i.0 i.1 so d n)
         (Err Busy) tt (λ outcomes. waits_in hear outcomes ≡ 256) (λ o outcomes end. end)
-        (λ outcomes w so full. omega (arith, so.few, full, few))
+        (grind arith)
 
 -- Each device
 
@@ -681,10 +641,10 @@ control_in_told t awaited result old new settled x single j v on there =
     let waits = λ (three : NoThreeDamaged old). waited t awaited old three j s result new v run in
     was_then was (record {
       leaves = control_in t awaited result old new j s v run (λ at e. stalled
-          (subst (λ r. Transacted (heard_as awaited) (in_attempt t 0) old r new) e x) s was.stands
+          (grind arith) s was.stands
           at);
       write = λ one. record {
-        status = λ at. status_in t awaited result old new j s v run at one;
+        status = search status_in;
         rests = λ at before w so.
             ((whole_in t awaited result old new j s v run).3.written at one w so.stage).1;
       };
@@ -702,4 +662,4 @@ control_in_told t awaited result old new settled x single j v on there =
     stalled : TransactionDone (heard_as awaited) (in_attempt t 0) old (Err Stalled) new
         → (s : State) → state_on old.roots j ≡ Some s → is_at s t ≡ true
         → refuses_in s.stage ≡ true
-    stalled e s stood at = stalled_refused t settled e.trail e.tells single j s on stood at
+    stalled e s stood at = grind (arith, stalled_refused)

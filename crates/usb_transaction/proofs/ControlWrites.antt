@@ -1,11 +1,11 @@
 -- OUT of endpoint 0, with data or as the end of a control read: what it leaves of each device, and
 -- why it fails.
 use Rattle.std.proofs.Common.{◌≡◌, ◌≢◌, ℕ, if◌then◌else◌, Bool, true, false, List, Option, Some}
-use Rattle.std.proofs.Common.{Result, Ok, Err, refl, sym, subst, ap, ◌∙◌, inl, inr, ◌≤◌, [], arith}
+use Rattle.std.proofs.Common.{Result, Ok, Err, refl, subst, ap, ◌∙◌, ◌≤◌, [], arith}
 use Rattle.usb_packet.specs.{Toggle, One}
 use Rattle.usb_device.specs.{State, Reply, Answer, Location, Write, written_on, refused, forgotten}
-use Rattle.usb_device.specs.{is_busy, nak_row, out_row, Way, heard, out_law, IsPacketOf, OnlyWrite}
-use Rattle.usb_device.specs.{WriteAt, WriteOn, WritingAt, OnlyStage}
+use Rattle.usb_device.specs.{nak_row, out_row, Way, heard, out_law, IsPacketOf, OnlyWrite, WriteAt}
+use Rattle.usb_device.specs.{WriteOn, WritingAt, OnlyStage}
 use Rattle.usb_device.specs.Attempt.{whole}
 use Rattle.usb_device.proofs.Interface.{control_write, out_only_write}
 use Rattle.usb_world.specs.{Attempt, Outcome, EachWas, DidOut, got, World, outcome_in}
@@ -79,8 +79,7 @@ module _ (t : Target) (toggle : Toggle) (bytes : List ℕ) where
 
   no_ack : (max : ℕ) (t3 : Way) (a : Answer) → got max (Some a) ≢ Ack
       → got max (heard t3 (Some a)) ≢ Ack
-  no_ack max whole a n = n
-  no_ack max t3 a n = λ e. cc e
+  no_ack max t3 a n = grind arith
 
   refuses_if : (u : State) → u.stage ≡ refused → (max : ℕ) (t3 : Way) (busy : Bool)
       → Refuses u max t3 (if busy then nak_row u else out_row u u.stage toggle bytes)
@@ -97,27 +96,25 @@ module _ (t : Target) (toggle : Toggle) (bytes : List ℕ) where
       (out_law u 0 toggle bytes t1 t2 t3).1
   one_out u t1 t2 t3 at = record {
     others = mine t u at;
-    frame = out_only_write u toggle bytes t1 t2 t3;
-    naks = naks_left u toggle bytes t1 t2 t3;
+    frame = search out_only_write;
+    naks = search naks_left;
     write = grind (arith, control_write, heard_by);
-    refuses = λ e. let x = refuses_out u e t.max t1 t2 t3 in (x.0, x.1, λ a. x.2);
+    refuses = grind (arith, refuses_out);
     ends = λ e f. rw (e, f) (let x = ends_law t.max u t1 t2 t3 in (x.0, x.1, λ a. x.2));
   }
 
   did_write : (x : World) (j : Location) (u v : State) → DidOut a_write toggle bytes x j u v
       → OutResult u (outcome_in a_write x) v
-  did_write x j u v (DidOut.other d e) =
-      rw e (unmoved u (outcome_in a_write x) (λ at. mine t u at d))
-  did_write x j u v (DidOut.silent d q o e) = rw e (unmoved u (outcome_in a_write x) (λ at. o))
-  did_write x j u v (DidOut.asked d q y o e) =
-      rw (o, e) (one_out u y.first y.second y.third d)
+  did_write x j u v (DidOut.other d e) = grind (arith, mine, unmoved)
+  did_write x j u v (DidOut.silent d q o e) = grind (arith, unmoved)
+  did_write x j u v (DidOut.asked d q y o e) = grind (arith, one_out)
 
   out_says : (x : World) (j : Location) (u v : State) → DidOut a_write toggle bytes x j u v
       → is_at u t ≡ true → OutcomeOfSpec u.spec (heard_when_sent (outcome_in a_write x))
   out_says x j u v did at = grind (arith, law_says, mine)
 
   at_after : (s u : State) (o : Outcome) → OutResult s o u → is_at s t ≡ true → is_at u t ≡ true
-  at_after s u o x = at_from t s u (ap (λ z. z.registers) x.frame)
+  at_after s u o x h = grind (arith, at_from)
 
   joined : (s u v : State) (o : Outcome) → OutResult s Nothing u → OutResult u o v
       → OutResult s o v
@@ -125,8 +122,7 @@ module _ (t : Target) (toggle : Toggle) (bytes : List ℕ) where
     others = others_stay_then t s u v x.others y.others;
     frame = cc (x.frame, y.frame);
     naks = omega (arith, x.naks, y.naks);
-    write = λ at old w e p a.
-        y.write (at_after s u Nothing x at) old w e p (x.write at old w e p a);
+    write = search (at_after, y.write, x.write);
     refuses = grind (arith, at_after, x.refuses, y.refuses);
     ends = λ e f. let a = x.ends e f in let b = y.ends e f in (
       cc (a.0, b.0),
@@ -140,8 +136,8 @@ module _ (t : Target) (toggle : Toggle) (bytes : List ℕ) where
     others = x.others;
     frame = x.frame;
     naks = x.naks;
-    write = λ at old w e p a. still old w bytes v o (x.write at old w e p a);
-    refuses = λ h. ((x.refuses h).0, (x.refuses h).1, λ at e. cc e);
+    write = grind (arith, still);
+    refuses = grind arith;
     ends = λ e f. ((x.ends e f).0, (x.ends e f).1, λ at. tt);
   }
 
@@ -151,26 +147,22 @@ module _ (t : Target) (toggle : Toggle) (bytes : List ℕ) where
     where
       whole_out : (o : Outcome) × (outcomes : List Outcome)
           × IsEnd heard_when_sent result o outcomes × OutResult s o v
-      whole_out = summed run (λ gave outcomes.
-          of_bus (λ r. IsEnd heard_when_sent r Nothing outcomes) (λ f. tt) result gave) (λ u. Unit {0}) OutResult
+      whole_out = summed run (grind (arith, of_bus)) (λ u. Unit {0}) OutResult
           (λ w u y d i. (did_write w j u y d, tt)) joined (λ u y o n. quiet u y o) tt
-          (unmoved s Nothing (λ at. refl))
+          (search unmoved)
 
       so_could : is_at s t ≡ true → CanAnswer s.spec result
       so_could at =
           could (Moves heard_when_sent) result run (λ u. OutResult s Nothing u) (λ w u y d n i.
           quiet s y _ (joined s u y _ i (did_write w j u y d)))
-          (unmoved s Nothing (λ at. refl)) s.spec refl
-          (λ bytes o e. (λ f. cc (sym e ∙ f), λ f. cc (sym e ∙ f)))
-          (λ w u y d i. subst (λ z. OutcomeOfSpec z (heard_when_sent (outcome_in a_write w)))
-          (ap (λ z. z.spec) i.frame) (out_says w j u y d (at_after s u Nothing i at)))
+          (search unmoved) s.spec refl (grind arith)
+          (grind (arith, at_after, out_says))
 
       write_out : WriteOut t toggle bytes result j s v
       write_out = let (o, outcomes, is, x) = whole_out in record {
         others = x.others;
         frame = x.frame;
-        write = λ at old w e p a.
-            write_ends old w bytes v result o outcomes (x.write at old w e p a) is;
+        write = λ at old w e p a. grind (arith, write_ends);
         refused = grind (arith, not_done, x.refuses);
         could = so_could;
         naks = x.naks;
@@ -183,9 +175,9 @@ module _ (t : Target) (toggle : Toggle) (bytes : List ℕ) where
           record {
             others = x.others;
             frame = y.0;
-            kept = elim y.1 [ inl e ↦ inl e | inr z ↦ inr z.0 ];
+            kept = grind arith;
             done = λ at b r. subst (λ z. SaysOut s z v) (sent_last o (packed b)
-                (subst (λ q. IsEnd heard_when_sent q o outcomes) r is)) (y.2 at);
+                (grind arith)) (y.2 at);
             stalled = grind arith;
             could = so_could;
             naks = x.naks;
@@ -210,27 +202,19 @@ module _ (t : Target) (toggle : Toggle) (bytes : List ℕ) (Is : State → Type 
   stays_out : (w : World) (u y : State) → Sent w u y → Stays u → Stays y
   stays_out w u y d x =
       let z = delivered_out t 0 toggle bytes w j u y d x.0.at in
-      let frame : OnlyWrite u y = (did_write t toggle bytes w j u y d).frame in (
-        listens_on t j u y (ap (λ q. q.spec) frame) (ap (λ q. q.registers) frame) x.0,
-        rw z.is (keeps u z.first z.second z.third x.1),
-      )
+      let frame : OnlyWrite u y = (did_write t toggle bytes w j u y d).frame in
+      grind (arith, listens_on)
 
   answered : NoThreeDamaged old → result ≢ Err NoAnswer
   answered three = heeded (Moves heard_when_sent) result run Stays
-      (λ w u y d n. stays_out w u y d) (l, is) three
-      (λ w u y d x sound e.
-      let z = delivered_out t 0 toggle bytes w j u y d x.0.at in
-      heeds u x.1 (sym (ap (λ r. heard_when_sent (got t.max r.0))
-      (as_whole z sound x.0 (out_law u 0 toggle bytes))) ∙ sym (ap heard_when_sent z.gave) ∙ e))
+      (λ w u y d n. stays_out w u y d) (l, is) three (grind (arith, as_whole, delivered_out))
 
   waited : s.spec.busy ≡ false → s.naks ≤ 200 → result ≢ Err Busy
   waited calm few = spared (Moves heard_when_sent) result run
       (λ u. Stays u × (u.spec.busy ≡ false)) (λ w u y d n x. (
         stays_out w u y d x.0,
         ap (λ q. q.spec.busy) (did_write t toggle bytes w j u y d).frame ∙ x.1,
-      )) ((l, is), calm) (λ u. u.naks) (λ w u y d x n.
-      let z = delivered_out t 0 toggle bytes w j u y d x.0.0.at in
-      rw (z.is, z.gave) (law_waits u toggle bytes t.max x.1 z.first z.second z.third n))
+      )) ((l, is), calm) (λ u. u.naks) (grind (arith, delivered_out, law_waits))
       (omega (arith, few))
 
 -- Each device
@@ -255,8 +239,8 @@ control_out_told t toggle bytes result old new settled x single =
     expects_still u toggle bytes h t1 t2 t3 in
     let takes = λ (u : State) (h : Expects bytes u). whole_heard u toggle bytes t.max h in
     record {
-      leaves = write_out t toggle bytes result old new j s v run;
-      read = read_status t toggle bytes result old new j s v run;
+      leaves = search write_out;
+      read = search read_status;
       why = λ three. record {
         answered = λ l h. answered t toggle bytes (Expects bytes) expects takes result run l h
             three;
@@ -268,7 +252,7 @@ control_out_told t toggle bytes result old new settled x single =
           (rw (one, none) (ends_law t.max u t1 t2 t3).1) h in
           let ends : (u : State) → IsInRead u
           → heard_when_sent (got t.max (out_law u 0 toggle bytes whole whole whole).0) ≢ Lost =
-          λ u h. rw (one, none) (ends_heard t.max u h (is_busy u)) in
+          λ u h. grind (arith, ends_heard) in
           record {
             answered = λ l h. answered t toggle bytes IsInRead stays ends result run l h three;
             waited = λ l h. waited t toggle bytes IsInRead stays ends result run l h;

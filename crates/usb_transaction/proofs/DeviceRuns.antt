@@ -1,12 +1,11 @@
 -- One device over the attempts of a transaction: what it was, what each attempt did to it, and what
 -- it is.
 use Rattle.std.proofs.lemmas.Bool.Decides.{nat_tests}
-use Rattle.std.proofs.Common.{◌≡◌, ◌≢◌, ◌⊎◌, inl, inr, nat_lt, ℕ, ◌+◌, ◌<◌, ◌≤◌, ◌==◌, List, []}
-use Rattle.std.proofs.Common.{◌∷◌, true, false, Option, None, Some, Result, Ok, Err, refl, sym}
-use Rattle.std.proofs.Common.{subst, ap, ◌∙◌, arith}
+use Rattle.std.proofs.Common.{◌≡◌, ◌≢◌, ◌⊎◌, inl, inr, ℕ, ◌+◌, ◌<◌, ◌≤◌, List, [], ◌∷◌, true, false}
+use Rattle.std.proofs.Common.{Option, None, Some, Result, Ok, Err, refl, sym, subst, ap, ◌∙◌, arith}
 use Rattle.usb_packet.specs.{Toggle, other}
-use Rattle.usb_device.specs.{Spec, State, Reply, is_busy, Way, in_law, out_law, row_of, Location}
-use Rattle.usb_device.specs.{reach_on, state_on}
+use Rattle.usb_device.specs.{Spec, State, Reply, is_busy, Way, in_law, out_law, Location, reach_on}
+use Rattle.usb_device.specs.{state_on}
 use Rattle.usb_device.specs.Attempt.{whole, broken}
 use Rattle.usb_port.specs.{PortState}
 use Rattle.usb_world.specs.{Attempt, BusFault, Outcome, IsMade, got, World, Made, attempt, after}
@@ -45,8 +44,7 @@ was_then x so = grind arith
 
 pub each_device : {R S : Relation} (old new : World)
     → ((j : Location) (s v : State) → R j s v → S j s v) → EachIf Any R old new → EachWas S old new
-each_device old new f x j v on there = let was = x j v on there tt in
-    was_then was (f j was.before v was.so)
+each_device old new f x j v on there = let was = x j v on there tt in search was_then
 
 -- what a transaction leaves of a device, and why it failed, where no three attempts running are
 -- damaged
@@ -70,8 +68,8 @@ pub each_if-joined : {P : State → Type 0} {R S T : Relation} (old mid new : Wo
     → EachIf P R old mid → EachIf P S mid new → EachIf P T old new
 each_if-joined old mid new back f x y j v on there h =
     let later = y j v on there h in
-    let sooner = x j later.before later.on later.stands (back j later.before v later.so h) in
-    was_then sooner (f j sooner.before later.before v sooner.so later.so)
+    let sooner = x j later.before later.on later.stands (grind arith) in
+    grind (arith, was_then)
 
 -- the device over the attempts of a trail: it was s, and each attempt did something to it
 pub data Run (Did : Deeds) (a : Attempt) (old : World) (j : Location) (s : State) : List Outcome
@@ -183,8 +181,7 @@ module _ {a : Attempt} (k : Kind a) (old : World) (settled : IsSettled old.roots
         → GaveUp → ((o : Outcome) (outcomes : List Outcome) → Last o outcomes)
         → BusFailed hear a old fault new → EachIf k.Of (RunOver hear Last GaveUp new) old new
     over_cut Last GaveUp fault gave is c =
-        pick (cut_or_same a c.mid fault new c.fits (trail_settled c.trail settled) c.refused c.fails
-        single)
+        pick (grind (arith, cut_or_same, trail_settled))
       where
         pick : AttemptCut a c.mid new → EachIf k.Of (RunOver hear Last GaveUp new) old new
         pick (unmade u each) =
@@ -194,26 +191,20 @@ module _ {a : Attempt} (k : Kind a) (old : World) (settled : IsSettled old.roots
         pick (made_whole u m x r) =
             each_if-joined old c.mid new (k.back c.mid)
             (λ j s u v run d. last c.mid u c.trail run c.onward d
-            (is (outcome_in a c.mid) c.outcomes) (λ n. absurd (n gave))) (over_trail c.trail u)
-            (λ j v on there. k.does c.mid m x j v (ap (λ k. reach_on k j) r ∙ on)
-            (ap (λ k. state_on k j) r ∙ there))
+            (grind arith) (λ n. absurd (n gave))) (over_trail c.trail u)
+            (λ j v on there. k.does c.mid m x j v (ap (λ k. reach_on k j) r ∙ on) (grind arith))
 
     pub over_transaction : (result : Result (List ℕ) TransFault) → Transacted hear a old result new
         → EachIf k.Of (Through k.Did a hear result old new) old new
-    over_transaction (Err (Bus fault)) x =
-        over_cut (IsEnd hear (Err (Bus fault))) (IsOfBus {A = List ℕ} (Err (Bus fault))) fault
-        (λ n. n) (λ o outcomes. tt) x
+    over_transaction (Err (Bus fault)) x = search over_cut
     over_transaction result x =
-        over_last hear (IsEnd hear result) (IsOfBus result) single x.trail x.onward
-        (tells_end hear result x.last x.outcomes x.onward x.tells)
+        search (over_last, tells_end, x.trail, x.onward, x.last, x.outcomes, x.tells)
 
   pub over_poll : (toggle : Toggle) (new : World) → new.shared ≡ false
       → (result : Result (Option (List ℕ)) TransFault) → Polled toggle a old result new
       → EachIf k.Of (RunOver (polled_as toggle) (IsPollEnd toggle result) (IsOfBus result) new) old
       new
-  over_poll toggle new single (Ok None) x =
-      over_last (polled_as toggle) (IsPollEnd toggle (Ok None))
-      (IsOfBus {A = Option (List ℕ)} (Ok None)) single x.trail x.onward refl
+  over_poll toggle new single (Ok None) x = grind (arith, over_last)
   over_poll toggle new single (Ok (Some bytes)) x =
       over_transaction (polled_as toggle) new single (Ok bytes) x
   over_poll toggle new single (Err fault) x =
@@ -260,8 +251,7 @@ module _ {Did : Deeds} {a : Attempt} {old : World} {j : Location} {s : State} (h
       → ((GaveUp → ⊥) → AttemptLeft a w new) → E v)
       → (GaveUp → (outcomes : List Outcome) (w : World) → I outcomes w v → E v)
       → RunThrough Did a hear Last GaveUp old new j s v → E v
-  at_end E v final cut (last {outcomes} w u t r g d is told) =
-      final outcomes w u t (along r g) d is told
+  at_end E v final cut (last {outcomes} w u t r g d is told) = search along
   at_end E v final cut (stopped {outcomes} {w} gave r g) = cut gave outcomes w (along r g)
 
 -- One induction: what an attempt with an outcome leaves of a device, attempts leave one behind the
@@ -284,10 +274,9 @@ module _ {Did : Deeds} {a : Attempt} {hear : Outcome → HeardOutcome} {Last : O
         at_end hear (λ outcomes w u. Is u × Gave s Nothing u) (is, begun)
         (λ outcomes w u y trail made i d n.
         let g = did w u y d i.0 in
-        (g.1, quiet s y (outcome_in a w) n (joined s u y (outcome_in a w) i.1 g.0))) Summed v
-        (λ outcomes w u trail i d l told.
-        (outcome_in a w, outcomes, l, joined s u v (outcome_in a w) i.1 (did w u v d i.0).0))
-        (λ gave outcomes w i. (Nothing, outcomes, up gave outcomes, i.1)) x
+        (g.1, quiet s y (outcome_in a w) n (grind arith))) Summed v
+        (grind arith)
+        (grind arith) x
 
 -- A device is at the target's address, or not
 
@@ -297,7 +286,7 @@ mine t s h g = false_true (sym g ∙ h)
 -- it stays there with its registers
 pub at_from : (t : Target) (s u : State) → u.registers ≡ s.registers → is_at s t ≡ true
     → is_at u t ≡ true
-at_from t s u e h = ap (λ x. x.address == t.addr) e ∙ h
+at_from t s u e h = grind arith
 
 -- one that is there had the address before
 pub had_address : (t : Target) (s v : State) → (is_at s t ≡ false → v ≡ s) → is_at v t ≡ true
@@ -318,23 +307,21 @@ pub positive : (s : State) → is_busy s ≡ true → s.spec.busy ≡ false → 
 positive s busy calm = grind (arith, nat_tests)
 
 pub not_busy : (s : State) → is_busy s ≡ false → s.spec.busy ≡ false
-not_busy s e = (neither s.spec.busy (nat_lt 0 s.naks) e).0
+not_busy s e = grind (arith, neither)
 
 -- Devices that the attempts are not for
 
 pub others_stay_then : (t : Target) (s u v : State) → (is_at s t ≡ false → u ≡ s)
     → (is_at u t ≡ false → v ≡ u) → is_at s t ≡ false → v ≡ s
-others_stay_then t s u v f g h = g (ap (λ x. is_at x t) (f h) ∙ h) ∙ f h
+others_stay_then t s u v f g h = grind arith
 
 pub stays_away : {Did : Deeds} {a : Attempt} {hear : Outcome → HeardOutcome} {Last : Outcome
     → List Outcome → Type 0} {GaveUp : Type 0} {old new : World} {j : Location} {s v : State}
     (t : Target) → ((w : World) (u x : State) → Did w j u x → is_at u t ≡ false → x ≡ u)
     → RunThrough Did a hear Last GaveUp old new j s v → is_at s t ≡ false → v ≡ s
 stays_away {hear = hear} {s = s} {v = v} t others x away =
-    at_end hear (λ outcomes w u. u ≡ s) refl
-    (λ outcomes w u y trail made e d n. others w u y d (ap (λ z. is_at z t) e ∙ away) ∙ e)
-    (λ y. y ≡ s) v
-    (λ outcomes w u trail e d l told. others w u v d (ap (λ z. is_at z t) e ∙ away) ∙ e)
+    at_end hear (λ outcomes w u. u ≡ s) refl (grind arith)
+    (λ y. y ≡ s) v (grind arith)
     (λ gave outcomes w e. e) x
 
 -- Devices that they are for: IN and OUT
@@ -355,7 +342,7 @@ pub as_whole : {t : Target} {a : Attempt} {law : Way → Way → Way → Reply} 
     {place : Location} {u v : State} (x : AttemptDelivered t a law w place u v) → damage_in w ≡ None
     → Listens t place u → {A : Type 0} (f : Way → Way → Way → A)
     → f x.first x.second x.third ≡ f whole whole whole
-as_whole x n l f = let y = x.heard n l in rw (y.0, y.1, y.2) refl
+as_whole x n l f = grind arith
 
 pub asked_in : (t : Target) (ep : ℕ) (w : World) (j : Location) (u v : State)
     → DidIn (in_attempt t ep) w j u v → is_at u t ≡ true → (row : List PortState)
@@ -372,17 +359,7 @@ asked_in t ep w j u v (DidIn.silent d q o e) at = (
     is = e;
   },
 )
-asked_in t ep w j u v (DidIn.asked d q b below stood x o e) at = (
-  row_of below,
-  record {
-    first = x.first;
-    second = x.second;
-    third = x.third;
-    heard = λ n l. x.heard n l.hears;
-    gave = o;
-    is = e;
-  },
-)
+asked_in t ep w j u v (DidIn.asked d q b below stood x o e) at = grind arith
 
 pub in_others : (t : Target) (ep : ℕ) (w : World) (j : Location) (u v : State)
     → DidIn (in_attempt t ep) w j u v → is_at u t ≡ false → v ≡ u
@@ -402,15 +379,7 @@ delivered_out t ep toggle bytes w j u v (DidOut.silent d q o e) at =
       gave = o;
       is = e;
     }
-delivered_out t ep toggle bytes w j u v (DidOut.asked d q x o e) at =
-    record {
-      first = x.first;
-      second = x.second;
-      third = x.third;
-      heard = λ n l. x.heard n l.hears;
-      gave = o;
-      is = e;
-    }
+delivered_out t ep toggle bytes w j u v (DidOut.asked d q x o e) at = grind arith
 
 pub out_others : (t : Target) (ep : ℕ) (toggle : Toggle) (bytes : List ℕ) (w : World) (j : Location)
     (u v : State) → DidOut (out_attempt t ep toggle bytes) toggle bytes w j u v
@@ -446,10 +415,9 @@ stands_on : (hear : Outcome → HeardOutcome) (awaited : Toggle) {a : Attempt} {
     → Turns awaited given after_it (hear (outcome_in a w)) (damage_in w ≢ None)
     → Stands awaited old given n w
     → Stands awaited old after_it (waits_with (hear (outcome_in a w)) n) (after (attempt a) w)
-stands_on hear awaited three trail made n turn (inl y) =
-    inl ((turn.even y.0).0, rw (turn.even y.0).1 y.1)
+stands_on hear awaited three trail made n turn (inl y) = grind arith
 stands_on hear awaited {a} {old} {w} three trail made n turn (inr y) =
-    let one : waits_with (hear (outcome_in a w)) n ≤ n + 1 = one_wait (hear (outcome_in a w)) n in
+    let one : waits_with (hear (outcome_in a w)) n ≤ n + 1 = search one_wait in
     elim (turn.behind y.0) [
       | inl e ↦ inl (e, omega (arith, one, y.1.2, run_short old y.1.0 w.attempts three y.1.1))
       | inr e ↦ inr (
@@ -506,16 +474,11 @@ module _ {A : Type 0} (Done : A → Outcome → Type 0) (result : Result A Trans
       → ((outcomes : List Outcome) (w : World) → Holds outcomes w v → Full outcomes → ⊥)
       → result ≢ r
   never Holds first step r sound Full ends refutes e =
-      at_end hear (λ outcomes w u. Is u × Holds outcomes w u) (is, first)
-      (λ outcomes w u y t made i d n. (
-        stays w u y d n i.0,
-        step outcomes w u y t made i.0 i.1 d n,
-      )) (λ y. ⊥) v
+      at_end hear (λ outcomes w u. Is u × Holds outcomes w u) (is, first) (grind arith) (λ y. ⊥) v
       (λ outcomes w u t i d end told.
       let x = ends (outcome_in a w) outcomes end in
-      refutes (outcome_in a w ∷ outcomes) (after (attempt a) w)
-      (step outcomes w u v t (told (λ g. g sound)).0 i.0 i.1 d x.0) x.1)
-      (λ gave outcomes w i. gave sound) (subst Ran e ran)
+      refutes (outcome_in a w ∷ outcomes) (after (attempt a) w) (grind arith) x.1)
+      (grind arith) (subst Ran e ran)
 
   -- where an attempt that is not damaged is no error, three errors run only over three damaged
   -- attempts
@@ -524,8 +487,7 @@ module _ {A : Type 0} (Done : A → Outcome → Type 0) (result : Result A Trans
   unfolding errors_running
   heeded three heeds =
       never (λ outcomes w u. LostRun old.damages (errors_running hear outcomes) w.attempts)
-      (lost_run_none old.damages old.attempts)
-      (λ outcomes w u y t made i run d n. lost_more t made hear (heeds w u y d i) run)
+      (search lost_run_none) (grind (arith, lost_more))
       (Err NoAnswer) tt (λ outcomes. errors_running hear outcomes ≡ 3) (λ o outcomes end. end)
       (λ outcomes w run full.
       omega (arith, full, run_short old (errors_running hear outcomes) w.attempts three run))
@@ -536,11 +498,8 @@ module _ {A : Type 0} (Done : A → Outcome → Type 0) (result : Result A Trans
       → result ≢ Err Busy
   unfolding waits_in
   spared left spares few =
-      never (λ outcomes w u. waits_in hear outcomes + left u ≤ left s) none_left
-      (λ outcomes w u y t made i so d n. one_left outcomes (outcome_in a w) (left u) (left y) so
-      (spares w u y d i (waits_in hear outcomes)))
-      (Err Busy) tt (λ outcomes. waits_in hear outcomes ≡ 256) (λ o outcomes end. end)
-      (λ outcomes w so full. omega (arith, so, full, few))
+      never (λ outcomes w u. waits_in hear outcomes + left u ≤ left s) none_left (grind arith)
+      (Err Busy) tt (λ outcomes. waits_in hear outcomes ≡ 256) (λ o outcomes end. end) (grind arith)
     where
       none_left : waits_in hear [] + left s ≤ left s
       none_left = omega arith
@@ -559,9 +518,7 @@ module _ {A : Type 0} (Done : A → Outcome → Type 0) (result : Result A Trans
   unfolding waits_in
   few_repeats awaited given three turns =
       never (λ outcomes w u. Stands awaited old (given u) (waits_in hear outcomes) w)
-      (first (either (given s) awaited))
-      (λ outcomes w u y t made i so d n.
-      stands_on hear awaited three t made (waits_in hear outcomes) (turns w u y d i n) so)
+      (first (either (given s) awaited)) (grind (arith, stands_on))
       (Err Busy) tt (λ outcomes. waits_in hear outcomes ≡ 256) (λ o outcomes end. end)
       (λ outcomes w so full. omega (
         arith,
@@ -571,7 +528,7 @@ module _ {A : Type 0} (Done : A → Outcome → Type 0) (result : Result A Trans
     where
       first : (given s ≡ awaited) ⊎ (given s ≡ other awaited) → Stands awaited old (given s) 0 old
       first (inl e) = inl (e, omega arith)
-      first (inr e) = inr (e, (0, lost_run_none old.damages old.attempts, omega arith))
+      first (inr e) = grind (arith, lost_run_none)
 
   -- a device of the kind could answer so
   pub could : (spec : Spec) → hear Stall ≡ Refused
@@ -581,15 +538,8 @@ module _ {A : Type 0} (Done : A → Outcome → Type 0) (result : Result A Trans
   unfolding waits_in
   could spec refuses done says =
       at_end hear (λ outcomes w u. Is u × Waited spec (waits_in hear outcomes)) (is, inl refl)
-      (λ outcomes w u y t made i d n. (
-        stays w u y d n i.0,
-        one_waited spec (hear (outcome_in a w)) (waits_in hear outcomes) (says w u y d i.0) i.1,
-      )) (λ y. CanAnswer spec result) v
-      (λ outcomes w u t i d end told.
-      could_answer Done hear spec refuses done result (outcome_in a w) outcomes (says w u v d i.0)
-      (one_waited spec (hear (outcome_in a w)) (waits_in hear outcomes) (says w u v d i.0) i.1)
-      end)
-      (λ gave outcomes w i. of_bus (λ r. CanAnswer spec r) (λ fault. tt) result gave) ran
+      (grind (arith, one_waited)) (λ y. CanAnswer spec result) v
+      (grind (arith, could_answer, one_waited)) (grind (arith, of_bus)) ran
 
 -- The packet that came with an answer
 

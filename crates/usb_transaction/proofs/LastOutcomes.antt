@@ -1,6 +1,5 @@
 -- What outcomes are by how they are heard, and by what was answered.
-use Rattle.std.proofs.Common.{◌≡◌, refl, sym, ℕ, List, [], Option, None, Some, Result, Ok, Err}
-use Rattle.std.proofs.Common.{arith}
+use Rattle.std.proofs.Common.{◌≡◌, sym, ℕ, List, [], Option, None, Some, Result, Ok, Err, arith}
 use Rattle.arrayvec.specs.ArrayVec.{ArrayVec}
 use Rattle.usb_packet.specs.{Toggle}
 use Rattle.usb_device.specs.{Answer, taken_of}
@@ -59,8 +58,7 @@ pub heard_taken : (awaited : Toggle) (max : ℕ) (o : Option Answer)
 heard_taken awaited max o = grind arith
 
 pub no_packet : (h : HeardOutcome) → IsNoEnd h → packet_heard h ≡ None
-no_packet (Moved b) n = elim n [ ]
-no_packet h n = refl
+no_packet h n = grind arith
 
 -- the packet that came with an answer
 abbrev pub packet_of : {A : Type 0} → (A → Option (List ℕ)) → Result A TransFault → Option (List ℕ)

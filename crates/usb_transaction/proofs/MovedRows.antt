@@ -1,14 +1,13 @@
 -- Rows of packets: each that one attempt moved is a transaction, and so is the one that went on.
-use Rattle.std.proofs.Common.{◌≡◌, ◌≢◌, ◌∙◌, refl, sym, ap, subst, ℕ, zero, suc, ◌+◌, ◌*◌, ◌%◌, ◌<◌}
-use Rattle.std.proofs.Common.{◌≤◌, List, [], ◌++◌, length, take, drop, Option, Result, Ok, Err}
-use Rattle.std.proofs.Common.{arith, add-one, append-nil, length-append, length-take, false}
-use Rattle.std.proofs.Common.{lt_of_mul-lt-mul_right, mul-le-mul_right}
+use Rattle.std.proofs.Common.{◌≡◌, ◌≢◌, ◌∙◌, refl, ap, subst, ℕ, zero, suc, ◌+◌, ◌*◌, ◌%◌, ◌<◌, ◌≤◌}
+use Rattle.std.proofs.Common.{List, [], ◌++◌, length, take, drop, Option, Result, Ok, Err, arith}
+use Rattle.std.proofs.Common.{add-one, append-nil, length-append, length-take, false}
 use Rattle.std.proofs.Math.Seq.{drop-append-add}
 use Rattle.std.specs.Int.{div_ceil}
 use Rattle.std.proofs.lemmas.Grind.{div_ceil_times}
 use Rattle.std.proofs.lemmas.List.{take_all}
 use Rattle.arrayvec.specs.ArrayVec.{ArrayVec}
-use Rattle.usb_packet.specs.{Toggle, flips, other, speed_has_pre, speed_is_low, Zero, One}
+use Rattle.usb_packet.specs.{Toggle, flips, other, speed_has_pre, speed_is_low}
 use Rattle.usb_world.specs.{Attempt, BusFault, Destination, IsAttempt, Outcome, World}
 use Rattle.usb_world.specs.declared.types.Outcome.TheVariants.{Payload, Ack}
 use Rattle.usb_tree.specs.{IsSettled}
@@ -28,8 +27,7 @@ use Rattle.usb_transaction.proofs.TransactionTries.{cut_at_once, stands_new, tol
 -- Toggles
 
 other_twice : (t : Toggle) → other (other t) ≡ t
-other_twice Zero = refl
-other_twice One = refl
+other_twice t = grind arith
 
 pub flips_even : (n : ℕ) (t : Toggle) → n % 2 ≡ 0 → flips n t ≡ t
 unfolding flips
@@ -60,13 +58,14 @@ one_went {a} {o} fits made = record {
   traced = attempted a (Ok o) fits still made;
 }
 
-due_heard : (toggle : Toggle) (bytes : ArrayVec ℕ) → heard_as toggle (Payload toggle bytes) ≡ Moved bytes
-due_heard Zero bytes = refl
-due_heard One bytes = refl
+due_heard : (toggle : Toggle) (bytes : ArrayVec ℕ)
+    → heard_as toggle (Payload toggle bytes) ≡ Moved bytes
+due_heard toggle bytes = grind arith
 
 -- INs
 
-record FullRun (t : Target) (ep : ℕ) (first : Toggle) (old : World) (before : Option (List ℕ)) (n : ℕ)
+record FullRun (t : Target) (ep : ℕ) (first : Toggle) (old : World) (before : Option (List ℕ))
+    (n : ℕ)
     (got : List ℕ) (now : World) (text : Option (List ℕ)) : Type 0 where
   asked : AskedFull t ep first old n got now
   went : StepRun n old before now text
@@ -84,35 +83,25 @@ module _ (t : Target) (ep : ℕ) (to : Destination) (is : in_packet to ≡ in_at
       let max : to.max ≡ t.max = ap (λ a. a.max) is in
       let made = rw is at made in
       let x = asks_in t ep (flips n first) w v r.settled refl (Ok bytes)
-      (first_moved fits made (packed bytes) (due_heard (flips n first) (packed bytes)))
+      (first_moved fits made (packed bytes) (grind (arith, due_heard)))
       (omega (arith, long, max)) in
       record {
         asked = one_asked bytes r.asked x (long ∙ max);
         went = went_then n 1 r.went (one_went fits made);
-        settled = trail_settled x.heard.trail r.settled;
+        settled = search trail_settled;
       }
 
   -- all that were asked for
   pub row_whole : {n most : ℕ} {got : List ℕ} {toggle : Toggle} {now : World}
       {text : Option (List ℕ)} → FullCame to first old before n got now text → n ≡ most → 1 ≤ most
       → toggle ≡ flips n first → RowCame t ep first most old n got toggle now
-  row_whole {n} {most} {got} {toggle} {now} c all some turned = by_last (full_run c).asked all turned
+  row_whole {n} {most} {got} {toggle} {now} c all some turned =
+      by_last (full_run c).asked all turned
     where
       by_last : {n : ℕ} {got : List ℕ} {now : World} → AskedFull t ep first old n got now → n ≡ most
           → toggle ≡ flips n first → RowCame t ep first most old n got toggle now
       by_last none_asked all turned = absurd (omega (arith, all, some))
-      by_last (one_asked {n} {got} {mid} bytes before x long) all turned = record {
-        full = n;
-        few = omega (arith, all);
-        got = got;
-        mid = mid;
-        before = before;
-        last = bytes;
-        came = x;
-        kept = refl;
-        count = refl;
-        turned = turned;
-      }
+      by_last (one_asked {n} {got} {mid} bytes before x long) all turned = grind arith
 
 -- A row of INs as the bus tells it, and the transaction that went on
 
@@ -127,7 +116,7 @@ in_fits t ep i e = grind arith
 -- one more packet has room
 pub row_room : (moved most max room size : ℕ) → moved < most → most ≤ 64 → max ≤ 64
     → room ≡ moved * max → size ≤ max → room + size ≤ 4096
-row_room moved most max room size less few fits is short = grind (arith, mul-le-mul_right)
+row_room moved most max room size less few fits is short = grind arith
 
 -- where it did not end whole, it has fewer than all
 pub few_answered : (moved most : ℕ) (end : RowEnd) (o : Outcome) → end ≡ Answered o
@@ -156,7 +145,7 @@ module _ {t : Target} {ep : ℕ} {first : Toggle} {most : ℕ} {old : World}
       text
 
   so_far : FullRun t ep first old before done.moved got m.mid m.between
-  so_far = full_run t ep to is fits first settled m.came
+  so_far = search full_run
 
   row_lost : {next : Toggle} {new : World} (fault : TransFault) → done.moved < most
       → AsksIn t ep (flips done.moved first) m.mid (Err fault) new
@@ -219,7 +208,7 @@ module _ {t : Target} {ep : ℕ} {first : Toggle} {most : ℕ} {old : World}
       came = (answered_says end says).1;
       kept = kept;
       count = refl;
-      turned = flips_more done.moved first toggle next turned flip;
+      turned = grind (arith, flips_more);
     },
     answered_went end says (omega arith),
   )
@@ -236,14 +225,16 @@ module _ {t : Target} {ep : ℕ} {first : Toggle} {most : ℕ} {old : World}
 
 -- OUTs
 
-record SentRun (t : Target) (ep : ℕ) (first : Toggle) (old : World) (before : Option (List ℕ)) (n : ℕ)
+record SentRun (t : Target) (ep : ℕ) (first : Toggle) (old : World) (before : Option (List ℕ))
+    (n : ℕ)
     (sent : List ℕ) (now : World) (text : Option (List ℕ)) : Type 0 where
   went_all : SentFull t ep first old n sent now
   went : StepRun n old before now text
   settled : IsSettled now.roots
 
 module _ (t : Target) (ep : ℕ) (to : Destination) (max : to.max ≡ t.max)
-    (is : (toggle : Toggle) (bytes : List ℕ) → out_packet to toggle bytes ≡ out_attempt t ep toggle bytes)
+    (is : (toggle : Toggle) (bytes : List ℕ)
+    → out_packet to toggle bytes ≡ out_attempt t ep toggle bytes)
     (fits : (toggle : Toggle) (bytes : List ℕ) → length bytes ≤ t.max
     → IsAttempt (out_attempt t ep toggle bytes)) (first : Toggle) {old : World}
     {before : Option (List ℕ)} (settled : IsSettled old.roots) where
@@ -261,7 +252,7 @@ module _ (t : Target) (ep : ℕ) (to : Destination) (max : to.max ≡ t.max)
       record {
         went_all = one_sent bytes r.went_all (size ∙ ap (λ k. n * k) max) some few x;
         went = went_then n 1 r.went (one_went fit made);
-        settled = trail_settled x.heard.trail r.settled;
+        settled = search trail_settled;
       }
 
   -- all of the bytes
@@ -277,16 +268,8 @@ module _ (t : Target) (ep : ℕ) (to : Destination) (max : to.max ≡ t.max)
       by_last (one_sent {n} {sent} {mid} {new} bytes c size more short x) some turned = record {
         full = n;
         mid = mid;
-        so_far = record {
-          sent = sent;
-          rest = bytes;
-          split = refl;
-          size = size;
-          some = more;
-          before = c;
-        };
-        went = subst (λ z. SendsOut t ep (flips n first) z mid (Ok []) new)
-            (sym (take_all t.max bytes short)) x;
+        so_far = grind arith;
+        went = subst (λ z. SendsOut t ep (flips n first) z mid (Ok []) new) (search take_all) x;
         count = refl;
         turned = turned;
       }
@@ -332,7 +315,7 @@ module _ {t : Target} {ep : ℕ} {first : Toggle} {total : List ℕ} {old : Worl
       ∙ is (flips done.moved first) (take t.max m.rest)
 
   so_sent : SentRun t ep first old before done.moved m.sent m.mid m.between
-  so_sent = sent_run t ep to max is fits first settled m.taken
+  so_sent = search sent_run
 
   abbrev row_so_far : 0 < length m.rest → RowSent t ep first total old done.moved m.mid
   row_so_far some = record {
@@ -363,16 +346,14 @@ module _ {t : Target} {ep : ℕ} {first : Toggle} {total : List ℕ} {old : Worl
   pub outs_packet : {packet : List ℕ} → 0 < length m.rest
       → packet ≡ take t.max (drop (done.moved * t.max) total) → packet ≡ take t.max m.rest
   outs_packet some front =
-      let size : length m.sent ≡ done.moved * t.max =
-      m.full some ∙ ap (λ k. done.moved * k) max in
+      let size : length m.sent ≡ done.moved * t.max = grind arith in
       let left : drop (done.moved * t.max) total ≡ m.rest =
       ap (λ l. drop (done.moved * t.max) l) m.split
       ∙ ap (λ k. drop k (m.sent ++ m.rest)) (omega (arith, size))
-      ∙ drop-append-add m.sent m.rest 0 in
-      front ∙ ap (λ l. take t.max l) left
+      ∙ drop-append-add m.sent m.rest 0 in grind arith
 
   outs_few : 0 < length m.rest → done.moved < div_ceil (length total) t.max
-  outs_few some = grind (arith, div_ceil_times, length-append, lt_of_mul-lt-mul_right)
+  outs_few some = grind (arith, div_ceil_times, length-append)
 
   pub outs_cut : {fault : BusFault} → done.end ≡ Faulted fault
       → RowKept t ep first total old (Bus fault) toggle now
@@ -439,7 +420,7 @@ module _ {t : Target} {ep : ℕ} {first : Toggle} {total : List ℕ} {old : Worl
           so_far = row_so_far e.0;
           went = gone;
           count = refl;
-          turned = flips_more done.moved first toggle next turned flip;
+          turned = grind (arith, flips_more);
         },
         outs_more end front says (omega arith),
       )

@@ -62,8 +62,7 @@ module _ (s : State) (P : Bool → Reply → Type 0) (silent : (held : Option �
 
     by_heard : (t2 t3 : Way) (x : Option Answer) → P (is_whole t3) (x, s)
         → P (is_whole t2 && is_whole t3) (heard t2 x, s)
-    by_heard whole t3 x h = h
-    by_heard t2 t3 x h = silent s.held
+    by_heard t2 t3 x h = grind arith
 
     by_byte : (max : ℕ) → Room max → (t2 t3 : Way) (held : Option ℕ) (bits : ℕ)
         → P (is_whole t2 && is_whole t3) (gave (record s { held = held }) by.Changes max
@@ -82,7 +81,7 @@ module _ (s : State) (P : Bool → Reply → Type 0) (silent : (held : Option �
         halt : (halted : Bool) → s.changes.halted ≡ halted
             → P (is_whole t2 && is_whole t3) (if halted then (heard t2 (Some answer.Stall), s)
             else held_law s row s.held max t2 t3)
-        halt true q = by_heard t2 t3 (Some answer.Stall) (stalls (is_whole t3) q)
+        halt true q = grind (arith, by_heard)
         halt false q = by_held row max m t2 t3 s.held
     by_reply h row max m t1 t2 t3 = silent s.held
 
@@ -99,8 +98,7 @@ record PollStep (t : Toggle) (s : State) (clear : Bool) (o : Outcome) (v : State
 
 -- a byte that comes to the host
 never_lost : (b : ArrayVec ℕ) (x : Bool) → polled (if x then Moved b else Repeat) ≢ Lost
-never_lost b true e = cc e
-never_lost b false e = cc e
+never_lost b x = grind arith
 
 step_byte : (t : Toggle) (s : State) (clear : Bool) (held : Option ℕ) (b : ArrayVec ℕ)
     → PollStep t s clear (Payload s.changes.toggle b) (poll_byte_state s held clear)
@@ -136,9 +134,7 @@ poll_step t s h row ep max number m t1 t2 t3 o v e f =
       unstalled = λ q e. cc e;
       even = λ q n. elim n [ ];
       behind = λ q n. elim n [ ];
-    })
-    (λ clear held bits. rw (few_bytes (hub_ports s.spec.hub) bits max m)
-    (step_byte t s clear held (record { items = change_bytes (hub_ports s.spec.hub) bits }))) h row
+    }) (grind (arith, few_bytes, step_byte)) h row
     max m t1 t2 t3)
 
 -- What the host hears of an answer
@@ -238,16 +234,16 @@ module _ (t : Target) (ep : ℕ) (toggle : Toggle) (old : World) (j : Location) 
     still_at = ap (λ y. is_at y t) x ∙ at
 
     tells : tells_changes u.spec u.registers ≡ true
-    tells = ap (λ y. tells_changes y.spec y.registers) x ∙ h.tells
+    tells = grind arith
 
     counted : hub_ports u.spec.hub ≡ ports
-    counted = ap (λ (y : State). hub_ports y.spec.hub) x
+    counted = grind arith
 
     number : ep ≡ status_number u.spec u.registers
     number = grind arith
 
     room : status_length (hub_ports u.spec.hub) ≤ t.max
-    room = subst (λ n. status_length n ≤ t.max) (sym counted) h.fits
+    room = grind (arith, counted)
 
     asked : (row : List PortState) × AttemptDelivered t a (in_law u row ep t.max) w j u v
     asked = asked_in t ep w j u v d still_at
@@ -266,7 +262,7 @@ module _ (t : Target) (ep : ℕ) (toggle : Toggle) (old : World) (j : Location) 
     frame = grind (arith, step)
 
     counted_then : hub_ports v.spec.hub ≡ ports
-    counted_then = ap (λ (y : State). hub_ports y.spec.hub) frame
+    counted_then = grind (arith, frame)
 
     abbrev TheSaid : (ℕ → Type 0) → Type 0
     TheSaid Told = Says ports Told 0 toggle t.max h.fits v counted_then (outcome_in a w)
@@ -284,8 +280,7 @@ module _ (t : Target) (ep : ℕ) (toggle : Toggle) (old : World) (j : Location) 
         let bits : ℕ = change_bits (hub_ports u.spec.hub) (row_of below) in
         let so : Told bits = tells_now b below stood in
         let again : told_bits (change_bytes ports bits) ≡ bits =
-        subst (λ n. told_bits (change_bytes n bits) ≡ bits) counted
-        (told-back (hub_ports u.spec.hub) (row_of below)) in
+        grind (arith, counted, told-back) in
         says ports Told bits toggle t.max h.fits v counted_then (outcome_in a w)
         (in_law u (row_of below) ep t.max y.first y.second y.third).0 o (λ n. so)
         (subst (PollOn (ToldSome ports Told) bits toggle
@@ -293,8 +288,7 @@ module _ (t : Target) (ep : ℕ) (toggle : Toggle) (old : World) (j : Location) 
         (subst (λ n. PollOn (ToldSome ports Told) bits toggle
         (in_law u (row_of below) n t.max y.first y.second y.third).0
         (in_law u (row_of below) n t.max y.first y.second y.third).1) (sym number)
-        (poll_on (ToldSome ports Told) toggle u tells (row_of below) (λ some. (some, again, so))
-        before t.max room y.first y.second y.third)))
+        (search (poll_on, room, tells, y.first, y.second, y.third))))
 
     module _ (outcomes : List Outcome) (trail : AttemptLog a old outcomes w) where
       -- what its ports tell now, by any world that more of the same attempts lead to
@@ -383,7 +377,7 @@ module _ (t : Target) (ep : ℕ) (toggle : Toggle) (old : World) (j : Location) 
         λ k. of_bus (λ x. PollEnds ports (ToldBy a old x new j) toggle x v)
             (λ fault. none_came (poll_at-wider (ToldSome ports (ToldSince a old w j))
             (ToldSome ports (λ bits. (now : World) × ToldIn a old now j bits))
-            (λ bits x. (x.0, x.1, (w, x.2.told))) toggle v (i.1 k))) result gave,
+            (grind arith) toggle v (i.1 k))) result gave,
       )) run
 
   -- a hub that listens, and whose endpoint is not halted
@@ -413,16 +407,14 @@ module _ (t : Target) (ep : ℕ) (toggle : Toggle) (old : World) (j : Location) 
         → (new : World) (v : State) → RunThrough (DidIn a) a hear (IsPollEnd toggle (Err fault))
         (IsOfBus {A = Option (List ℕ)} (Err fault)) old new j s v → ⊥
     answers quiet Stalled sound new v run =
-        at_end hear (λ outcomes w u. Answers u) (refl, quiet)
-        (λ outcomes w u y r made i d n. stays w u y d i) (λ y. ⊥) v
-        (λ outcomes w u r i d end made. (step w u v i.0 d).unstalled i.1 end)
-        (λ gave outcomes w i. gave tt) run
+        at_end hear (λ outcomes w u. Answers u) (refl, quiet) (search stays) (λ y. ⊥) v
+        (λ outcomes w u r i d end made. (step w u v i.0 d).unstalled i.1 end) (grind arith) run
     answers quiet Busy sound new v run =
         few_repeats (PollGot toggle) (Err Busy) run Answers (λ w u y d n i. stays w u y d i)
         (refl, quiet) toggle (λ u. u.changes.toggle) three (λ w u y d i n. turns w u y d i n) refl
     answers quiet NoAnswer sound new v run =
         heeded (PollGot toggle) (Err NoAnswer) run Answers (λ w u y d n i. stays w u y d i)
-        (refl, quiet) three (λ w u y d i none. heeds w u y d i none) refl
+        (refl, quiet) three (search heeds) refl
     answers quiet (Bus fault) sound new v run = sound
 
 -- Each device

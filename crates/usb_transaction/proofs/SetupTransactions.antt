@@ -1,15 +1,14 @@
 -- SETUP: setup data that were accepted more than once are as if they were accepted once, the last
 -- time; and who is not reset by them.
-use Rattle.std.proofs.Common.{◌≡◌, ◌⊎◌, inl, inr, ℕ, ◌==◌, ◌&&◌, if◌then◌else◌, true, false, List}
-use Rattle.std.proofs.Common.{[], ◌∷◌, length, Option, None, Some, Result, Ok, Err, refl, sym}
-use Rattle.std.proofs.Common.{subst, ap, ◌∙◌, arith}
+use Rattle.std.proofs.Common.{◌≡◌, ◌⊎◌, inl, inr, ℕ, ◌&&◌, if◌then◌else◌, true, false, List, []}
+use Rattle.std.proofs.Common.{◌∷◌, length, Option, None, Some, Result, Ok, Err, refl, sym, subst}
+use Rattle.std.proofs.Common.{ap, ◌∙◌, arith}
 use Rattle.std.proofs.lemmas.Option.{same_Some}
 use Rattle.usb_request.specs.{Setup, setup_of}
 use Rattle.usb_port.specs.{PortState}
 use Rattle.usb_device.specs.{Leaves, Outcome, outcome, State, with_endpoints, accepted}
-use Rattle.usb_device.specs.{effect_of_request, asked_by_setup, Way, is_whole, setup_law, Ports}
-use Rattle.usb_device.specs.{full, acted, row_of, Location, path_to, reach_on, state_on, place_on}
-use Rattle.usb_device.specs.{Place}
+use Rattle.usb_device.specs.{asked_by_setup, Way, is_whole, setup_law, Ports, full, acted, row_of}
+use Rattle.usb_device.specs.{Location, path_to, reach_on, state_on, place_on, Place}
 use Rattle.usb_device.specs.Attempt.{whole}
 use Rattle.usb_device.proofs.Interface.{begun-twice, outcome-again}
 use Rattle.usb_world.specs.{Attempt, is_harmless, resets, Relation, Was, EachWas, DidSetup, IsMade}
@@ -57,18 +56,12 @@ record AsBefore (r : Setup) (s v : State) : Type 0 where
 
 kept_as_before : (bytes : List ℕ) (s v : State) → SetupKept bytes s v
     → AsBefore (setup_of bytes) s v
-kept_as_before bytes s v (inl e) = subst (AsBefore (setup_of bytes) s) (sym e)
-    (record { spec = refl; address = refl; again = λ row. refl; asks = refl })
+kept_as_before bytes s v (inl e) = grind arith
 kept_as_before bytes s v (inr y) =
     let r : Setup = setup_of bytes in
     let o : Outcome = outcome s.spec s.registers r in
     let again : _ = asked_twice s y.row r in
-    subst (AsBefore r s) (sym y.is) (record {
-      spec = spec_stays s o;
-      address = register_address s.registers o;
-      again = grind (arith, begun-twice);
-      asks = ap effect_of_request again;
-    })
+    grind (arith, begun-twice, register_address, spec_stays)
 
 -- Devices that a request leaves where they are
 
@@ -79,8 +72,7 @@ LeavesOthers t R = (j : Location) (s v : State) → R j s v → is_at s t ≡ fa
 module _ (t : Target) (request : Setup) where
   pub spared_wider : (R S : Relation) → ((j : Location) (s v : State) → R j s v → S j s v)
       → (old new : World) → EachSpared t request R old new → EachSpared t request S old new
-  spared_wider R S f old new e j s on there x = let was = e j s on there x in
-      was_then was (f j was.before s was.so)
+  spared_wider R S f old new e j s on there x = let was = e j s on there x in search was_then
 
   -- of a request that resets none it is so of each device
   pub spared_all : (R : Relation) (old new : World) → is_harmless request ≡ true
@@ -96,7 +88,7 @@ module _ (t : Target) (request : Setup) where
       → ((j : Location) (s u v : State) → R j s u → S j u v → T j s v) → (old mid new : World)
       → EachSpared t request R old mid → EachWas S mid new → EachSpared t request T old new
   spared_joined R S T others f old mid new e g =
-      each_if-joined old mid new (λ j u v y. was_spared u v (others j u v y)) f e
+      each_if-joined old mid new (search was_spared) f e
       (λ j s on there x. g j s on there)
 
 -- One attempt
@@ -137,7 +129,7 @@ module _ (t : Target) (bytes : List ℕ) (eight : length bytes ≡ 8) (w : World
   new = after (attempt a) w
 
   is_setup : IsSetup a bytes
-  is_setup = record { kind = refl; ep = refl; payload = refl; whole = eight }
+  is_setup = grind arith
 
   spared_rests : IsSpared t (setup_of bytes) v → resets (attempt a) w (path_to j) ≡ false
   spared_rests x =
@@ -146,8 +138,7 @@ module _ (t : Target) (bytes : List ℕ) (eight : length bytes ≡ 8) (w : World
         | inr h ↦
             elim (decided (resets (attempt a) w (path_to j))) [
               | inl y ↦ absurd ((x h).1 (new_at_0 (place_on new.roots j) v
-                  (step_new (attempt a) w (path_to j) y) (state_stands new.roots j.row j.rest
-                  ∙ there)))
+                  (search step_new) (grind (arith, state_stands))))
               | inr y ↦ y
             ]
       ]
@@ -189,14 +180,13 @@ module _ (t : Target) (bytes : List ℕ) (eight : length bytes ≡ 8) (w : World
           holder = h;
           there = refl;
           is = e;
-          left = l ∙ ap (λ d. Some (full b d (acted (asked_by_setup s (setup_of bytes)) below)))
-              (sym e);
+          left = grind arith;
         } in
         record {
           others = λ away. false_true (sym away ∙ at);
-          same = kept_as_before bytes s v (inr (record { row = row_of below; is = e }));
+          same = kept_as_before bytes s v (grind arith);
           kept = inr now;
-          answered = λ y. elim o [ inl n ↦ inl n | inr k ↦ inr (k, loud, now) ];
+          answered = grind arith;
           heeds = heard_whole;
         }
 
@@ -218,16 +208,13 @@ module _ (t : Target) (bytes : List ℕ) (eight : length bytes ≡ 8) (w : World
   on_ready : resets (attempt a) w (path_to j) ≡ false → reach_on (at_attempt w).roots j ≡ true
   unfolding resets
   on_ready rest = made_reach a (at_attempt w) (path_to j) (rw (made_true a w m) at rest)
-      (ap (λ x. reach_on x.roots j) (sym (made_is a w m)) ∙ on)
+      (grind (arith, made_is))
 
   accepts : resets (attempt a) w (path_to j) ≡ false → (s : State) → DidSetup a bytes w j s v
       → SetupResult t bytes w j s v
-  accepts rest s (DidSetup.other d e) = unmoved s e (λ y. false_true (sym d ∙ y))
-      (λ l none. false_true (sym d ∙ l.at))
-  accepts rest s (DidSetup.silent d q o e) =
-      unmoved s e (λ y. o) (λ l none. false_true (sym l.loud ∙ q))
-  accepts rest s (DidSetup.asked d loud b below stood x o e) =
-      of_holder s d loud b below (on_ready rest) stood
+  accepts rest s (DidSetup.other d e) = grind (arith, false_true, unmoved)
+  accepts rest s (DidSetup.silent d q o e) = grind (arith, false_true, unmoved)
+  accepts rest s (DidSetup.asked d loud b below stood x o e) = search (of_holder, on_ready)
 
 -- so it is of each device that the attempt does not reset
 pub accepting : (t : Target) (bytes : List ℕ) → length bytes ≡ 8 → (w : World)
@@ -272,8 +259,8 @@ module _ (t : Target) (bytes : List ℕ) (old : World) (j : Location) (s : State
           last = refl;
           holder = x.holder;
           there = x.there;
-          is = x.is ∙ same.again (row_of x.holder.below);
-          left = x.left ∙ ap (λ e. Some (full x.holder.port v (acted e x.holder.below))) same.asks;
+          is = grind arith;
+          left = grind arith;
         }
 
     kept_more : (v ≡ u) ⊎ AcceptedNow t bytes w j u v → KeptSince v
@@ -290,7 +277,7 @@ module _ (t : Target) (bytes : List ℕ) (old : World) (j : Location) (s : State
       → IsEnd set_up_as result (outcome_in (setup_attempt t bytes) w) outcomes
       → ((IsOfBus result → ⊥) → AttemptLeft (setup_attempt t bytes) w new) → Ends new v result
   ends outcomes w new r u v k d at = by (outcome_in (setup_attempt t bytes) w)
-      (d.answered (ap (λ n. n == t.addr) same.address ∙ at))
+      (d.answered (grind arith))
     where
       same : AsBefore (setup_of bytes) s u
       same = kept_as_before bytes s u (kept_of k)
@@ -299,7 +286,7 @@ module _ (t : Target) (bytes : List ℕ) (old : World) (j : Location) (s : State
           ⊎ ((o ≡ Ack) × (u.spec.silent ≡ false) × AcceptedNow t bytes w j u v)
           → (result : Result (List ℕ) TransFault) → IsEnd set_up_as result o outcomes
           → ((IsOfBus result → ⊥) → AttemptLeft (setup_attempt t bytes) w new) → Ends new v result
-      by o (inl n) (Ok x) end told = absurd (cc (sym (ap set_up_as n) ∙ end))
+      by o (inl n) (Ok x) end told = grind arith
       by o (inr y) (Ok x) end told = (
         λ got e. subst (λ z. AcceptedAt t bytes old z j s v) (sym (told (λ g. g tt)).1)
             (accepted_at outcomes w r u v k y.2),
@@ -320,17 +307,13 @@ module _ (t : Target) (bytes : List ℕ) (old : World) (j : Location) (s : State
       (SetupDone t bytes result old new j s) v
       (λ outcomes w u r k d end told.
       let all : (is_at s t ≡ true → Ends new v result) =
-      λ h. ends outcomes w new r u v k d h result end told in
+      λ h. search ends in
       record {
         others = away;
-        kept = kept_more outcomes w r u v k d.kept;
+        kept = search kept_more;
         done = λ h. (all h).0;
         could = λ h. (all h).1;
-      })
-      (λ gave outcomes w k.
-      let none : Ends new v result = of_bus (Ends new v) (λ fault. (λ got e. cc e, tt)) result
-      gave in
-      record { others = away; kept = k; done = λ h. none.0; could = λ h. none.1 }) run
+      }) (grind (arith, of_bus)) run
 
 -- setup data that come whole are answered by ACK
 pub set_up_told : (t : Target) (bytes : List ℕ) (result : Result (List ℕ) TransFault)
@@ -341,16 +324,16 @@ pub set_up_told : (t : Target) (bytes : List ℕ) (result : Result (List ℕ) Tr
 set_up_told t bytes result old new eight settled x single =
     spared_wider t (setup_of bytes) _ _
     (λ j s v run. record {
-      leaves = set_up_done t bytes old j s result new v run;
+      leaves = search set_up_done;
       why = λ three. record {
         answered = λ l. heeded (Moves set_up_as) result run (Listens t j)
-            (λ w u y d n k. listens_at t j u y d.same.spec d.same.address k) l
-            three (λ w u y d k none q. cc (sym (ap set_up_as (d.heeds k none)) ∙ q));
+            (grind (arith, listens_at)) l
+            three (grind arith);
       };
     }) old new
     (over_transaction {a = setup_attempt t bytes} (record {
       Did = SetupResult t bytes;
       Of = IsSpared t (setup_of bytes);
-      back = λ w j u v d. was_spared t (setup_of bytes) u v d.others;
+      back = grind (arith, was_spared);
       does = accepting t bytes eight;
     }) old settled set_up_as new single result x)

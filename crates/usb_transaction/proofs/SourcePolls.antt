@@ -1,16 +1,15 @@
 -- A poll of an endpoint that gives packets (5.7): what it leaves of the endpoint, and why it fails.
-use Rattle.std.proofs.Common.{◌≡◌, ◌≢◌, inl, inr, ℕ, false, List, Option, None, Some, Result, Ok}
-use Rattle.std.proofs.Common.{Err, sym, subst, ap, ◌∙◌, arith}
+use Rattle.std.proofs.Common.{◌≡◌, ◌≢◌, ℕ, false, List, Option, None, Some, Result, Ok, sym, ap}
+use Rattle.std.proofs.Common.{◌∙◌, arith}
 use Rattle.arrayvec.specs.ArrayVec.{ArrayVec}
 use Rattle.usb_packet.specs.{Toggle}
 use Rattle.usb_device.specs.{Location, State, GivesWithin, in_end, SourceOn}
 use Rattle.usb_device.proofs.Interface.{is_same-refl, other-other}
 use Rattle.usb_world.specs.{DidIn, EachWas, Outcome, World, damage_in, outcome_in}
 use Rattle.usb_tree.specs.{IsSettled}
-use Rattle.usb_transaction.specs.{Target, TransFault, Stalled, HeardOutcome, Moved, heard_as}
-use Rattle.usb_transaction.specs.{polled, polled_as, IsNoEnd, NoThreeDamaged, Polled}
-use Rattle.usb_transaction.specs.{SourcePollEnds, SourcePolled, SourcePollFailure, in_attempt}
-use Rattle.usb_transaction.specs.{packed, IsNotOfBus}
+use Rattle.usb_transaction.specs.{Target, TransFault, HeardOutcome, Moved, heard_as, polled}
+use Rattle.usb_transaction.specs.{polled_as, IsNoEnd, NoThreeDamaged, Polled, SourcePollEnds}
+use Rattle.usb_transaction.specs.{SourcePolled, SourcePollFailure, in_attempt, packed, IsNotOfBus}
 use Rattle.usb_transaction.proofs.BulkTransactions.{SourceGave, did_in, hesitates_end, stepped_end}
 use Rattle.usb_transaction.proofs.BulkTransactions.{HearsRead, IsShort, away_in, cut_source}
 use Rattle.usb_transaction.proofs.BulkTransactions.{frame_in, halted_answered, short_answered}
@@ -26,8 +25,7 @@ pub as_poll : (awaited : Toggle) → HearsRead awaited (polled_as awaited)
 as_poll awaited = grind arith
 
 unpolled : (h : HeardOutcome) (b : ArrayVec ℕ) → polled h ≡ Moved b → h ≡ Moved b
-unpolled (Moved c) b e = e
-unpolled h b e = cc e
+unpolled h b e = grind arith
 
 poll_brought : (awaited : Toggle) (result : Result (Option (List ℕ)) TransFault) (o : Outcome)
     (outcomes : List Outcome) → IsPollEnd awaited result o outcomes → IsNotOfBus result
@@ -52,7 +50,7 @@ module _ (t : Target) (ep : ℕ) (awaited : Toggle) (result : Result (Option (Li
 
     as_answer : (o : Outcome) (outcomes : List Outcome) (r : Result (Option (List ℕ)) TransFault)
         → result ≡ r → IsPollEnd awaited result o outcomes → IsPollEnd awaited r o outcomes
-    as_answer o outcomes r e = subst (λ r. IsPollEnd awaited r o outcomes) e
+    as_answer o outcomes r e h = grind arith
 
     what : SourcePolled t ep awaited result j s v
     what = record {
@@ -62,27 +60,27 @@ module _ (t : Target) (ep : ℕ) (awaited : Toggle) (result : Result (Option (Li
           let (o, outcomes, is, x) = whole_in t ep awaited (as_poll awaited) run up h most i in
           result_of (λ got. got) (λ c. SourceOn ep most n awaited s c v)
           (λ r. SourcePollEnds ep most n awaited s r v) (λ b z. z) (λ z. (z, z, z))
-          (λ fault c z. cut_source ep most n awaited s v c z) result
-          (packet_heard (heard_as awaited o)) (poll_brought awaited result o outcomes is)
+          (grind (arith, cut_source)) result
+          (packet_heard (heard_as awaited o)) (search poll_brought)
           (x.goes n m at);
       stalled = λ h most i e.
           let (o, outcomes, is, x) = whole_in t ep awaited (as_poll awaited) run up h most i in
-          x.stalls (ap (heard_as awaited) (as_answer o outcomes (Err Stalled) e is));
+          x.stalls (grind (arith, as_answer));
       halted = λ h most i c.
           let (o, outcomes, is, x) = whole_in t ep awaited (as_poll awaited) run up h most i in
           let z = x.halted c in (
             z.0,
             λ got e. elim got as (λ got. result ≡ Ok got → ⊥) [
-              | None ↦ λ e. z.2 (ap (heard_as awaited) (as_answer o outcomes (Ok None) e is))
+              | None ↦ λ e. z.2 (grind (arith, as_answer))
               | Some bytes ↦ λ e. cc (sym z.1 ∙ ap packet_heard (unpolled (heard_as awaited o)
-                  (packed bytes) (as_answer o outcomes (Ok (Some bytes)) e is)))
+                  (packed bytes) (grind (arith, as_answer))))
             ] e,
           );
       paced = λ h most limit i.
           (whole_in t ep awaited (as_poll awaited) run up h most i).3.paced limit;
       empty = λ h most i none each e.
           let (o, outcomes, is, x) = whole_in t ep awaited (as_poll awaited) run up h most i in
-          x.spent (ap (heard_as awaited) (as_answer o outcomes (Ok None) e is))
+          x.spent (grind (arith, as_answer))
           (omega (arith, none), omega (arith, each));
     }
 
@@ -97,10 +95,7 @@ module _ (t : Target) (ep : ℕ) (awaited : Toggle) (result : Result (Option (Li
         let x = turn (did_in t ep awaited most w j u y d is.0.0.at is.0.1) is.1 n in
         record {
           even = x.even;
-          behind = λ q. elim (x.behind q) [
-            | inl e ↦ inl e
-            | inr e ↦ inr (e.0, λ none. e.1 (none, is.0.0))
-          ];
+          behind = grind arith;
         }
 
     why : NoThreeDamaged old → SourcePollFailure t ep awaited result j s v
@@ -109,8 +104,8 @@ module _ (t : Target) (ep : ℕ) (awaited : Toggle) (result : Result (Option (Li
         short_answered t ep awaited (as_poll awaited) (PollGot awaited) result run most (l, i)
             three m,
         few_repeats (PollGot awaited) result run (IsShort t ep awaited most j)
-            (λ w u y d n. stays_short t ep awaited most w j u y d) ((l, i), m) awaited
-            (λ u. (in_end u ep).state.toggle) three (λ w u y d is n. turned most w u y d is n),
+            (search stays_short) ((l, i), m) awaited
+            (λ u. (in_end u ep).state.toggle) three (search turned),
       );
       halted = λ l most i. halted_answered t ep awaited (as_poll awaited) (PollGot awaited) result
           run most (l, i) three;
@@ -126,7 +121,4 @@ pub source_poll_told : (t : Target) (ep : ℕ) (awaited : Toggle)
     old new
 source_poll_told t ep awaited result old new settled x single =
     each_device old new
-    (λ j s v run. record {
-      leaves = what t ep awaited result old new j s v run;
-      why = why t ep awaited result old new j s v run;
-    }) (over_poll (in_kind t ep) old settled awaited new single result x)
+    (search (what, why)) (over_poll (in_kind t ep) old settled awaited new single result x)

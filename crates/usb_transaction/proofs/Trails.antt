@@ -1,7 +1,7 @@
 -- The attempts of a transaction: as a course of the world, what they keep of it, and over which
 -- damages errors run.
 use Rattle.std.proofs.Common.{◌≡◌, ◌≢◌, ℕ, zero, suc, ◌+◌, ◌<◌, ◌≤◌, List, [], ◌∷◌, false, Option}
-use Rattle.std.proofs.Common.{None, Some, Result, Ok, Err, refl, subst, ◌∙◌, arith}
+use Rattle.std.proofs.Common.{None, Some, Result, Ok, Err, refl, ◌∙◌, arith}
 use Rattle.usb_packet.specs.{Toggle}
 use Rattle.usb_world.specs.{Damage, Attempt, BusFault, Outcome, damage_of, World, Made, Step}
 use Rattle.usb_world.specs.{attempt, after, outcome_in, damage_in, Course, here}
@@ -51,8 +51,7 @@ as_transacted result e = grind arith
 pub ended_of : {hear : Outcome → HeardOutcome} {a : Attempt} {old new : World}
     (result : Result (List ℕ) TransFault) → Transacted hear a old result new → IsNotOfBus result
     → TransactionDone hear a old result new
-ended_of (Err (Bus fault)) x n = absurd n
-ended_of result x n = x
+ended_of result x n = grind arith
 
 pub transacted_unshared : (hear : Outcome → HeardOutcome) (a : Attempt) (old new : World)
     (result : Result (List ℕ) TransFault) → Transacted hear a old result new → IsSettled old.roots
@@ -70,23 +69,21 @@ module _ {A : Type 0} (a : Attempt) (old new : World) where
   -- and where it did
   cut_attempts : {hear : Outcome → HeardOutcome} (fault : BusFault) → BusFailed hear a old fault new
       → TransactionAttempts {A = A} (IsOnly a) old (Err (Bus fault)) new
-  cut_attempts fault x = grind (arith, only_course, x.trail, x.fits, x.refused, x.fails)
+  cut_attempts fault x = grind (arith, only_course)
 
 pub transacted_attempts : (hear : Outcome → HeardOutcome) (a : Attempt)
     (result : Result (List ℕ) TransFault) (old new : World) → Transacted hear a old result new
     → TransactionAttempts (IsOnly a) old result new
 transacted_attempts hear a (Err (Bus fault)) old new x = cut_attempts a old new fault x
-transacted_attempts hear a result old new x = ended_attempts a old new result (λ f e. cc e) x.trail
+transacted_attempts hear a result old new x = grind (arith, ended_attempts)
 
 pub polled_attempts : (toggle : Toggle) (a : Attempt) (result : Result (Option (List ℕ)) TransFault)
     (old new : World) → Polled toggle a old result new
     → TransactionAttempts (IsOnly a) old result new
 polled_attempts toggle a (Err (Bus fault)) old new x = cut_attempts a old new fault x
-polled_attempts toggle a (Ok None) old new x =
-    ended_attempts a old new (Ok None) (λ f e. cc e) x.trail
-polled_attempts toggle a (Ok (Some bytes)) old new x =
-    ended_attempts a old new (Ok (Some bytes)) (λ f e. cc e) x.trail
-polled_attempts toggle a result old new x = ended_attempts a old new result (λ f e. cc e) x.trail
+polled_attempts toggle a (Ok None) old new x = grind (arith, ended_attempts)
+polled_attempts toggle a (Ok (Some bytes)) old new x = grind (arith, ended_attempts)
+polled_attempts toggle a result old new x = grind (arith, ended_attempts)
 
 -- attempts over which a transaction goes on have fewer waits than end it
 pub few_waits : (hear : Outcome → HeardOutcome) (outcomes : List Outcome)
@@ -133,9 +130,7 @@ module _ {a : Attempt} {old w : World} {outcomes : List Outcome} (t : AttemptLog
     where
       each_one : (m k : ℕ) → m + k ≡ (after (attempt a) w).attempts → k < n + 1
           → damage_of old.damages m ≢ None
-      each_one m zero e lt = subst (λ x. damage_of old.damages x ≢ None)
-          (omega (arith, e, made.one)) (subst (λ x. damage_of x (w.attempts + 1) ≢ None)
-          (trail_damages t) d)
+      each_one m zero e lt = grind (arith, trail_damages)
       each_one m (suc k) e lt = r.each m k (omega (arith, e, made.one)) (omega (arith, lt))
 
   -- errors run only over damaged attempts, where no attempt that is not damaged is one
@@ -150,5 +145,5 @@ module _ {a : Attempt} {old w : World} {outcomes : List Outcome} (t : AttemptLog
       by_heard : (h : HeardOutcome) → (damage_in w ≡ None → h ≢ Lost)
           → LostRun old.damages (errors_with h (errors_running hear outcomes))
           (after (attempt a) w).attempts
-      by_heard Lost c = damaged_more (errors_running hear outcomes) (λ e. c e refl) r
-      by_heard h c = lost_run_none old.damages (after (attempt a) w).attempts
+      by_heard Lost c = search damaged_more
+      by_heard h c = grind (arith, lost_run_none)

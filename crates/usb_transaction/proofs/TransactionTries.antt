@@ -1,6 +1,6 @@
 -- How a transaction goes on, try by try, how it ends, and how many attempts it makes.
-use Rattle.std.proofs.Common.{◌≡◌, refl, sym, subst, ap, ◌∙◌, arith, ℕ, ◌+◌, ◌*◌, ◌<◌, ◌≤◌, length}
-use Rattle.std.proofs.Common.{List, [], ◌∷◌, true, false, Option, None, Some, Result, Ok, Err}
+use Rattle.std.proofs.Common.{◌≡◌, refl, sym, ◌∙◌, arith, ℕ, ◌+◌, ◌*◌, ◌<◌, ◌≤◌, length, List, []}
+use Rattle.std.proofs.Common.{◌∷◌, true, false, Option, None, Some, Result, Ok, Err}
 use Rattle.arrayvec.specs.ArrayVec.{ArrayVec}
 use Rattle.usb_packet.specs.{Toggle}
 use Rattle.usb_world.specs.{Attempt, BusFault, Outcome, World, AttemptsWithin, IsAttempt}
@@ -20,7 +20,7 @@ use Rattle.usb_transaction.proofs.LastOutcomes.{heard_moved}
 trail_more : {a : Attempt} {old mid new : World} {outcomes : List Outcome} {o : Outcome}
     {before now : Option (List ℕ)} → AttemptLog a old outcomes mid
     → Attempts a mid before (Ok o) new now → AttemptLog a old (o ∷ outcomes) new
-trail_more t made = rw (made.exact, made.outcome) (next _ t (rw made.exact at made.counts.ends))
+trail_more t made = rw (made.exact, made.outcome) (next _ t (grind arith))
 
 -- It goes on: so many errors run, after so many NAKs and repeats; between the worlds lie at most
 -- three attempts for each of these and one for each error running
@@ -53,26 +53,22 @@ going_more : {hear : Outcome → HeardOutcome} {a : Attempt} {o : Outcome} {erro
     → errors_with (hear o) errors ≡ e → waits_with (hear o) waits ≡ w → e < 3 → w < 256
     → 3 * waits + errors + 1 ≤ 3 * w + e → TryingOn hear a e w old new
 unfolding errors_running waits_in KeepsTrying
-going_more {hear} {a} {o} {errors} {waits} {old} {mid} {new} e w g made on x y few calm le = record {
-  fits = g.fits;
-  outcomes = o ∷ g.outcomes;
-  trail = trail_more g.trail made;
-  onward = (
-    on,
-    subst (λ n. n < 3) (sym running) few,
-    subst (λ n. n < 256) (sym waited) calm,
-    g.onward,
-  );
-  running = running;
-  waited = waited;
-  spends = grind (arith, spends_then, spends_wider, g.spends, made.counts.spends);
-}
+going_more {hear} {a} {o} {errors} {waits} {old} {mid} {new} e w g made on x y few calm le =
+    record {
+      fits = g.fits;
+      outcomes = o ∷ g.outcomes;
+      trail = trail_more g.trail made;
+      onward = grind arith;
+      running = running;
+      waited = waited;
+      spends = grind (arith, spends_then, spends_wider);
+    }
   where
     running : errors_with (hear o) (errors_running hear g.outcomes) ≡ e
-    running = ap (λ n. errors_with (hear o) n) g.running ∙ x
+    running = grind arith
 
     waited : waits_with (hear o) (waits_in hear g.outcomes) ≡ w
-    waited = ap (λ n. waits_with (hear o) n) g.waited ∙ y
+    waited = grind arith
 
 going_cut_off : {hear : Outcome → HeardOutcome} {a : Attempt} {fault : BusFault} {errors waits : ℕ}
     {old mid new : World} {before now : Option (List ℕ)} → TryingOn hear a errors waits old mid
@@ -104,15 +100,7 @@ module _ {hear : Outcome → HeardOutcome} {a : Attempt} {t : Tries} {old mid : 
   pub went_last : {b : Attempt} {r : Result Outcome BusFault} {new : World} {now : Option (List ℕ)}
       → IsAttempt b → Attempts b mid before r new now → StepRun transaction_bound old first new now
   went_last {b} {r} {new} fits x = record {
-    spends = grind (
-      arith,
-      spends_then,
-      spends_wider,
-      s.going.spends,
-      x.counts.spends,
-      s.few,
-      s.calm,
-    );
+    spends = grind (arith, spends_then, spends_wider);
     traced = attempted b r fits s.traced x;
   }
 
@@ -145,12 +133,7 @@ pub record Pending (hear : Outcome → HeardOutcome) (a : Attempt) (t : Tries) (
 pub pending_first : {hear : Outcome → HeardOutcome} {a : Attempt} {o : Outcome} {w v : World}
     {before now : Option (List ℕ)} (t : Tries) → IsAttempt a → t ≡ record { errors = 0; waits = 0 }
     → Attempts a w before (Ok o) v now → Pending hear a t o w before v now
-pending_first {w = w} {before = before} t fits is made = record {
-  mid = w;
-  before = before;
-  stands = stands_new t w fits is;
-  made = made;
-}
+pending_first t fits is made = search stands_new
 
 -- one try more is one attempt more of those that the tries allow
 pub try_more : (h : HeardOutcome) (errors waits : ℕ) → IsNoEnd h → errors < 3
@@ -162,17 +145,17 @@ module _ {hear : Outcome → HeardOutcome} {a : Attempt} {t : Tries} {o : Outcom
   -- it ends nothing
   pub heard_on : HearsAs t (hear o) (Ok None) u → TryStands hear a u old first now text
   heard_on (on, is, few, calm) =
-      let errors : errors_with (hear o) t.errors < 3 = subst (λ x. x.errors < 3) is few in
-      let waits : waits_with (hear o) t.waits < 256 = subst (λ x. x.waits < 256) is calm in
+      let errors : errors_with (hear o) t.errors < 3 = grind arith in
+      let waits : waits_with (hear o) t.waits < 256 = grind arith in
       rw is (record {
         few = errors;
         calm = waits;
-        going = grind (arith, going_more, try_more, p.stands.going, p.made, p.stands.few);
+        going = grind (arith, going_more, try_more);
         traced = attempted a (Ok o) p.stands.going.fits p.stands.traced p.made;
       })
 
   pub heard_last : StepRun transaction_bound old first now text
-  heard_last = went_last p.stands p.stands.going.fits p.made
+  heard_last = search went_last
 
   pub heard_packet : (bytes : ArrayVec ℕ) → HearsAs t (hear o) (Ok (Some bytes)) u
       → Transacted hear a old (Ok bytes.items) now
@@ -183,10 +166,9 @@ module _ {hear : Outcome → HeardOutcome} {a : Attempt} {t : Tries} {o : Outcom
   unfolding waits_in errors_running
   heard_fault Stalled stall x = told_stalled p.stands p.made (stall (sym x))
   heard_fault Busy stall x =
-      ended p.stands p.made (Err Busy) (ap (λ n. waits_with (hear o) n) p.stands.going.waited ∙ x)
+      ended p.stands p.made (Err Busy) (grind arith)
   heard_fault NoAnswer stall x =
-      ended p.stands p.made (Err NoAnswer)
-      (ap (λ n. errors_with (hear o) n) p.stands.going.running ∙ x)
+      ended p.stands p.made (Err NoAnswer) (grind arith)
   heard_fault (Bus fault) stall x = absurd x
 
 -- An outcome that was heard as an error, or as a repeat
@@ -199,39 +181,35 @@ module _ {hear : Outcome → HeardOutcome} {a : Attempt} {t : Tries} {o : Outcom
 
   module _ (lost : Lost ≡ hear o) (is : u ≡ record t { errors = t.errors + 1 }) where
     pub stands_error : u.errors < 3 → TryStands hear a u old first new now
-    stands_error few = heard_on pending u (subst (λ h. HearsAs t h (Ok None) u) lost
-        (tt, is, few, subst (λ x. x.waits < 256) (sym is) s.calm))
+    stands_error few = heard_on pending u (grind arith)
 
     pub told_silent : u.errors ≡ 3 → Transacted hear a old (Err NoAnswer) new
-    told_silent third = heard_fault pending u NoAnswer (λ e. cc (lost ∙ sym e))
-        (subst (λ h. errors_with h t.errors ≡ 3) lost (ap (λ x. x.errors) (sym is) ∙ third))
+    told_silent third = heard_fault pending u NoAnswer (λ e. cc (lost ∙ sym e)) (grind arith)
 
   module _ (again : Repeat ≡ hear o) (is : u ≡ record t { errors = 0; waits = t.waits + 1 }) where
     pub stands_waited : u.waits < 256 → TryStands hear a u old first new now
-    stands_waited calm = heard_on pending u (subst (λ h. HearsAs t h (Ok None) u) again
-        (tt, is, subst (λ x. x.errors < 3) (sym is) (omega arith), calm))
+    stands_waited calm = heard_on pending u (grind arith)
 
     pub told_busy : u.waits ≡ 256 → Transacted hear a old (Err Busy) new
-    told_busy full = heard_fault pending u Busy (λ e. cc (again ∙ sym e))
-        (subst (λ h. waits_with h t.waits ≡ 256) again (ap (λ x. x.waits) (sym is) ∙ full))
+    told_busy full = heard_fault pending u Busy (λ e. cc (again ∙ sym e)) (grind arith)
 
 -- the bus gave up the first attempt
 module _ {a : Attempt} {w v : World} {before now : Option (List ℕ)} (fits : IsAttempt a) where
   pub went_once : {b : Attempt} {r : Result Outcome BusFault} → IsAttempt b
       → Attempts b w before r v now → StepRun transaction_bound w before v now
   went_once sound x =
-      went_last (stands_new {hear = set_up_as} (record { errors = 0; waits = 0 }) w fits refl) sound
+      went_last (stands_new {hear = set_up_as} (grind arith) w fits refl) sound
       x
 
   pub cut_at_once : {hear : Outcome → HeardOutcome} {fault : BusFault}
       → Attempts a w before (Err fault) v now → Transacted hear a w (Err (Bus fault)) v
-  cut_at_once x = told_cut (stands_new (record { errors = 0; waits = 0 }) w fits refl) x
+  cut_at_once x = told_cut (stands_new (grind arith) w fits refl) x
 
 -- a poll that a NAK ended
 pub told_waiting : {toggle : Toggle} {a : Attempt} {t : Tries} {o : Outcome} {old mid new : World}
     {first before now : Option (List ℕ)} → TryStands (polled_as toggle) a t old first mid before
     → Attempts a mid before (Ok o) new now → o ≡ Nak → Waiting toggle a old new
-told_waiting s made is = grind (arith, trail_more, s.going.trail, s.going.onward)
+told_waiting s made is = grind (arith, trail_more)
 
 -- Setup data: three attempts at most
 
@@ -254,7 +232,7 @@ pub set_up_new : {a : Attempt} {text : Option (List ℕ)} (w : World) → IsAtte
 set_up_new w fits = record {
   spends = spends_none w;
   going = λ n. trying_none w fits;
-  ended = λ e. absurd (omega (arith, e));
+  ended = grind arith;
   traced = still;
 }
 
@@ -264,8 +242,7 @@ module _ {a : Attempt} {n : ℕ} {old mid : World} {first before : Option (List 
       {now : Option (List ℕ)}
       → IsAttempt b → Attempts b mid before r new now → StepRun 3 old first new now
   set_up_went {b} {r} {new} fits x = record {
-    spends =
-        grind (arith, spends_then, spends_wider, s.spends, x.counts.spends);
+    spends = grind (arith, spends_then, spends_wider);
     traced = attempted b r fits s.traced x;
   }
 
@@ -282,7 +259,7 @@ module _ {a : Attempt} {n : ℕ} {old mid : World} {first before : Option (List 
   set_up_again {o} {new} made not =
       let lost : Lost ≡ set_up_as o = set_up_lost o not in
       record {
-        spends = spends_then n 1 old mid new s.spends made.counts.spends;
+        spends = grind (arith, spends_then);
         going = grind (arith, going_more, s.going);
         ended = grind (arith, set_up_ended, s.going);
         traced = attempted a (Ok o) (s.going few).fits s.traced made;
@@ -311,9 +288,8 @@ record Lasted (n : ℕ) (old new : World) : Type 0 where
 
 trail_lasted : {a : Attempt} {old new : World} {outcomes : List Outcome}
     → AttemptLog a old outcomes new → Lasted (length outcomes) old new
-trail_lasted start = record { least = omega arith; sound = λ e. e }
-trail_lasted (next w t made) = let x = trail_lasted t in
-    record { least = omega (arith, x.least, made.one); sound = λ _. x.sound made.sound }
+trail_lasted start = grind arith
+trail_lasted (next w t made) = let x = trail_lasted t in grind arith
 
 trail_worked : {a : Attempt} {old new : World} {last : Outcome} {outcomes : List Outcome} (n : ℕ)
     → n ≤ length (last ∷ outcomes) → AttemptLog a old (last ∷ outcomes) new → AttemptsMade n old new
@@ -329,16 +305,14 @@ fits_length : (hear : Outcome → HeardOutcome) (outcomes : List Outcome)
 unfolding errors_running waits_in
 fits_length hear [] = (omega arith, omega arith)
 fits_length hear (o ∷ outcomes) = let le = fits_length hear outcomes in let one =
-    one_each (hear o) _ _ (length outcomes) le.0 le.1 in
-    (omega (arith, one.0), omega (arith, one.1))
+    one_each (hear o) _ _ (length outcomes) le.0 le.1 in grind arith
 
 module _ (hear : Outcome → HeardOutcome) (a : Attempt) (old new : World) where
   pub ends_of : (result : Result (List ℕ) TransFault) → Transacted hear a old result new
       → Ends old result new
   ends_of (Err Busy) x = trail_worked 256 (let le = (fits_length hear (x.last ∷ x.outcomes)).1 in
       omega (arith, le, x.tells)) x.trail
-  ends_of (Err NoAnswer) x = trail_worked 3 (let le = (fits_length hear (x.last ∷ x.outcomes)).0 in
-      omega (arith, le, x.tells)) x.trail
+  ends_of (Err NoAnswer) x = grind (arith, fits_length, trail_worked)
   ends_of (Err (Bus fault)) x = x.refused.ends
   ends_of _ x = trail_worked 1 (omega arith) x.trail
 
@@ -346,11 +320,11 @@ pub poll_ends : (toggle : Toggle) (a : Attempt) (old new : World)
     (result : Result (Option (List ℕ)) TransFault) → Polled toggle a old result new
     → Ends old result new
 poll_ends toggle a old new (Ok None) x = trail_worked 1 (omega arith) x.trail
-poll_ends toggle a old new (Ok (Some bytes)) x = ends_of (polled_as toggle) a old new (Ok bytes) x
-poll_ends toggle a old new (Err fault) x = ends_of (polled_as toggle) a old new (Err fault) x
+poll_ends toggle a old new (Ok (Some bytes)) x = search ends_of
+poll_ends toggle a old new (Err fault) x = search ends_of
 
 -- data that were read fit
 pub read_fits : {a : Attempt} (toggle : Toggle) (o : Outcome) (bytes : ArrayVec ℕ) {mid new : World}
     {before now : Option (List ℕ)} → Moved bytes ≡ heard_as toggle o
     → Attempts a mid before (Ok o) new now → length bytes.items ≤ a.max
-read_fits toggle o bytes e made = grind (arith, heard_moved, made.counts.fits)
+read_fits toggle o bytes e made = grind (arith, heard_moved)

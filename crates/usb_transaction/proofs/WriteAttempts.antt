@@ -32,12 +32,10 @@ module _ (u : State) (toggle : Toggle) (bytes : List ℕ) where
   NoNakReply r = IsNoNak r.0 × (r.1.naks ≡ u.naks)
 
   no_nak_status : (t : Toggle) (b : List ℕ) → NoNakReply (status_row u t b)
-  no_nak_status One [] = (tt, refl)
-  no_nak_status t b = (tt, refl)
+  no_nak_status t b = grind arith
 
   no_nak_write : (w : Write) (x : WriteData) → NoNakReply (write_row u w bytes x)
-  no_nak_write w Next = (tt, refl)
-  no_nak_write w x = (tt, refl)
+  no_nak_write w x = grind arith
 
   no_nak_row : (g : Stage) → NoNakReply (out_row u g toggle bytes)
   no_nak_row g = grind (arith, no_nak_status, no_nak_write)
@@ -86,8 +84,7 @@ module _ (u : State) (toggle : Toggle) (bytes : List ℕ) where
   expects_row (data_write w e few) =
       subst (λ g. Expects bytes (forgotten (out_row u g toggle bytes).1)) (sym e)
       (expects_packet w few e _)
-  expects_row (refused_write e) =
-      subst (λ g. Expects bytes (forgotten (out_row u g toggle bytes).1)) (sym e) (refused_write e)
+  expects_row (refused_write e) = grind arith
 
   expects_naks : Expects bytes u → Expects bytes (forgotten (nak_row u).1)
   expects_naks (data_write w e few) = data_write w e few
@@ -148,11 +145,11 @@ module _ (max : ℕ) (s : State) where
 
   ends_row : (g : Stage) → s.stage ≡ g
       → EndsOut (got max (out_row s g One []).0) (forgotten (out_row s g One []).1)
-  ends_row refused e = (refl, inl refl, in_no_read refused s e refl)
+  ends_row refused e = grind (arith, in_no_read)
   ends_row (reading text wanted k) e =
       let h = in_stage text wanted k e in (refl, inr (refl, h), (refl, h))
-  ends_row read e = (refl, inr (refl, over e), (refl, over e))
-  ends_row (writing w) e = (refl, inl refl, in_no_read (writing w) s e refl)
+  ends_row read e = grind arith
+  ends_row (writing w) e = grind (arith, in_no_read)
   ends_row g e = (refl, inl refl, tt)
 
   ends_by : (busy : Bool) → EndsOut (got max (row_of_busy s One [] busy).0)
