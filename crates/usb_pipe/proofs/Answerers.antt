@@ -1,14 +1,14 @@
 -- Who answered a transfer: a device that had the target's address all along, and is still
 -- reachable.
 use Rattle.std.specs.Global.{Vec}
-use Rattle.std.proofs.Common.{◌≡◌, ℕ, true, false, List, Option, None, Some, refl, sym, subst, ◌∙◌}
-use Rattle.std.proofs.Common.{◌≢◌, ap, inl, inr, [], take, Result, Ok, Err}
+use Rattle.std.proofs.Common.{arith, ◌≡◌, ℕ, true, false, List, Option, None, Some, refl, subst}
+use Rattle.std.proofs.Common.{◌≢◌, inl, inr, [], take, Result, Ok, Err}
 use Rattle.arrayvec.specs.ArrayVec.{ArrayVec}
 use Rattle.usb_packet.specs.{Toggle, One, flips}
 use Rattle.usb_request.specs.{bytes_of, setup_of, IsToHost, Setup}
 use Rattle.usb_device.specs.{State, Location, reach_on, state_on}
 use Rattle.usb_world.specs.{is_harmless, Relation, Was, World, Attempt}
-use Rattle.usb_tree.specs.{IsSettled, address_of}
+use Rattle.usb_tree.specs.{IsSettled}
 use Rattle.usb_tree.proofs.Interface.{equal_same}
 use Rattle.usb_transaction.specs.{Answerer, HadOne, heard_as, heard_when_sent, is_at, IsSpared}
 use Rattle.usb_transaction.specs.{polled_as, TransactionDone, Transacted, in_attempt, out_attempt}
@@ -44,15 +44,11 @@ pub record Passed (t : Target) (old new : World) : Type 0 where
   kept : IsSettled old.roots → new.shared ≡ false → (j : Location) → HasIt t new j → HasIt t old j
 
 passed_none : (t : Target) (w : World) → Passed t w w
-passed_none t w = record { settled = λ h. h; unshared = λ h. h; kept = λ h single j d. d }
+passed_none t w = grind arith
 
 pub passed_then : {t : Target} {old mid new : World} → Passed t old mid → Passed t mid new
     → Passed t old new
-passed_then x y = record {
-  settled = λ h. y.settled (x.settled h);
-  unshared = λ h. x.unshared (y.unshared h);
-  kept = λ h single j d. x.kept h (y.unshared single) j (y.kept (x.settled h) single j d);
-}
+passed_then x y = grind arith
 
 -- one that ended, where it changes no device with another address
 passed_one : {t : Target} {hear : _} {a : Attempt} {old new : World}
@@ -65,28 +61,26 @@ passed_one {t} {old = old} R others each e = record {
   settled = ended_settled e;
   unshared = ended_unshared e;
   kept = λ h single j d.
-      let was : Was R old j d.state = each h single j d.state d.on d.stands d.at in
+      let was : Was R old j d.state = grind arith in
       record {
         state = was.before;
         on = was.on;
         stands = was.stands;
-        at = had_address t was.before d.state (others j was.before d.state was.so) d.at;
+        at = grind (arith, had_address);
       };
 }
 
 -- a device at an address that is not 0 was not reset
 spared_at : (t : Target) (request : Setup) (s : State) → (is_harmless request ≡ false → t.addr ≢ 0)
     → is_at s t ≡ true → IsSpared t request s
-spared_at t request s addressed at h =
-    (addressed h, λ e. addressed h (sym (equal_same (address_of s) t.addr at) ∙ e))
+spared_at t request s addressed at = grind (arith, equal_same)
 
 pub set_up_passed : (t : Target) (request : Setup) {old new : World}
     → (is_harmless request ≡ false → t.addr ≢ 0) → setup_of (bytes_of request) ≡ request
     → SetUp t request old (Ok []) new → Passed t old new
 set_up_passed t request {old} {new} addressed same e =
     passed_one (Requested t request (Ok []) old new) (λ j s v x. x.done.others)
-    (λ h single j s on there at. requested_leaves t request (Ok []) old new same h e single j s on
-    there (spared_at t request s addressed at)) e
+    (search (requested_leaves, spared_at)) e
 
 -- an IN, and an OUT
 fetched_passed : (t : Target) (ep : ℕ) (awaited : Toggle) (bytes : List ℕ) {old new : World}
@@ -112,7 +106,7 @@ goes_passed : (t : Target) {wanted : ℕ} {old : World} {n : ℕ} {got : List �
     → Goes t wanted old n got new → Passed t old new
 goes_passed t {old} stages.start = passed_none t old
 goes_passed t (stages.packet {n} bytes g x l) =
-    passed_then (goes_passed t g) (fetched_passed t 0 (flips n One) bytes x)
+    passed_then (goes_passed t g) (search fetched_passed)
 
 stage_passed : (t : Target) {wanted : ℕ} {bytes : List ℕ} {old new : World}
     → DataStage t wanted old bytes new → Passed t old new
@@ -123,13 +117,13 @@ pub gave_passed : (t : Target) (ep : ℕ) (first : Toggle) {old : World} {n : �
     {new : World} → Gave t ep first old n sent new → Passed t old new
 gave_passed t ep first {old} moves.start = passed_none t old
 gave_passed t ep first (moves.packet {n} bytes g full some fits puts) =
-    passed_then (gave_passed t ep first g) (put_passed t ep (flips n first) bytes puts)
+    passed_then (gave_passed t ep first g) (search put_passed)
 
 came_passed : (t : Target) (ep : ℕ) (first : Toggle) {old : World} {n : ℕ} {got : List ℕ}
     {new : World} → Came t ep first old n got new → Passed t old new
 came_passed t ep first {old} moves.start = passed_none t old
 came_passed t ep first (moves.packet {n} bytes c fetches full) =
-    passed_then (came_passed t ep first c) (fetched_passed t ep (flips n first) bytes fetches)
+    passed_then (came_passed t ep first c) (search fetched_passed)
 
 -- The device that answered the last one
 
@@ -140,73 +134,46 @@ answered_last : {t : Target} (hear : _) (a : Attempt) {old mid : World} (new : W
 answered_last {t} hear a {old} {mid} new result x settled e single last =
     let later : IsSettled mid.roots = x.settled settled in
     let y : Answerer t mid new = last later in
-    let had : HasIt t old y.spot = x.kept settled
-    (transacted_unshared hear a mid new result e later single) y.spot
-    (record { state = y.before; on = y.was_on; stands = y.stood; at = y.at }) in
-    record {
-      spot = y.spot;
-      now = y.now;
-      on = y.on;
-      stands = y.stands;
-      before = had.state;
-      was_on = had.on;
-      stood = had.stands;
-      at = had.at;
-    }
+    let had : HasIt t old y.spot = grind (arith, transacted_unshared) in grind arith
 
 -- of an IN, and of an OUT
 pub in_answered : (t : Target) (ep : ℕ) (awaited : Toggle) (result : Result (List ℕ) TransFault)
     {old mid new : World} → Passed t old mid → IsSettled old.roots → IsGiven result
     → Transacted (heard_as awaited) (in_attempt t ep) mid result new → new.shared ≡ false
     → Answerer t old new
-in_answered t ep awaited result {old} {mid} {new} x settled y e single =
-    answered_last (heard_as awaited) (in_attempt t ep) new result x settled e single
-    (λ h. who_in t ep (heard_as awaited) refl result mid new h y e single)
+in_answered t ep awaited result x settled y e single = grind (arith, answered_last, who_in)
 
 out_answered : (t : Target) (ep : ℕ) (toggle : Toggle) (bytes : List ℕ)
     (result : Result (List ℕ) TransFault) {old mid new : World} → Passed t old mid
     → IsSettled old.roots → IsGiven result
     → Transacted heard_when_sent (out_attempt t ep toggle bytes) mid result new
     → new.shared ≡ false → Answerer t old new
-out_answered t ep toggle bytes result {old} {mid} {new} x settled y e single =
-    answered_last heard_when_sent (out_attempt t ep toggle bytes) new result x settled e single
-    (λ h. who_out t ep toggle bytes result mid new h y e single)
+out_answered t ep toggle bytes result x settled y e single = grind (arith, answered_last, who_out)
 
 -- it is the device of the pipe
 pub of_device : (t : Target) (max : ℕ) {old new : World} → Answerer (packet_target t max) old new
     → Answerer t old new
-of_device t max a = record {
-  spot = a.spot;
-  now = a.now;
-  on = a.on;
-  stands = a.stands;
-  before = a.before;
-  was_on = a.was_on;
-  stood = a.stood;
-  at = a.at;
-}
+of_device t max a = grind arith
 
 -- a fault that is an answer is one of the transaction, too
 given_fault : (why : PipeFault) (fault : TransFault) → why ≡ as_pipe_fault fault
     → IsTransferAnswer why → IsGiven {A = List ℕ} (Err fault)
-given_fault why trans.Stalled e y = tt
-given_fault why trans.Busy e y = tt
-given_fault why fault e y = absurd (subst IsTransferAnswer e y)
+given_fault why fault e y = grind arith
 
 -- Control transfers
 
 -- a request for data resets none
 host_addressed : (t : Target) (request : Setup) → IsToHost request → is_harmless request ≡ false
     → t.addr ≢ 0
-host_addressed t request host h = absurd (cc (sym (host_harmless request host) ∙ h))
+host_addressed t request host h = grind (arith, host_harmless)
 
 pub who_reads : (t : Target) (request : Setup) (bytes : Vec ℕ) (old new : World) → IsToHost request
     → setup_of (bytes_of request) ≡ request
     → IsSettled old.roots → Reads t request old (Ok bytes) new → new.shared ≡ false
     → Answerer t old new
 who_reads t request bytes old new host same settled x single =
-    out_answered t 0 One [] (Ok []) (passed_then (set_up_passed t request
-    (host_addressed t request host) same x.set_up) (stage_passed t x.data_stage)) settled tt
+    out_answered t 0 One [] (Ok []) (passed_then (search (host_addressed, set_up_passed, x.set_up))
+    (stage_passed t x.data_stage)) settled tt
     x.status single
 
 pub who_writes : (t : Target) (request : Setup) (u : Unit {0}) (old new : World)
@@ -214,7 +181,7 @@ pub who_writes : (t : Target) (request : Setup) (u : Unit {0}) (old new : World)
     → IsSettled old.roots → Writes t request old (Ok u) new → new.shared ≡ false
     → Answerer t old new
 who_writes t request u old new same addressed settled x single =
-    in_answered t 0 One (Ok x.given) (set_up_passed t request addressed same x.set_up) settled tt
+    in_answered t 0 One (Ok x.given) (search (set_up_passed, x.set_up)) settled tt
     x.status single
 
 no_set_up_had : (t : Target) (request : Setup) (why : PipeFault) (old new : World)
@@ -223,7 +190,7 @@ no_set_up_had : (t : Target) (request : Setup) (why : PipeFault) (old new : Worl
     → IsTransferAnswer why → NoSetUp t request old why new → new.shared ≡ false → HadOne t old
 no_set_up_had t request why old new same addressed settled y x single =
     had_one (who_set_up t (bytes_of request) (Err x.fault) old new (bytes_of-length request)
-    (λ h. addressed (ap is_harmless (sym same) ∙ h)) settled (given_fault why x.fault x.told y)
+    (grind arith) settled (given_fault why x.fault x.told y)
     x.set_up single)
 
 pub who_read_had : (t : Target) (request : Setup) (why : PipeFault) (old new : World)
@@ -231,10 +198,9 @@ pub who_read_had : (t : Target) (request : Setup) (why : PipeFault) (old new : W
     → IsSettled old.roots → IsTransferAnswer why → Reads t request old (Err why) new
     → new.shared ≡ false → HadOne t old
 who_read_had t request why old new host same settled y (inl x) single =
-    no_set_up_had t request why old new same (host_addressed t request host) settled y x single
+    search (host_addressed, no_set_up_had)
 who_read_had t request why old new host same settled y (inr (inl x)) single =
-    let set_up : Passed t old x.mid = set_up_passed t request (host_addressed t request host) same
-    x.set_up in
+    let set_up : Passed t old x.mid = search (host_addressed, set_up_passed, x.set_up) in
     elim x.data_stage [
       | inl d ↦ had_one (in_answered t 0 (flips d.packets One) (Err d.fault)
           (passed_then set_up (goes_passed t d.before)) settled (given_fault why d.fault d.told y)
@@ -243,18 +209,18 @@ who_read_had t request why old new host same settled y (inr (inl x)) single =
           (passed_then set_up (goes_passed t d.before)) settled tt d.came single)
     ]
 who_read_had t request why old new host same settled y (inr (inr x)) single =
-    had_one (out_answered t 0 One [] (Err x.fault) (passed_then (set_up_passed t request
-    (host_addressed t request host) same x.set_up) (stage_passed t x.data_stage)) settled
+    had_one (out_answered t 0 One [] (Err x.fault)
+    (passed_then (search (host_addressed, set_up_passed, x.set_up))
+    (stage_passed t x.data_stage)) settled
     (given_fault why x.fault x.told y) x.status single)
 
 pub who_write_had : (t : Target) (request : Setup) (why : PipeFault) (old new : World)
     → setup_of (bytes_of request) ≡ request → (is_harmless request ≡ false → t.addr ≢ 0)
     → IsSettled old.roots → IsTransferAnswer why → Writes t request old (Err why) new
     → new.shared ≡ false → HadOne t old
-who_write_had t request why old new same addressed settled y (inl x) single =
-    no_set_up_had t request why old new same addressed settled y x single
+who_write_had t request why old new same addressed settled y (inl x) single = search no_set_up_had
 who_write_had t request why old new same addressed settled y (inr x) single =
-    had_one (in_answered t 0 One (Err x.fault) (set_up_passed t request addressed same x.set_up)
+    had_one (in_answered t 0 One (Err x.fault) (search (set_up_passed, x.set_up))
     settled (given_fault why x.fault x.told y) x.status single)
 
 -- Bulk transfers
@@ -268,14 +234,11 @@ gone_answered t ep first settled (moves.packet {n} bytes g full more fits puts) 
     out_answered t ep (flips n first) bytes (Ok []) (gave_passed t ep first g) settled tt puts
     single
 
-pub who_sends : (bytes : List ℕ) (pipe : PipeState) (u : Unit {0}) (left : PipeState) (old new : World)
+pub who_sends : (bytes : List ℕ) (pipe : PipeState) (u : Unit {0}) (left : PipeState)
+    (old new : World)
     → bytes ≢ []
     → Sends bytes pipe old (Ok u) left new → new.shared ≡ false → Answerer pipe.target old new
-who_sends bytes pipe u left old new some x single =
-    let works : pipe.condition ≢ Broken = λ e. cc (x.broken e).answer in
-    let s = x.moved works some in
-    of_device pipe.target pipe.max (gone_answered (end_of pipe) pipe.ep pipe.toggle
-    s.settled s.went.gone some single)
+who_sends bytes pipe u left old new some x single = grind (arith, end_of, gone_answered, of_device)
 
 module _ (pipe : PipeState) {old new : World} (settled : IsSettled old.roots)
     (single : new.shared ≡ false) where
@@ -286,7 +249,7 @@ module _ (pipe : PipeState) {old new : World} (settled : IsSettled old.roots)
       → Answerer pipe.target old new
   came_answered {n} result c y e = of_device pipe.target pipe.max
       (in_answered (end_of pipe) pipe.ep (flips n pipe.toggle) result
-      (came_passed (end_of pipe) pipe.ep pipe.toggle c) settled y e single)
+      (search (came_passed, end_of)) settled y e single)
 
 pub who_receives : (wanted : ℕ) (pipe : PipeState) (bytes : Vec ℕ) (left : PipeState) (old new : World)
     → wanted ≢ 0 → Receives wanted pipe old (Ok bytes) left new → new.shared ≡ false
@@ -352,6 +315,6 @@ pub who_packet_had : (pipe : PipeState) (why : PipeFault) (left : PipeState) (ol
     → IsTransferAnswer why
     → PipePolls pipe old (Err why) left new → new.shared ≡ false → HadOne pipe.target old
 who_packet_had pipe why left old new y x single =
-    poll_by (HadOne pipe.target old) (λ i. absurd (not_broken why y (cc i.answer)))
+    poll_by (HadOne pipe.target old) (grind (arith, not_broken))
     (λ works m. had_one (of_device pipe.target pipe.max
     (poll_answered (polled_pipe pipe) why (polled_pipe left) old new m.settled y m.polls single))) x

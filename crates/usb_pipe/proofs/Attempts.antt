@@ -19,7 +19,6 @@ use Rattle.usb_pipe.specs.{IsOfTransfer, TransferAttempts, PipeState, halt_addre
 use Rattle.usb_pipe.specs.{Clears, Sends, as_pipe_fault, packet_target, Interrupt, Polls, PollAsked}
 use Rattle.usb_pipe.specs.{IsBehind, Came, ReceiveEnds, Gave, SendsAt, SendEnds, Goes, DataStage}
 use Rattle.usb_pipe.specs.{SetUp, DataLost, NoRoom, Reads, Writes, PipeFault, PipePolls}
-use Rattle.usb_pipe.specs.{polled_pipe}
 use Rattle.usb_pipe.specs.Moves as moves
 use Rattle.usb_pipe.specs.Stages as stages
 use Rattle.usb_pipe.specs.declared.fault.PipeFault.TheVariants as pipe_fault
@@ -104,9 +103,7 @@ module _ (t : Target) (request : Setup) where
       (λ o w r on. inr (inl refl)) why d.fault d.told
       (course_joined c (behind (goes_behind d.before))) d.lost
   no_data why old mid new c (inr d) = record {
-    whole =
-        λ n. course_joined c (behind (course_joined (goes_behind d.before)
-        (in_behind (flips d.packets One) d.came)));
+    whole = search (behind, course_joined, goes_behind, in_behind, d.before, d.packets, d.came);
     cut = λ f e. cc (d.told, e);
   }
 
@@ -141,8 +138,8 @@ pub clear_attempts : (is_sent : Bool) (pipe : PipeState) (result : Result (Unit 
     → TransferAttempts (IsOfTransfer pipe.target
     (clear_endpoint_halt (halt_address pipe.ep pipe.is_in))) old result new
 clear_attempts is_sent pipe result left old new x =
-    clear_by _ (λ none i. idle_kind i.world_kept (λ f e. cc (i.answer, e)))
-    (λ some y. write_attempts pipe.target _ result old new y.stages) x
+    clear_by _ (grind (arith, idle_kind))
+    (grind (arith, write_attempts)) x
 
 -- Pipes to the host
 
@@ -159,15 +156,15 @@ moved_attempts : (t : Target) (ep : ℕ) (first : Toggle) (wanted : ℕ)
 moved_attempts t ep first wanted result old new x =
     grind (arith, came_attempts, course_joined, lost_kind, trail_course)
 
-pub receive_attempts : (wanted : ℕ) (pipe : PipeState) (result : Result (Vec ℕ) PipeFault) (left : PipeState)
+pub receive_attempts : (wanted : ℕ) (pipe : PipeState) (result : Result (Vec ℕ) PipeFault)
+    (left : PipeState)
     (old new : World) → Receives wanted pipe old result left new
     → TransferAttempts (IsOnly (in_attempt (packet_target pipe.target pipe.max) pipe.ep)) old
     result new
 receive_attempts wanted pipe result left old new x =
-    receive_by _ (λ broken kept same. idle_kind same (λ f e. cc (broken, e)))
-    (λ bytes is none kept same. idle_kind same (λ f e. cc (is, e)))
-    (λ works some y. moved_attempts (packet_target pipe.target pipe.max) pipe.ep pipe.toggle wanted
-    result old new y.came) x
+    receive_by _ (grind (arith, idle_kind))
+    (grind (arith, idle_kind))
+    (grind (arith, moved_attempts)) x
 
 -- Polls
 
@@ -187,8 +184,8 @@ pub packet_attempts : (pipe : PipeState) (result : Result (Option (ArrayVec ℕ)
     → TransferAttempts (IsOnly (in_attempt (packet_target pipe.target pipe.max) pipe.ep)) old
     result new
 packet_attempts pipe result left old new x =
-    poll_by _ (λ i. idle_kind i.world_kept (λ f e. cc (i.answer, e)))
-    (λ works y. asked_attempts (polled_pipe pipe) result old new y.polls.asked) x
+    poll_by _ (grind (arith, idle_kind))
+    (grind (arith, asked_attempts)) x
 
 -- Sends, packet by packet
 
@@ -196,9 +193,8 @@ packet_attempts pipe result left old new x =
 take-packet : (max : ℕ) (bytes rest : List ℕ) → length bytes ≤ max
     → (0 < length rest → length bytes ≡ max) → take max (bytes ++ rest) ≡ bytes
 take-packet max bytes [] short full = let all : min max (length bytes) ≡ length bytes =
-    omega (arith, short) in rw (append-nil bytes, ← take_min max bytes, all) (take-length bytes)
-take-packet max bytes (b ∷ rest) short full = let e : max ≡ length bytes =
-    sym (full (omega arith)) in rw e (take-append_seam bytes (b ∷ rest))
+    omega (arith, short) in grind (arith, append-nil, take-length, take_min)
+take-packet max bytes (b ∷ rest) short full = grind (arith, take-append_seam)
 
 module _ (t : Target) (ep : ℕ) (first : Toggle) (total : List ℕ) (old : World) where
   abbrev Kind : Step → World → Type 0
@@ -223,33 +219,29 @@ module _ (t : Target) (ep : ℕ) (first : Toggle) (total : List ℕ) (old : Worl
   gave_course {now = now} (moves.packet {n} {sent} {mid} bytes g even some fits puts) rest split
       full =
       let j = length-append sent bytes in
-      let front : take t.max (bytes ++ rest) ≡ bytes =
-      take-packet t.max bytes rest fits (λ lt. let f = full lt in omega (arith, j, f, even)) in
+      let front : take t.max (bytes ++ rest) ≡ bytes = grind (arith, take-packet) in
       let behind : total ≡ sent ++ (bytes ++ rest) = split ∙ append_assoc sent bytes rest in
       let went : TransactionDone heard_when_sent
       (out_attempt t ep (flips n first) (take t.max (bytes ++ rest))) mid (Ok []) now =
       rw front puts in
       course_joined (gave_course g (bytes ++ rest) behind (λ lt. even))
-      (last_kind Kind heard_when_sent _ (moment_is (bytes ++ rest) g even behind) went.trail
-      went.onward)
+      (search (behind, last_kind, moment_is))
 
   send_ends : (result : Result (Unit {0}) PipeFault) (new : World)
       → SendEnds t ep first total old result new → TransferAttempts Kind old result new
   send_ends (Ok done) new x = record {
-    whole = λ n. gave_course x.gone [] (sym (append-nil total)) (λ lt. absurd (omega (arith, lt)));
+    whole = λ n. gave_course x.gone [] (sym (append-nil total)) (grind arith);
     cut = λ f e. cc e;
   }
   send_ends (Err why) new x =
       lost_kind Kind heard_when_sent (out_attempt t ep (flips x.packets first) (take t.max x.rest))
       (moment_is x.rest x.before x.full x.split) why x.fault x.told
-      (gave_course x.before x.rest x.split (λ lt. x.full)) x.lost
+      (grind (arith, gave_course)) x.lost
 
 pub send_attempts : (bytes : List ℕ) (pipe : PipeState) (result : Result (Unit {0}) PipeFault)
     (left : PipeState) (old new : World) → Sends bytes pipe old result left new
     → TransferAttempts (SendsAt (packet_target pipe.target pipe.max) pipe.ep pipe.toggle bytes
     old) old result new
 send_attempts bytes pipe result left old new x =
-    send_by _ (λ i. idle_kind i.world_kept (λ f e. cc (i.answer, e)))
-    (λ none i. idle_kind i.world_kept (λ f e. cc (i.answer, e)))
-    (λ works some y. send_ends (packet_target pipe.target pipe.max) pipe.ep pipe.toggle bytes old
-    result new y.went) x
+    send_by _ (grind (arith, idle_kind))
+    (grind (arith, idle_kind)) (grind (arith, send_ends)) x

@@ -13,7 +13,7 @@ unfolding control_bound byte_bound
 bound_wide max length wide = rw (le-leb 8 max wide) refl
 
 pub bound_grows : (max m n : ℕ) → m ≤ n → byte_bound max * m ≤ byte_bound max * n
-bound_grows max m n le = mul-le-mul_left (byte_bound max) le
+bound_grows max m n le = grind arith
 
 full_packet_by : (b : Bool) (max m n : ℕ) → nat_le 8 max ≡ b → 1 ≤ max → m + max ≤ n
     → (if b then 100 else transaction_bound) * m + transaction_bound

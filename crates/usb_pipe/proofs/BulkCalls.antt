@@ -1,6 +1,6 @@
 -- A call through a bulk pipe: it made no attempt, or its transfer.
-use Rattle.std.proofs.Common.{◌≡◌, ◌≢◌, ◌∙◌, ◌⊎◌, inl, inr, refl, sym, arith, eq-zero-or-pos, ℕ}
-use Rattle.std.proofs.Common.{List, [], ◌∷◌, length, Bool, true, false, Option, Result, Ok, Err}
+use Rattle.std.proofs.Common.{◌≡◌, ◌≢◌, ◌⊎◌, inl, inr, refl, arith, ℕ, List, [], ◌∷◌, length, Bool}
+use Rattle.std.proofs.Common.{true, false, Option, Result, Ok, Err}
 use Rattle.arrayvec.specs.ArrayVec.{ArrayVec}
 use Rattle.std.specs.Global.{Vec}
 use Rattle.std.specs.Int.{div_ceil}
@@ -27,7 +27,8 @@ condition_decided c d = grind arith
 pub ready_or : (G : Type 0) (c : Condition) → c ≢ Broken → (c ≡ Ready → G) → (c ≡ Halted → G) → G
 ready_or G c works ready halted = grind (arith, condition_decided)
 
-pub send_by : {bytes : List ℕ} {pipe : PipeState} {old : World} {result : Result (Unit {0}) PipeFault}
+pub send_by : {bytes : List ℕ} {pipe : PipeState} {old : World}
+    {result : Result (Unit {0}) PipeFault}
     {left : PipeState} {new : World} (G : Type 0)
     → (Idle (Err pipe_fault.Broken) pipe old result left new → G)
     → (bytes ≡ [] → Idle (Ok tt) pipe old result left new → G)
@@ -40,9 +41,8 @@ send_by {bytes} {pipe} G broken nothing moved x =
     ]
   where
     by_bytes : pipe.condition ≢ Broken → (b : List ℕ) → bytes ≡ b → G
-    by_bytes works [] e = nothing e (x.nothing works e)
-    by_bytes works (b ∷ more) e = moved works (λ h. cc (sym e ∙ h))
-        (x.moved works (λ h. cc (sym e ∙ h)))
+    by_bytes works [] e = grind arith
+    by_bytes works (b ∷ more) e = grind arith
 
 pub receive_by : {wanted : ℕ} {pipe : PipeState} {old : World} {result : Result (Vec ℕ) PipeFault}
     {left : PipeState} {new : World} (G : Type 0)
@@ -50,7 +50,7 @@ pub receive_by : {wanted : ℕ} {pipe : PipeState} {old : World} {result : Resul
     → ((bytes : Vec ℕ) → result ≡ Ok bytes → bytes.items ≡ [] → left ≡ pipe → new ≡ old → G)
     → (pipe.condition ≢ Broken → wanted ≢ 0 → MovedIn wanted pipe old result left new → G)
     → Receives wanted pipe old result left new → G
-receive_by G broken nothing moved x = grind (arith, condition_decided, eq-zero-or-pos)
+receive_by G broken nothing moved x = grind (arith, condition_decided)
 
 pub poll_by : {pipe : PipeState} {old : World} {result : Result (Option (ArrayVec ℕ)) PipeFault}
     {left : PipeState} {new : World} (G : Type 0)

@@ -2,11 +2,10 @@
 use Rattle.usb_device.specs.{Location, ServedEndpoint, BulkOut, BulkIn, Registers, Spec, served}
 use Rattle.usb_device.specs.{outcome, unhalts, on_endpoint, first_stage, ending, rested, State}
 use Rattle.usb_device.specs.{begun_again, rested_in, rested_out, accepted, IsSink, IsSource}
-use Rattle.usb_device.specs.{StatusGiven, OnlyControl, OnlyStage, in_end, out_end, no_in, no_out}
+use Rattle.usb_device.specs.{StatusGiven, OnlyControl, OnlyStage, in_end, out_end}
 use Rattle.usb_device.proofs.Interface.{at_other, at_same, served-in, served-out}
-use Rattle.std.proofs.Common.{◌≡◌, ◌≢◌, ◌⊎◌, inl, inr, ◌∙◌, refl, sym, ap, arith, false, true, Bool}
-use Rattle.std.proofs.Common.{ℕ, ◌+◌, ◌*◌, ◌/◌, ◌%◌, List, None, Option, Result, Ok, Err, OnOk}
-use Rattle.std.proofs.Common.{MatchResult}
+use Rattle.std.proofs.Common.{◌≡◌, ◌≢◌, ◌⊎◌, inl, inr, ◌∙◌, refl, arith, false, true, Bool, ℕ, ◌+◌}
+use Rattle.std.proofs.Common.{◌*◌, ◌/◌, ◌%◌, List, None, Option, Result, Ok, Err, OnOk, MatchResult}
 use Rattle.std.proofs.lemmas.Bool.Decides.{nat_tests}
 use Rattle.usb_request.specs.{Setup, bytes_of, setup_of, clear_endpoint_halt}
 use Rattle.usb_port.specs.{PortState}
@@ -65,10 +64,10 @@ clear_of-in pipe s is i = outcome-clear_halt s.spec s.registers (halt_address pi
 
 out_rests : (e : ℕ) (s : State)
     → out_end (begun_again s (BulkOut e)) e ≡ rested_out (out_end s e)
-out_rests e s = at_same no_out e (rested_out (out_end s e)) s.outs
+out_rests e s = grind (arith, at_same)
 
 in_rests : (e : ℕ) (s : State) → in_end (begun_again s (BulkIn e)) e ≡ rested_in (in_end s e)
-in_rests e s = at_same no_in e (rested_in (in_end s e)) s.ins
+in_rests e s = grind (arith, at_same)
 
 module _ (e a : ℕ) (s : State) where
   -- this one is the one that begins again, or is as it was
@@ -150,12 +149,10 @@ done_leaves pipe done j s v x = record {
   source = grind (arith, clear_of-in, ended_rests, in_rests, x.done);
   only_sink = λ out i. only_by (BulkOut pipe.ep) s v (is_at s pipe.target) x.others (λ at.
       let d = x.done at done refl in
-      only_rested (BulkOut pipe.ep) s v (ended_rests (clear_of pipe) (BulkOut pipe.ep) s
-      (asks_out pipe s out i) d.row d.address v d.is d.given d.rest));
+      only_rested (BulkOut pipe.ep) s v (grind (arith, asks_out, ended_rests)));
   only_source = λ is i. only_by (BulkIn pipe.ep) s v (is_at s pipe.target) x.others (λ at.
       let d = x.done at done refl in
-      only_rested (BulkIn pipe.ep) s v (ended_rests (clear_of pipe) (BulkIn pipe.ep) s
-      (clear_of-in pipe s is i) d.row d.address v d.is d.given d.rest));
+      only_rested (BulkIn pipe.ep) s v (grind (arith, clear_of-in, ended_rests)));
 }
 
 -- one that failed
@@ -166,8 +163,7 @@ failed_sink : (pipe : PipeState) (s v : State) → OutPipeInSync pipe s → Only
     × ((out_end v pipe.ep).sink ≡ (out_end s pipe.ep).sink)
     × (((out_end v pipe.ep).state ≡ (out_end s pipe.ep).state)
     ⊎ ((out_end v pipe.ep).state ≡ rested))
-failed_sink pipe s v f (inl o) = grind arith
-failed_sink pipe s v f (inr o) = let there = out_rests pipe.ep s in grind (arith, there)
+failed_sink pipe s v f h = grind (arith, out_rests)
 
 failed_source : (pipe : PipeState) (got : ℕ) (s v : State) → InPipeInSync pipe got s → OnlyStage s v
     ⊎ OnlyRested (BulkIn pipe.ep) s v
@@ -175,8 +171,7 @@ failed_source : (pipe : PipeState) (got : ℕ) (s v : State) → InPipeInSync pi
     × ((in_end v pipe.ep).place ≡ (in_end s pipe.ep).place)
     × (((in_end v pipe.ep).state ≡ (in_end s pipe.ep).state)
     ⊎ ((in_end v pipe.ep).state ≡ rested))
-failed_source pipe got s v f (inl o) = grind arith
-failed_source pipe got s v f (inr o) = let there = in_rests pipe.ep s in grind (arith, there)
+failed_source pipe got s v f h = grind (arith, in_rests)
 
 failed_leaves : (pipe : PipeState) (why : PipeFault) (old new : World) → FaultAfter 1 old why new
     → (j : Location) (s v : State) → WriteLeaves pipe.target (clear_of pipe) (Err why) old new j s v
@@ -186,29 +181,23 @@ failed_leaves pipe why old new ends j s v x = record {
   sink = λ at out f.
       let is = asks_out pipe s out f.endpoint in
       let told : why ≢ pipe_fault.Stalled =
-      λ e. not_refused (clear_of pipe) (BulkOut pipe.ep) s is (x.refused at (ap Err e)) in
+      λ e. grind (arith, not_refused) in
       grind (
         arith,
         ends,
-        failed_sink pipe s v f
-            (failed_rests (clear_of pipe) (BulkOut pipe.ep) s is v (x.failed why refl)),
+        failed_sink pipe s v f (grind (arith, failed_rests)),
       );
   source = λ at way got f.
       let is = clear_of-in pipe s way f.endpoint in
       let told : why ≢ pipe_fault.Stalled =
-      λ e. not_refused (clear_of pipe) (BulkIn pipe.ep) s is (x.refused at (ap Err e)) in
+      λ e. grind (arith, not_refused) in
       grind (
         arith,
         ends,
-        failed_source pipe got s v f
-            (failed_rests (clear_of pipe) (BulkIn pipe.ep) s is v (x.failed why refl)),
+        failed_source pipe got s v f (grind (arith, failed_rests)),
       );
-  only_sink = λ out i. only_either (BulkOut pipe.ep) s v
-      (failed_rests (clear_of pipe) (BulkOut pipe.ep) s (asks_out pipe s out i) v
-      (x.failed why refl));
-  only_source = λ is i. only_either (BulkIn pipe.ep) s v
-      (failed_rests (clear_of pipe) (BulkIn pipe.ep) s (clear_of-in pipe s is i) v
-      (x.failed why refl));
+  only_sink = λ out i. only_either (BulkOut pipe.ep) s v (grind (arith, asks_out, failed_rests));
+  only_source = λ is i. only_either (BulkIn pipe.ep) s v (grind (arith, clear_of-in, failed_rests));
 }
 
 -- one that makes no request
@@ -225,34 +214,25 @@ ClearTold is_sent pipe result left =
 module _ (pipe left : PipeState) (old new : World) (single : new.shared ≡ false) where
   sent_told : (result : Result (Unit {0}) PipeFault) → Cleared pipe old result left new
       → EachWas (ClearTold true pipe result (cleared pipe result) old) old new
-  sent_told result y = by_result result y.ends (spared_all pipe.target (clear_of pipe) _ old new
-      (harmless _) (each_write_told pipe.target (clear_of pipe) result old new (clear_halt-length _)
-      (same_request _) y.settled y.stages single))
+  sent_told result y = by_result result y.ends
+      (grind (arith, clear_halt-length, each_write_told, harmless, same_request, spared_all))
     where
       by_result : (r : Result (Unit {0}) PipeFault)
           → MatchResult r (λ done. AttemptsMade 2 old new) (λ why. FaultAfter 1 old why new)
           → EachWas (DeviceTold (WriteLeaves pipe.target (clear_of pipe) r old new)
           (WriteFailure pipe.target r) old) old new
           → EachWas (ClearTold true pipe r (cleared pipe r) old) old new
-      by_result (Ok done) ends w = each_wider _ _ (λ j s v y. record {
-        leaves = done_leaves pipe done j s v y.leaves;
-        why = y.why;
-      }) old new w
-      by_result (Err why) ends w = each_wider _ _ (λ j s v y. record {
-        leaves = failed_leaves pipe why old new ends j s v y.leaves;
-        why = y.why;
-      }) old new w
+      by_result (Ok done) ends w = each_wider _ _ (grind (arith, done_leaves)) old new w
+      by_result (Err why) ends w = each_wider _ _ (grind (arith, failed_leaves)) old new w
 
 each_clear : (is_sent : Bool) (pipe : PipeState) (result : Result (Unit {0}) PipeFault)
     (left : PipeState) (old new : World) → Clears is_sent pipe old result left new
     → new.shared ≡ false → EachWas (ClearTold is_sent pipe result left old) old new
 each_clear is_sent pipe result left old new x single =
     clear_by (EachWas (ClearTold is_sent pipe result left old) old new)
-    (λ none i. rw (none, i.answer, i.pipe_kept, i.world_kept) (each_none _ (λ j s. record {
-      leaves = none_leaves pipe j s;
-      why = λ three. record { answered = λ l e. cc e; waited = λ l idle few e. cc e };
-    }) old))
-    (λ some y. rw (some, y.pipe_left) (sent_told pipe left old new single result y)) x
+    (λ none i. rw (none, i.answer, i.pipe_kept, i.world_kept)
+    (grind (arith, each_none, none_leaves)))
+    (λ some y. rw (some, y.pipe_left) (search sent_told)) x
 
 pub clear_leaves : (is_sent : Bool) (pipe : PipeState) (result : Result (Unit {0}) PipeFault)
     (left : PipeState) (old new : World) → Clears is_sent pipe old result left new
@@ -266,7 +246,7 @@ clear_who : (is_sent : Bool) (pipe : PipeState) (result : Result (Unit {0}) Pipe
 clear_who is_sent pipe (Ok done) left old new x = λ some.
     let c = x.sent some in
     who_writes pipe.target (clear_of pipe) done old new (same_request _)
-    (λ h. cc (sym (harmless (halt_address pipe.ep pipe.is_in)) ∙ h)) c.settled c.stages
+    (grind (arith, harmless)) c.settled c.stages
 clear_who is_sent pipe (Err why) left old new x = tt
 
 pub clear_told : (is_sent : Bool) (pipe : PipeState) (result : Result (Unit {0}) PipeFault)
@@ -275,10 +255,10 @@ pub clear_told : (is_sent : Bool) (pipe : PipeState) (result : Result (Unit {0})
 clear_told is_sent pipe result left old new x =
     record {
       clears = x;
-      what = clear_leaves is_sent pipe result left old new x;
+      what = grind (arith, clear_leaves);
       why = λ three sound single. told_why old new three
           (each_clear is_sent pipe result left old new x single);
-      who = clear_who is_sent pipe result left old new x;
+      who = grind (arith, clear_who);
     }
 
 -- The three ways to a clear: it is asked for, it is needed, or it is not
@@ -286,7 +266,7 @@ clear_told is_sent pipe result left old new x =
 pub clear_sent : (pipe : PipeState) (result : Result (Unit {0}) PipeFault) (left : PipeState)
     (old new : World) → Cleared pipe old result left new → PipeClear true pipe old result left new
 clear_sent pipe result left old new y =
-    clear_told true pipe result left old new (record { ready = λ none. cc none; sent = λ some. y })
+    clear_told true pipe result left old new (grind arith)
 
 pub clear_needed : (pipe : PipeState) (result : Result (Unit {0}) PipeFault) (left : PipeState)
     (old new : World) → needs_clear pipe ≡ true → PipeClear true pipe old result left new

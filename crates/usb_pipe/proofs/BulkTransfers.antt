@@ -1,11 +1,11 @@
 -- Bulk transfers: what sending and receiving leave of each device, in the end and at each moment,
 -- why they fail, and the record of a call.
 use Rattle.usb_device.specs.{Location, State, IsSink, SinkAt, level, ahead, Joined, OnlySink}
-use Rattle.usb_device.specs.{IsSource, SourceAt, OnlySource, in_data, in_end, out_end, packet_in}
-use Rattle.usb_device.specs.{next_packet, GivesWithin, HasPackets, IsPrompt}
-use Rattle.std.proofs.Common.{◌≡◌, ◌≢◌, ◌∙◌, ◌⊎◌, inl, inr, refl, sym, ap, subst, arith, false}
-use Rattle.std.proofs.Common.{true, ℕ, ◌+◌, ◌<◌, ◌≤◌, List, [], ◌++◌, length, take, drop, Result}
-use Rattle.std.proofs.Common.{Ok, Err, OnOk, is_some, append_assoc, append-nil, length-take}
+use Rattle.usb_device.specs.{IsSource, SourceAt, OnlySource, in_data, in_end, out_end, next_packet}
+use Rattle.usb_device.specs.{GivesWithin, HasPackets, IsPrompt}
+use Rattle.std.proofs.Common.{◌≡◌, ◌≢◌, ◌∙◌, ◌⊎◌, inl, inr, refl, sym, subst, arith, false, true, ℕ}
+use Rattle.std.proofs.Common.{◌+◌, ◌<◌, ◌≤◌, List, [], ◌++◌, length, take, drop, Result, Ok, Err}
+use Rattle.std.proofs.Common.{OnOk, is_some, append_assoc, append-nil, length-take}
 use Rattle.std.proofs.Common.{take-append-drop}
 use Rattle.std.specs.Global.{Vec}
 use Rattle.std.specs.Int.{div_ceil}
@@ -75,7 +75,7 @@ module _ {t : Target} {ep : ℕ} {first : Toggle} {n : ℕ} {sent : List ℕ} {j
 
   sink_level : (bytes : List ℕ) → is_at s t ≡ true → (out_end s ep).state.toggle ≡ first
       → SinkAt ep ((out_end s ep).sink ++ sent) bytes (flips n first) u
-  sink_level bytes h e = level (x.sink h i e).0 (x.sink h i e).1
+  sink_level bytes h e = grind arith
 
   sink_halted : is_at s t ≡ true → (out_end s ep).state.halted ≡ true
       → (out_end u ep).state.halted ≡ true
@@ -96,17 +96,15 @@ gave_packet_then : (t : Target) (ep : ℕ) (first : Toggle) (n : ℕ) (sent byte
 gave_packet_then t ep first n sent bytes fits j s u v x y = record {
   others = others_stay_then t s u v x.others y.others;
   frame = λ i. sink_frame x i v y.frame;
-  paced = λ h i p. y.paced (sink_at x i h) t.max (sink_then x i) (x.paced h i p);
+  paced = grind (arith, sink_at, sink_then);
   sink = λ h i e.
       let before = (out_end s ep).sink in
       let z : Joined ep (before ++ sent) bytes (flips n first) v =
-      y.sink (sink_at x i h) t.max (before ++ sent) (sink_then x i) fits
-      (sink_level x i bytes h e) in (
+      search (sink_at, sink_level, sink_then, y.sink, t.max) in (
         z.sink ∙ append_assoc before sent bytes,
         turned_on n first (out_end v ep).state.toggle z.toggle,
       );
-  halted = λ h i c. absurd ((y.halted (sink_at x i h) t.max (sink_then x i) (sink_halted x i h c)).1
-      [] refl);
+  halted = grind (arith, sink_at, sink_halted, sink_then);
 }
 
 gave_leaves : (t : Target) (ep : ℕ) (first : Toggle) {old : World} {n : ℕ} {sent : List ℕ}
@@ -115,7 +113,7 @@ gave_leaves : (t : Target) (ep : ℕ) (first : Toggle) {old : World} {n : ℕ} {
 gave_leaves t ep first {old} settled start single = each_none _ (gave_no_packets t ep first) old
 gave_leaves t ep first {old} {new} settled (packet {n} {sent} {mid} bytes g full some fits puts)
     single =
-    each_joined _ _ _ (gave_packet_then t ep first n sent bytes fits) old mid new
+    each_joined _ _ _ (search gave_packet_then) old mid new
     (gave_leaves t ep first settled g (ended_unshared puts single))
     (sink_over t ep (flips n first) bytes (Ok []) mid new (gave_settled g settled) puts single)
 
@@ -135,8 +133,7 @@ lost_at ep before bytes t why fault v told x = grind arith
 sink_front_taken : (ep : ℕ) (total before sent rest : List ℕ) (k : ℕ) (t : Toggle) (v : State)
     → total ≡ sent ++ rest → SinkAt ep (before ++ sent) (take k rest) t v
     → FrontTaken total before (out_end v ep).sink
-sink_front_taken ep total before sent rest k t v split (level a b) =
-    record { front = sent; rest = rest; split = split; sink = a }
+sink_front_taken ep total before sent rest k t v split (level a b) = grind arith
 sink_front_taken ep total before sent rest k t v split (ahead a b) = record {
   front = sent ++ take k rest;
   rest = drop k rest;
@@ -168,8 +165,7 @@ module _ (bytes : List ℕ) (pipe left : PipeState) (n : ℕ) (works : pipe.cond
     condition = Ready;
   } → left.toggle ≡ flips n pipe.toggle → (j : Location) (s v : State) → Given bytes j s v
       → SendLeaves bytes pipe (Ok done) left j s v
-  all_sent done some e turned j s v x =
-      grind (arith, x.sink, x.halted, x.others, x.frame, sink_then)
+  all_sent done some = grind (arith, sink_then)
 
   -- one did not go, behind others that did
   lost_sent : (old new : World) (sent rest : List ℕ) (why : PipeFault) (fault : TransFault)
@@ -195,14 +191,13 @@ module _ (bytes : List ℕ) (pipe left : PipeState) (n : ℕ) (works : pipe.cond
           let z = lost_at pipe.ep (before ++ sent) (take pipe.max rest) (flips n pipe.toggle) why
           fault v told
           (y.sink (sink_at x i h) pipe.max (before ++ sent) (sink_then x i)
-          (fits_packet pipe.max rest) (sink_level x i (take pipe.max rest) h (f.level r))) in (
+          (fits_packet pipe.max rest) (grind (arith, sink_level))) in (
             sink_front_taken pipe.ep bytes before sent rest pipe.max (flips n pipe.toggle) v split
                 z.0,
             z.1,
           ))
           (λ r.
-          let same : v ≡ s = (y.halted (sink_at x i h) pipe.max (sink_then x i)
-          (sink_halted x i h (f.halted r))).0 ∙ (x.halted h i (f.halted r)).0 in
+          let same : v ≡ s = grind (arith, sink_at, sink_halted, sink_then) in
           rw same (none_taken bytes before, λ stalled. f.halted r))
 
 -- A call that sends
@@ -232,20 +227,18 @@ sent_told : (bytes : List ℕ) (pipe : PipeState) (result : Result (Unit {0}) Pi
     → MovedOut (div_ceil (length bytes) pipe.max) bytes pipe old result left new
     → new.shared ≡ false → EachWas (SendTold bytes pipe result left old) old new
 sent_told bytes pipe (Ok done) left old new works some x single =
-    let turned : left.toggle ≡ flips x.went.packets pipe.toggle = x.toggle
-    ∙ ap (λ k. flips k pipe.toggle) (gave_packets (end_of pipe) pipe.ep pipe.toggle x.went.gone
-    some) in
+    let turned : left.toggle ≡ flips x.went.packets pipe.toggle =
+    grind (arith, end_of, gave_packets) in
     each_wider _ _ (λ j s v y. record {
-      leaves = all_sent bytes pipe left x.went.packets works done some x.pipe_left turned j s v y;
-      why = λ three. never_sent pipe (Ok done) (λ e. cc e) (λ e. cc e);
+      leaves = grind (arith, all_sent);
+      why = grind (arith, never_sent);
     }) old new (gave_leaves (end_of pipe) pipe.ep pipe.toggle x.settled x.went.gone single)
 sent_told bytes pipe (Err why) left old new works some x single =
     let g : NotGone (end_of pipe) pipe.ep pipe.toggle bytes old why new = x.went in
     let began : IsSettled g.mid.roots = gave_settled g.before x.settled in
     each_joined _ _ _ (λ j s u v y z. record {
-      leaves = lost_sent bytes pipe left g.packets works old new g.sent g.rest why g.fault x.ends
-          g.split g.told x.pipe_left j s u v y z.leaves;
-      why = grind (arith, gave_damages, lost_send, never_three, g.rest, g.told, z.why);
+      leaves = search (lost_sent, x.ends, x.pipe_left);
+      why = grind (arith, gave_damages, lost_send, never_three);
     }) old g.mid new
     (gave_leaves (end_of pipe) pipe.ep pipe.toggle x.settled g.before
     (transacted_unshared _ _ _ _ (Err g.fault) g.lost began single))
@@ -257,15 +250,10 @@ each_send : (bytes : List ℕ) (pipe : PipeState) (result : Result (Unit {0}) Pi
     → EachWas (SendTold bytes pipe result left old) old new
 each_send bytes pipe result left old new x single =
     send_by (EachWas (SendTold bytes pipe result left old) old new)
-    (λ i. rw (i.answer, i.pipe_kept, i.world_kept) (each_none _ (λ j s. record {
-      leaves = idle_leaves bytes pipe (Err pipe_fault.Broken) refl tt j s;
-      why = λ three. never_sent pipe (Err pipe_fault.Broken) (λ e. cc e) (λ e. cc e);
-    }) old))
-    (λ none i. rw (i.answer, i.pipe_kept, i.world_kept) (each_none _ (λ j s. record {
-      leaves = idle_leaves bytes pipe (Ok tt) refl none j s;
-      why = λ three. never_sent pipe (Ok tt) (λ e. cc e) (λ e. cc e);
-    }) old))
-    (λ works some y. sent_told bytes pipe result left old new works some y single) x
+    (λ i. rw (i.answer, i.pipe_kept, i.world_kept)
+    (each_none _ (grind (arith, idle_leaves, never_sent)) old))
+    (λ none i. rw (i.answer, i.pipe_kept, i.world_kept)
+    (each_none _ (grind (arith, idle_leaves, never_sent)) old)) (search sent_told) x
 
 pub send_leaves : (bytes : List ℕ) (pipe : PipeState) (result : Result (Unit {0}) PipeFault)
     (left : PipeState) (old new : World) → Sends bytes pipe old result left new → new.shared ≡ false
@@ -281,11 +269,11 @@ sending_then : (sent rest : List ℕ) (pipe : PipeState) (n : ℕ) (j : Location
     → SinkBetween (end_of pipe) pipe.ep (flips n pipe.toggle) (take pipe.max rest) j u v
     → SendingLeaves sent (take pipe.max rest) (flips n pipe.toggle) pipe j s v
 sending_then sent rest pipe n j s u v x y = record {
-  others = others_stay_then pipe.target s u v x.others y.others;
+  others = grind (arith, others_stay_then);
   frame = λ i. sink_frame x i v y.frame;
   way = λ h e f. let i = f.endpoint in
       y.sink (sink_at x i h) pipe.max ((out_end s pipe.ep).sink ++ sent) (sink_then x i)
-      (fits_packet pipe.max rest) (sink_level x i (take pipe.max rest) h (f.level e));
+      (fits_packet pipe.max rest) (grind (arith, sink_level));
 }
 
 pub sending_leaves : (bytes : List ℕ) (pipe : PipeState) (old now : World) → IsSettled old.roots
@@ -293,7 +281,7 @@ pub sending_leaves : (bytes : List ℕ) (pipe : PipeState) (old now : World) →
     → EachWas (SendingLeaves g.sent (take pipe.max g.rest) (flips g.packets pipe.toggle) pipe) old
     now
 sending_leaves bytes pipe old now settled g single =
-    each_joined _ _ _ (sending_then g.sent g.rest pipe g.packets) old g.mid now
+    each_joined _ _ _ (grind (arith, sending_then)) old g.mid now
     (gave_leaves (end_of pipe) pipe.ep pipe.toggle settled g.before
     (trail_unshared g.trail single))
     (sink_between (end_of pipe) pipe.ep (flips g.packets pipe.toggle) (take pipe.max g.rest)
@@ -322,7 +310,7 @@ module _ {t : Target} {ep : ℕ} {first : Toggle} {n : ℕ} {got : List ℕ} {j 
   source_at h = source_at_kept t s u (x.frame i) h
 
   source_data : in_data u ep ≡ in_data s ep
-  source_data = ap (λ q. in_data q ep) (x.frame i).rest
+  source_data = grind arith
 
   source_halted : is_at s t ≡ true → (in_end s ep).state.halted ≡ true
       → (in_end u ep).state.halted ≡ true
@@ -348,9 +336,8 @@ came_then t ep first n got bytes least j s u v x y = record {
   source = λ h i place at.
       let before = x.source h i place at in
       subst (λ toggle. CameFrom ep t.max place toggle (n + 1) (got ++ bytes) s v)
-      (turned_on n first (other (flips n first)) refl)
-      (one_came_then bytes before (source_data x i)
-      (y.source (source_at x i h) t.max before.behind (source_then x i) least before.at));
+      (grind (arith, turned_on))
+      (one_came_then bytes before (source_data x i) (grind (arith, source_at, source_then)));
   still = grind (arith, source_at, source_halted, source_then, y.halted);
 }
 
@@ -362,7 +349,7 @@ module _ (t : Target) (ep : ℕ) (first : Toggle) (least : 1 ≤ t.max) {old : W
       → TransactionDone (heard_as (flips n first)) (in_attempt t ep) mid (Ok last) new
       → new.shared ≡ false → EachWas (CameLeaves t ep first (n + 1) (got ++ last)) old new
   came_more {n} {got} {last} {mid} {new} before began fetches single =
-      each_joined _ _ _ (λ j s u v x y. came_then t ep first n got last least j s u v x y.leaves)
+      each_joined _ _ _ (grind (arith, came_then))
       old mid new before
       (source_told t ep (flips n first) (Ok last) mid new began fetches single)
 
@@ -401,7 +388,7 @@ all_came pipe left bytes n works e turned j s v x = record {
     came = c.bytes;
     level = subst (λ l. InPipeInSync l c.behind v) (sym e) (record {
       endpoint = source_then x f.endpoint;
-      level = λ r. subst (λ k. SourceAt pipe.ep pipe.max c.behind k v) (sym turned) c.at;
+      level = grind arith;
       halted = λ r. cc r;
     });
   };
@@ -410,7 +397,7 @@ all_came pipe left bytes n works e turned j s v x = record {
     came : is_at s pipe.target ≡ true → (place : ℕ) → InPipeInSync pipe place s
         → CameFrom pipe.ep pipe.max place (flips (n + 1) pipe.toggle) (n + 1) bytes.items s v
     came h place f = ready_or _ pipe.condition works (λ r. x.source h f.endpoint place (f.level r))
-        (λ r. let none = (x.still h f.endpoint (f.halted r)).1 in absurd (omega (arith, none)))
+        (grind arith)
 
 -- no bytes came, and the pipe that is left is at the place of the one before
 nothing_came : (pipe left : PipeState) (bytes : List ℕ) (place : ℕ) (s v : State) → bytes ≡ []
@@ -442,7 +429,8 @@ idle_came : (pipe : PipeState) (result : Result (Vec ℕ) PipeFault) → pipe_kn
 idle_came pipe result same none j s = grind (arith, nothing_came)
 
 -- a packet that did not come, behind others that did
-module _ (wanted : ℕ) (pipe : PipeState) (n : ℕ) (got : List ℕ) (why : PipeFault) (fault : TransFault)
+module _ (wanted : ℕ) (pipe : PipeState) (n : ℕ) (got : List ℕ) (why : PipeFault)
+    (fault : TransFault)
     (works : pipe.condition ≢ Broken) (least : 1 ≤ pipe.max) (told : why ≡ as_pipe_fault fault)
     (few : n < wanted) (j : Location) (s u v : State)
     (x : CameLeaves (end_of pipe) pipe.ep pipe.toggle n got j s u) where
@@ -452,35 +440,31 @@ module _ (wanted : ℕ) (pipe : PipeState) (n : ℕ) (got : List ℕ) (why : Pip
       → ReceiveLeaves pipe (Err why) left j s v
   lost_then old new left ends e y =
       lost_came old new pipe left why ends e j s v
-      (others_stay_then pipe.target s u v x.others y.others) (λ i. source_frame x i v y.frame)
-      (λ stalled h i. y.stalled (source_at x i h) pipe.max (source_then x i)
-      (fell_same_fault (Vec ℕ) why fault trans.Stalled told (ap Err stalled)))
+      (grind (arith, others_stay_then)) (λ i. source_frame x i v y.frame)
+      (grind (arith, fell_same_fault, source_at, source_then))
 
   lost_why : SourceInFailure (end_of pipe) pipe.ep (flips n pipe.toggle) (Err fault) j u v
       → ReceiveFailure wanted pipe (Err why) j s v
   lost_why y = record {
     answered = λ l place f short e.
-        let no : Fell fault trans.NoAnswer = fell_same_fault (Vec ℕ) why fault trans.NoAnswer told
-        e in
+        let no : Fell fault trans.NoAnswer = grind (arith, fell_same_fault) in
         ready_or ⊥ pipe.condition works
         (λ r. let c = came l f r in
         y.answered (hears l f) pipe.max c.behind (source_then x f.endpoint) c.at (within f short)
         no)
         (λ r. (halted l f r).0 no);
     waited = λ l place f short has prompt e.
-        let no : Fell fault trans.Busy = fell_same_fault (Vec ℕ) why fault trans.Busy told e in
+        let no : Fell fault trans.Busy = grind (arith, fell_same_fault) in
         ready_or ⊥ pipe.condition works
         (λ r. let c = came l f r in
         y.waited (hears l f) pipe.max c.behind (source_then x f.endpoint) least c.at
-        (within f short) (there f c has) (x.paced l.at f.endpoint prompt) no)
+        (within f short) (there f c has) (grind arith) no)
         (λ r. (halted l f r).1 no);
   }
     where
       hears : {place : ℕ} → Listens pipe.target j s → InPipeInSync pipe place s
           → Listens (end_of pipe) j u
-      hears l f = let only = (x.frame f.endpoint).rest in
-          listens_packet pipe.target pipe.max j s u (ap (λ q. q.spec) only)
-          (ap (λ q. q.registers) only) l
+      hears l f = grind (arith, listens_packet)
 
       came : {place : ℕ} → Listens pipe.target j s → InPipeInSync pipe place s
           → pipe.condition ≡ Ready
@@ -490,21 +474,17 @@ module _ (wanted : ℕ) (pipe : PipeState) (n : ℕ) (got : List ℕ) (why : Pip
       halted : {place : ℕ} → Listens pipe.target j s → InPipeInSync pipe place s
           → pipe.condition ≡ Halted → (Fell fault trans.NoAnswer → ⊥) × (Fell fault trans.Busy → ⊥)
       halted l f r = y.halted (hears l f) pipe.max (source_then x f.endpoint)
-          (source_halted x f.endpoint l.at (f.halted r))
+          (grind (arith, source_halted))
 
       within : {place : ℕ} → InPipeInSync pipe place s → GivesWithin pipe.max pipe.ep pipe.max s
           → GivesWithin pipe.max pipe.ep pipe.max u
-      within f short place bytes e = short place bytes
-          (sym (ap (λ c. packet_in c pipe.max place) (source_data x f.endpoint)) ∙ e)
+      within f short place bytes e = grind (arith, source_data)
 
       there : {place : ℕ} → InPipeInSync pipe place s
           → (c : CameFrom pipe.ep pipe.max place (flips n pipe.toggle) n got s u)
           → HasPackets pipe.ep pipe.max place wanted s
           → is_some (next_packet u pipe.ep pipe.max c.behind) ≡ true
-      there {place} f c has =
-          ap (λ content. is_some (packet_in content pipe.max c.behind)) (source_data x f.endpoint)
-          ∙ one_there pipe.ep pipe.max place c.behind wanted c.bytes.packets s c.bytes.come
-          (rw c.count few) has
+      there {place} f c has = grind (arith, one_there, source_data)
 
 -- A call that receives
 
@@ -524,15 +504,10 @@ module _ (wanted : ℕ) (pipe left : PipeState) (old new : World) (least : 1 ≤
       → MovedIn wanted pipe old result left new → EachWas (ReceiveTold result) old new
   received_told (Ok bytes) works x =
       let g : AllCame (end_of pipe) pipe.ep pipe.toggle wanted old bytes.items new = x.came in
-      let turned : left.toggle ≡ flips (g.packets + 1) pipe.toggle = x.toggle
-      ∙ ap (λ k. flips k pipe.toggle) (all_packets g least) in
-      each_wider _ _ (λ j s v y. record {
-        leaves = all_came pipe left bytes g.packets works x.pipe_left turned j s v y;
-        why = λ three. never_received wanted pipe (Ok bytes) (λ e. cc e) (λ e. cc e);
-      }) old new
+      let turned : left.toggle ≡ flips (g.packets + 1) pipe.toggle = grind (arith, all_packets) in
+      each_wider _ _ (grind (arith, all_came, never_received)) old new
       (subst (λ k. EachWas (CameLeaves (end_of pipe) pipe.ep pipe.toggle (g.packets + 1) k) old new)
-      (sym g.kept) (came_on (end_of pipe) pipe.ep pipe.toggle least x.settled g.before g.came
-      single))
+      (sym g.kept) (grind (arith, came_on, end_of)))
   received_told (Err why) works x = by_end x.came
     where
       by_end : NotCame (end_of pipe) pipe.ep pipe.toggle wanted old why new
@@ -541,8 +516,7 @@ module _ (wanted : ℕ) (pipe left : PipeState) (old new : World) (least : 1 ≤
       by_end (inl g) =
           let began : IsSettled g.mid.roots = received_settled g.before x.settled in
           each_joined _ _ _ (λ j s u v y z. record {
-            leaves = lost_then wanted pipe g.packets g.got why g.fault works least g.told g.few j s
-                u v y old new left x.ends x.pipe_left z.leaves;
+            leaves = search (lost_then, x.ends, x.pipe_left);
             why = grind (arith, came_damages, lost_why, never_three, g.told, g.few, z.why);
           }) old g.mid new
           (came_leaves (end_of pipe) pipe.ep pipe.toggle least x.settled g.before
@@ -552,25 +526,18 @@ module _ (wanted : ℕ) (pipe left : PipeState) (old new : World) (least : 1 ≤
       by_end (inr g) =
           each_wider (CameLeaves (end_of pipe) pipe.ep pipe.toggle (g.packets + 1)
           (g.got ++ g.last)) _ (λ j s v y. record {
-            leaves = grind (arith, lost_came, x.ends, x.pipe_left, y.others, y.frame, g.told);
-            why = λ three. never_received wanted pipe (Err why) (λ e. cc (g.told, e))
-                (λ e. cc (g.told, e));
-          }) old new
-          (came_on (end_of pipe) pipe.ep pipe.toggle least x.settled g.before g.came single)
+            leaves = grind (arith, lost_came);
+            why = grind (arith, never_received);
+          }) old new (grind (arith, came_on, end_of))
 
   each_receive : (result : Result (Vec ℕ) PipeFault) → Receives wanted pipe old result left new
       → EachWas (ReceiveTold result) old new
   each_receive result x =
       receive_by (EachWas (ReceiveTold result) old new)
-      (λ broken kept same. rw (broken, kept, same) (each_none _ (λ j s. record {
-        leaves = idle_came pipe (Err pipe_fault.Broken) refl refl j s;
-        why = λ three. never_received wanted pipe (Err pipe_fault.Broken) (λ e. cc e) (λ e. cc e);
-      }) old))
-      (λ bytes is none kept same. rw (is, kept, same) (each_none _ (λ j s. record {
-        leaves = idle_came pipe (Ok bytes) refl none j s;
-        why = λ three. never_received wanted pipe (Ok bytes) (λ e. cc e) (λ e. cc e);
-      }) old))
-      (λ works some y. received_told result works y) x
+      (λ broken kept same. rw (broken, kept, same)
+      (grind (arith, each_none, idle_came, never_received)))
+      (λ bytes is none kept same. rw (is, kept, same)
+      (each_none _ (grind (arith, idle_came, never_received)) old)) (search received_told) x
 
 pub receive_leaves : (wanted : ℕ) (pipe : PipeState) (result : Result (Vec ℕ) PipeFault) (left : PipeState)
     (old new : World) → 1 ≤ pipe.max → Receives wanted pipe old result left new → new.shared ≡ false
@@ -580,15 +547,15 @@ receive_leaves wanted pipe result left old new least x single =
 
 -- A call that moved packets, by what these tell
 
-pub sends_by : (bytes : List ℕ) (pipe : PipeState) (old : World) (result : Result (Unit {0}) PipeFault)
+pub sends_by : (bytes : List ℕ) (pipe : PipeState) (old : World)
+    (result : Result (Unit {0}) PipeFault)
     (left : PipeState) (new : World) → pipe.condition ≢ Broken → bytes ≢ []
     → PacketsSent (packet_target pipe.target pipe.max) pipe.ep pipe.toggle bytes old result
     left.toggle new → left ≡ record pipe {
       toggle = left.toggle;
       condition = after_transfer pipe.condition result;
     } → IsSettled old.roots → Sends bytes pipe old result left new
-sends_by bytes pipe old result left new works some x is settled =
-    grind (arith, x.ends, x.moves, x.behind, x.room, x.turned, x.halted)
+sends_by bytes pipe old result left new works some x is settled = grind arith
 
 pub receives_by : (wanted : ℕ) (pipe : PipeState) (old : World) (result : Result (Vec ℕ) PipeFault)
     (left : PipeState) (new : World) → pipe.condition ≢ Broken → wanted ≢ 0
@@ -597,8 +564,7 @@ pub receives_by : (wanted : ℕ) (pipe : PipeState) (old : World) (result : Resu
       toggle = left.toggle;
       condition = after_transfer pipe.condition result;
     } → IsSettled old.roots → Receives wanted pipe old result left new
-receives_by wanted pipe old result left new works some x is settled =
-    grind (arith, x.ends, x.moves, x.behind, x.most, x.turned, x.halted)
+receives_by wanted pipe old result left new works some x is settled = grind arith
 
 -- The record of a call
 

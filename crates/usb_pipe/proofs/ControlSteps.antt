@@ -1,7 +1,7 @@
 -- The transactions of a control transfer: what each leaves of each device, and how they join.
 use Rattle.std.proofs.Common.{◌≡◌, ℕ, ◌&&◌, if◌then◌else◌, Bool, true, false, List, length, refl}
-use Rattle.std.proofs.Common.{sym, subst, ◌∙◌, ◌≢◌, zero, suc, ◌%◌, ◌==◌, not, ap, arith, ◌<◌, ◌≤◌}
-use Rattle.std.proofs.Common.{[], Result, Ok, Err}
+use Rattle.std.proofs.Common.{subst, ◌∙◌, ◌≢◌, zero, suc, ◌%◌, ◌==◌, not, ap, arith, ◌<◌, ◌≤◌, []}
+use Rattle.std.proofs.Common.{Result, Ok, Err}
 use Rattle.std.proofs.lemmas.Bool.Decides.{nat_tests}
 use Rattle.std.proofs.lemmas.Option.{same_Some}
 use Rattle.usb_packet.specs.{Toggle, Zero, One, other, flips}
@@ -11,7 +11,7 @@ use Rattle.usb_world.specs.{is_harmless, Relation, EachWas, Was, World, Attempt}
 use Rattle.usb_tree.specs.{IsSettled}
 use Rattle.usb_transaction.specs.{NoThreeDamaged, SetupFailure, heard_as, SetupDone, is_at, Listens}
 use Rattle.usb_transaction.specs.{CanAnswer, CanAccept, IsNotOfBus as TransNotOfBus}
-use Rattle.usb_transaction.specs.{begins_no_stretch, LossesIn, LosesNone, EachSpared, IsSpared}
+use Rattle.usb_transaction.specs.{begins_no_stretch, LossesIn, LosesNone, EachSpared}
 use Rattle.usb_transaction.specs.{TransactionDone, Transacted, in_attempt, TransFault, Target}
 use Rattle.usb_transaction.proofs.Interface.{trail_damages, trail_settled, trail_unshared}
 use Rattle.usb_transaction.proofs.Interface.{ControlInTold, control_in_told, ControlOutTold}
@@ -36,8 +36,7 @@ ended_by result sound x = grind arith
 -- the fault of the bus is the transaction's just where it is the transfer's
 pub sound_in : (A : Type 0) (fault : TransFault) → IsNoBusFault {A = A} (Err (as_pipe_fault fault))
     → TransNotOfBus {A = List ℕ} (Err fault)
-sound_in A (trans.Bus fault) sound = sound
-sound_in A fault sound = tt
+sound_in A fault sound = grind arith
 
 pub sound_told : (A : Type 0) (why : PipeFault) (fault : TransFault) → why ≡ as_pipe_fault fault
     → IsNoBusFault {A = A} (Err why) → TransNotOfBus {A = List ℕ} (Err fault)
@@ -74,8 +73,7 @@ never_three old new e three = grind arith
 -- each branch of a choice
 pub either_way : {A : Type 0} (P : A → Type 0) (b : Bool) (x y : A) → P x → P y
     → P (if b then x else y)
-either_way P true x y h g = h
-either_way P false x y h g = g
+either_way P b x y h g = grind arith
 
 -- What a transaction says of each device, with what it loses
 
@@ -95,8 +93,7 @@ pub asked_leaves : (t : Target) (awaited : Toggle) (result : Result (List ℕ) T
     (old new : World) → Asks t awaited old result new → IsSettled old.roots → new.shared ≡ false
     → EachWas (ControlInAsked t awaited result old new) old new
 asked_leaves t awaited result old new x settled single j v on there =
-    let a : Was (ControlInTold t awaited result old) old j v =
-    control_in_told t awaited result old new settled x single j v on there in
+    let a : Was (ControlInTold t awaited result old) old j v = grind (arith, control_in_told) in
     was_then a (record {
       told = a.so;
       kept = λ sound. also (LosesNone t old new) a
@@ -121,7 +118,7 @@ pub put_leaves : (t : Target) (toggle : Toggle) (bytes : List ℕ)
 put_leaves t toggle bytes result old new x settled single =
     each_wider _ _ (λ j s v y. record {
       told = y;
-      kept = λ sound. out_losses t 0 toggle bytes old new settled (ended_by result sound x).trail;
+      kept = grind (arith, ended_by, out_losses);
     }) old new (control_out_told t toggle bytes result old new settled x single)
 
 -- a SETUP
@@ -142,12 +139,8 @@ pub requested_leaves : (t : Target) (request : Setup) (result : Result (List ℕ
 requested_leaves t request result old new same settled x single j v on there spared =
     let bytes : List ℕ = bytes_of request in
     let a = set_up_told t bytes result old new (bytes_of-length request) settled x single j v on
-    there (subst (λ r. IsSpared t r v) (sym same) spared) in
-    was_then a (record {
-      done = a.so.leaves;
-      why = a.so.why;
-      kept = grind (arith, ended_by, set_up_losses);
-    })
+    there (grind arith) in
+    was_then a (grind (arith, ended_by, set_up_losses))
 
 -- A transfer so far
 
@@ -169,9 +162,8 @@ pub only_first : (t : Target) (request : Setup) (Q : Relation) {old new : World}
     → ((j : Location) (s v : State) → is_at s t ≡ true → Requested t request result old new j s v
     → Q j s v) → new.shared ≡ false → EachSpared t request (Only t Q) old new
 only_first t request Q {old} {new} result same settled x f single =
-    spared_wider t request (Requested t request result old new) (Only t Q)
-    (λ j s v y. record { others = y.done.others; mine = λ at. f j s v at y }) old new
-    (requested_leaves t request result old new same settled x single)
+    spared_wider t request (Requested t request result old new) (Only t Q) (grind arith) old new
+    (search requested_leaves)
 
 pub reached_first : (t : Target) (request : Setup) (Q : Relation) {old now : World}
     → setup_of (bytes_of request) ≡ request → IsSettled old.roots → SetUp t request old (Ok []) now
@@ -193,11 +185,8 @@ pub reached_last : {t : Target} {request : Setup} {P : Relation} (S Q : Relation
     → EachSpared t request (Only t Q) old new
 reached_last {t} {request} {P} S Q {old} {mid} hear a new result others f r x each single =
     spared_joined t request (Only t P) S (Only t Q) others
-    (λ j s u v y z. record {
-      others = others_stay_then t s u v y.others (others j u v z);
-      mine = λ at. f j s u v at (y.mine at) z;
-    }) old mid new
-    (r.each (transacted_unshared hear a mid new result x r.settled single)) (each r.settled single)
+    (grind (arith, others_stay_then)) old mid new
+    (r.each (grind (arith, transacted_unshared))) (each r.settled single)
 
 -- one transaction more
 pub reached_more : {t : Target} {request : Setup} {P : Relation} (S Q : Relation)
@@ -279,8 +268,7 @@ host_stretch r h = grind (arith, request_type-other)
 -- Toggles of a data stage
 
 other-if : (b : Bool) → other (if b then One else Zero) ≡ (if not b then One else Zero)
-other-if true = refl
-other-if false = refl
+other-if b = grind arith
 
 not_even-suc : (k : ℕ) → not (k % 2 == 0) ≡ (suc k % 2 == 0)
 not_even-suc k = grind (arith, nat_tests)

@@ -5,8 +5,8 @@ use Rattle.std.specs.Result.{IsErr, IsErrAnd}
 use Rattle.std.proofs.Common.{◌≡◌, ℕ, ◌+◌, nat_le, ◌&&◌, if◌then◌else◌, Bool, true, false, List}
 use Rattle.std.proofs.Common.{length, Option, None, Some, is_some, refl, sym, subst, ◌∙◌, ◌≢◌, ◌==◌}
 use Rattle.std.proofs.Common.{not, ap, arith, ◌⊎◌, inl, inr, ◌*◌, ◌<◌, ◌≤◌, nat_lt, ◌||◌, [], ◌++◌}
-use Rattle.std.proofs.Common.{take, length-append, length-drop, Result, Ok, Err, slice_get}
-use Rattle.std.proofs.Common.{slice_index, ◌-◌, OnOk, IfOk, MatchResult}
+use Rattle.std.proofs.Common.{take, length-append, length-drop, Result, Ok, Err, ◌-◌, OnOk, IfOk}
+use Rattle.std.proofs.Common.{MatchResult}
 use Rattle.std.proofs.Math.Nat.{mul-le-mul_right}
 use Rattle.std.proofs.Math.Seq.{take-append-add}
 use Rattle.std.proofs.lemmas.Bool.{and_parts}
@@ -14,21 +14,18 @@ use Rattle.std.proofs.lemmas.Bool.Decides.{nat_tests}
 use Rattle.std.proofs.lemmas.List.{take_all, length-take}
 use Rattle.std.proofs.lemmas.Nat.{div-add-mod'}
 use Rattle.usb_packet.specs.{Toggle, One, other, flips}
-use Rattle.usb_request.specs.{bytes_of, setup_of, IsToHost, Setup, HUB, GET_STATUS, CLEAR_FEATURE}
+use Rattle.usb_request.specs.{bytes_of, setup_of, IsToHost, Setup, GET_STATUS, CLEAR_FEATURE}
 use Rattle.usb_request.specs.{SET_FEATURE, SET_ADDRESS, GET_DESCRIPTOR, GET_CONFIGURATION}
 use Rattle.usb_request.specs.{SET_CONFIGURATION, DEVICE_IN, DEVICE_OUT, ENDPOINT_OUT, HUB_IN}
-use Rattle.usb_request.specs.{PORT_IN, PORT_OUT, descriptor_value, INTERFACE_IN, INTERFACE_OUT}
-use Rattle.usb_request.specs.{ENDPOINT_IN, GET_INTERFACE, SET_INTERFACE}
-use Rattle.usb_descriptor.specs.{has_interface}
-use Rattle.usb_port.specs.{PortState, status_of}
-use Rattle.usb_device.specs.{OnlyControl, OnlyStage, ReadingAt, ReadOn, StatusGiven, Outcome}
-use Rattle.usb_device.specs.{stalled, tells_port, Is, asked_descriptor, asked_hub_descriptor}
-use Rattle.usb_device.specs.{port_named, told_port, outcome, takes_address, address_at_end, State}
-use Rattle.usb_device.specs.{accepted, begun, Spec, reading, max_packet, packet_at, Stage, ending}
-use Rattle.usb_device.specs.{refused, packets_joined, first_stage, reads_port, row_of, Location}
-use Rattle.usb_device.specs.{Registers, answers_taken, takes, Write, writing, first_write, ends_if}
-use Rattle.usb_device.specs.{tells_halt, told_halt, told_bytes, is_endpoint_0, items_at, served}
-use Rattle.usb_device.specs.{ServedEndpoint}
+use Rattle.usb_request.specs.{PORT_IN, PORT_OUT, INTERFACE_IN, INTERFACE_OUT, ENDPOINT_IN}
+use Rattle.usb_request.specs.{GET_INTERFACE, SET_INTERFACE}
+use Rattle.usb_port.specs.{PortState}
+use Rattle.usb_device.specs.{OnlyControl, OnlyStage, ReadingAt, ReadOn, Outcome, stalled}
+use Rattle.usb_device.specs.{tells_port, Is, asked_descriptor, outcome, takes_address}
+use Rattle.usb_device.specs.{address_at_end, State, accepted, begun, Spec, reading, max_packet}
+use Rattle.usb_device.specs.{packet_at, Stage, ending, refused, packets_joined, first_stage}
+use Rattle.usb_device.specs.{reads_port, row_of, Location, Registers, answers_taken, takes, Write}
+use Rattle.usb_device.specs.{writing, first_write, ends_if, tells_halt, told_halt, ServedEndpoint}
 use Rattle.usb_device.specs.Request.{answers}
 use Rattle.usb_device.proofs.Interface.{packets_joined-is, packets_joined-whole, packet-further}
 use Rattle.usb_device.proofs.Interface.{packet-fits, asked_own-to_host}
@@ -43,7 +40,7 @@ use Rattle.usb_transaction.specs.{Answerer, NoThreeDamaged, HasNext, Fits, set_u
 use Rattle.usb_transaction.specs.{AcceptedAt, is_at, IsInRead, IsNotOfBus as TransNotOfBus}
 use Rattle.usb_transaction.specs.{begins_no_stretch, LossesIn, EachSpared, Transacted}
 use Rattle.usb_transaction.specs.{setup_attempt, AttemptsMade, transaction_bound, TransFault}
-use Rattle.usb_transaction.specs.{Target, refuses_in}
+use Rattle.usb_transaction.specs.{Target}
 use Rattle.usb_transaction.proofs.Interface.{spared_all, listens_at, spared_wider, spec_stays}
 use Rattle.usb_transaction.proofs.Interface.{DeviceTold}
 use Rattle.usb_pipe.specs.{as_pipe_fault, ends_stage, byte_bound, FaultAfter, WriteFailure}
@@ -84,46 +81,32 @@ no_write r h type request x y writes g = grind (arith, request_type-other)
 
 tells_text : (o : Option (List ℕ)) → IsReadingOutcome (elim o
     as (λ _. Outcome) [ None ↦ stalled | Some text ↦ answers text ])
-tells_text None = tt
-tells_text (Some text) = tt
+tells_text o = grind arith
 
 tells_descriptor : (s : Spec) (value : ℕ) → IsReadingOutcome (asked_descriptor s value)
 tells_descriptor s value = grind (arith, either_way, tells_text)
 
 tells_status : (o : Option ServedEndpoint) → IsReadingOutcome (told_halt o)
-tells_status None = tt
-tells_status (Some endpoint) = tt
+tells_status o = grind arith
 
 outcome-is_reading : (s : Spec) (g : Registers) (r : Setup) → IsToHost r
     → IsReadingOutcome (outcome s g r)
 unfolding outcome
 outcome-is_reading s g r h =
     either_way IsReadingOutcome (Is r DEVICE_IN GET_DESCRIPTOR) _ _ (tells_descriptor s r.value)
-    (either_way IsReadingOutcome (Is r DEVICE_IN GET_STATUS) _ _
-    (either_way IsReadingOutcome s.stalls.status _ _ tt
-    (either_way IsReadingOutcome (r.value == 0 && r.index == 0) _ _ tt tt))
+    (either_way IsReadingOutcome (Is r DEVICE_IN GET_STATUS) _ _ (grind (arith, either_way))
     (either_way IsReadingOutcome (Is r DEVICE_IN GET_CONFIGURATION) _ _ tt
     (no_write r h DEVICE_OUT SET_ADDRESS _ _ (omega arith)
     (no_write r h DEVICE_OUT SET_CONFIGURATION _ _ (omega arith)
-    (either_way IsReadingOutcome (Is r INTERFACE_IN GET_STATUS) _ _
-    (either_way IsReadingOutcome (r.value == 0 && has_interface r.index (items_at s g)) _ _ tt tt)
-    (either_way IsReadingOutcome (Is r INTERFACE_IN GET_INTERFACE) _ _
-    (either_way IsReadingOutcome (r.value == 0 && has_interface r.index (items_at s g)) _ _ tt tt)
+    (either_way IsReadingOutcome (Is r INTERFACE_IN GET_STATUS) _ _ (grind (arith, either_way))
+    (either_way IsReadingOutcome (Is r INTERFACE_IN GET_INTERFACE) _ _ (grind (arith, either_way))
     (no_write r h INTERFACE_OUT SET_INTERFACE _ _ (omega arith)
     (either_way IsReadingOutcome (Is r ENDPOINT_IN GET_STATUS) _ _
-    (either_way IsReadingOutcome (not (r.value == 0)) _ _ tt
-    (either_way IsReadingOutcome (is_endpoint_0 r.index) _ _ tt
-    (tells_status (served s g r.index))))
+    (grind (arith, either_way, tells_status))
     (no_write r h ENDPOINT_OUT CLEAR_FEATURE _ _ (omega arith)
     (no_write r h ENDPOINT_OUT SET_FEATURE _ _ (omega arith)
-    (either_way IsReadingOutcome (Is r HUB_IN GET_DESCRIPTOR) _ _
-    (either_way IsReadingOutcome s.stalls.hub _ _ tt (elim s.hub
-    as (λ o. IsReadingOutcome (asked_hub_descriptor o r)) [
-      | None ↦ tt
-      | Some hub ↦ either_way IsReadingOutcome (r.value == descriptor_value HUB 0) _ _ tt tt
-    ]))
-    (either_way IsReadingOutcome (Is r PORT_IN GET_STATUS) _ _ (elim (port_named s.hub g r.index)
-    as (λ o. IsReadingOutcome (told_port o)) [ None ↦ tt | Some i ↦ tt ])
+    (either_way IsReadingOutcome (Is r HUB_IN GET_DESCRIPTOR) _ _ (grind (arith, either_way))
+    (either_way IsReadingOutcome (Is r PORT_IN GET_STATUS) _ _ (grind arith)
     (no_write r h PORT_OUT SET_FEATURE _ _ (omega arith)
     (no_write r h PORT_OUT CLEAR_FEATURE _ _ (omega arith)
     (asked_own-to_host IsReadingOutcome tt s.requests g r (grind (arith, nat_tests, h))
@@ -149,13 +132,13 @@ data FirstStage (wanted : ℕ) (o : Outcome) (st : Stage) : Type 0 where
 first_bytes : (wanted : ℕ) (o : Outcome) (bytes : List ℕ) (b : Bool) → (wanted == 0) ≡ b
     → address_at_end o ≡ None → FirstStage wanted o
     (if b then ending None else reading bytes wanted 0)
-first_bytes wanted o bytes true e none = ends (ap ending (sym none)) (λ h. e)
+first_bytes wanted o bytes true e none = grind arith
 first_bytes wanted o bytes false e none = answers_with bytes e refl
 
 first_port : (wanted : ℕ) (o : Outcome) (port : Option PortState) → address_at_end o ≡ None
     → FirstStage wanted o (reads_port wanted port)
 first_port wanted o None none = refuses refl
-first_port wanted o (Some port) none = first_bytes wanted o (status_of port) (wanted == 0) refl none
+first_port wanted o (Some port) none = search first_bytes
 
 first_write-kept : (wanted : ℕ) (kept b : Bool) → (wanted == 0) ≡ b
     → FirstStage wanted (takes kept) (if b then ends_if kept
@@ -167,15 +150,11 @@ first_write-kept wanted kept false e = writes_from (first_write wanted kept) e r
 first_stage_of : (row : List PortState) (d : State) (wanted : ℕ) (o : Outcome)
     → FirstStage wanted o (first_stage row d wanted o)
 first_stage_of row d wanted stalled = refuses refl
-first_stage_of row d wanted (answers bytes) =
-    first_bytes wanted (answers bytes) bytes (wanted == 0) refl refl
-first_stage_of row d wanted (tells_port i) =
-    first_port wanted (tells_port i) (slice_get row i) refl
-first_stage_of row d wanted answers_taken =
-    first_bytes wanted answers_taken d.taken (wanted == 0) refl refl
-first_stage_of row d wanted (tells_halt endpoint) =
-    first_bytes wanted (tells_halt endpoint) (told_bytes d endpoint) (wanted == 0) refl refl
-first_stage_of row d wanted (takes kept) = first_write-kept wanted kept (wanted == 0) refl
+first_stage_of row d wanted (answers bytes) = search first_bytes
+first_stage_of row d wanted (tells_port i) = search first_port
+first_stage_of row d wanted answers_taken = search (first_bytes, d.taken)
+first_stage_of row d wanted (tells_halt endpoint) = search first_bytes
+first_stage_of row d wanted (takes kept) = search first_write-kept
 first_stage_of row d wanted o = ends refl (λ h. absurd h)
 
 pub is_some_byte : (wanted : ℕ) → 1 ≤ wanted → (wanted == 0) ≡ false
@@ -189,8 +168,7 @@ closes row d wanted o e = grind (arith, first_stage_of)
 
 -- it gives an address only where the request asks for one
 asks_for : (o : Outcome) (a : ℕ) → address_at_end o ≡ Some a → o ≡ takes_address a
-asks_for (takes_address b) a e = cc e
-asks_for o a e = cc e
+asks_for o a e = grind arith
 
 pub first_stage-address : (row : List PortState) (d : State) (wanted : ℕ) (o : Outcome)
     (a : ℕ) → first_stage row d wanted o ≡ ending (Some a) → o ≡ takes_address a
@@ -199,17 +177,13 @@ first_stage-address row d wanted o a e = grind (arith, asks_for, first_stage_of)
 -- The packets of an answer
 
 packet_is : (c : Bool) (x bytes : List ℕ) → (if c then Some x else None) ≡ Some bytes → x ≡ bytes
-packet_is true x bytes h = cc
-packet_is false x bytes h = cc
+packet_is c x bytes h = grind arith
 
 least_by : (b : Bool) (m : ℕ) → (b ≡ true → 8 ≤ m) → 8 ≤ (if b then m else 8)
-least_by true m h = h refl
-least_by false m h = omega arith
+least_by b m h = grind arith
 
 pub at_least_8 : (s : Spec) → 8 ≤ max_packet s
-at_least_8 s = let m = slice_index s.descriptor 7 in
-    least_by (not s.low && (m == 16 || m == 32 || m == 64)) m
-    (λ e. grind (arith, nat_tests, (and_parts (not s.low) (m == 16 || m == 32 || m == 64) e).1))
+at_least_8 s = grind (arith, and_parts, least_by, nat_tests)
 
 -- where some bytes are wanted, there is a first packet
 first_by : (q r wanted len whole : ℕ) → whole + r ≡ len → (q ≤ 0 → whole ≤ 0) → 1 ≤ wanted
@@ -220,11 +194,7 @@ first_by q r wanted len whole sum none some b e = grind (arith, and_parts, nat_t
 -- whether a packet is behind one, by that one's size and by how many bytes came with it
 over_if : (size max came wanted : ℕ) → (nat_lt size max || nat_le wanted came) ≡ true
     → (size == max && nat_lt came wanted) ≡ false
-over_if size max came wanted h = grind (
-  arith,
-  nat_tests,
-  either_of (nat_lt size max) (nat_le wanted came) h,
-)
+over_if size max came wanted h = grind (arith, either_of, nat_tests)
 
 more_if : (size max came wanted : ℕ) → size ≤ max → (nat_lt size max || nat_le wanted came) ≡ false
     → (size == max && nat_lt came wanted) ≡ true
@@ -232,14 +202,14 @@ more_if size max came wanted fits h = grind (arith, nat_tests, fits, h)
 
 over_soon : (size max came wanted : ℕ) → size ≤ came → 8 ≤ max → wanted ≤ 8
     → (nat_lt size max || nat_le wanted came) ≡ false → ⊥
-over_soon size max came wanted part least few h = grind (arith, nat_tests, part, least, few, h)
+over_soon size max came wanted part least few h = grind (arith, nat_tests)
 
 module _ (max wanted : ℕ) (answer : List ℕ) where
   abbrev Wanted : List ℕ
   Wanted = take wanted answer
 
   few_wanted : length Wanted ≤ wanted
-  few_wanted = rw (length-take wanted answer) (omega arith)
+  few_wanted = grind (arith, length-take)
 
   first_packet : 1 ≤ wanted → is_some (packet_at max wanted answer 0) ≡ true
   first_packet some = grind (arith, div-add-mod', first_by, mul-le-mul_right)
@@ -264,27 +234,20 @@ module _ (max wanted : ℕ) (answer : List ℕ) where
         → (max ≡ tmax) ⊎ (wanted ≤ 8) → is_some (packet_at max wanted answer (n + 1)) ≡ true
     next_packet most on (inl same) =
         packet-further max wanted answer last n (omega (arith, least)) h
-        ∙ more_if (length last) max came wanted (packet-fits max wanted answer last n h)
-        (subst (λ b. ends_stage (length last) max (length b) wanted ≡ false) e
-        (subst (λ m. ends_stage (length last) m (length (got ++ last)) wanted ≡ false)
-        (sym same) on))
-    next_packet most on (inr few) = absurd (over_soon (length last) tmax (length (got ++ last))
-        wanted (rw (length-append got last) (omega arith)) most few on)
+        ∙ more_if (length last) max came wanted (search packet-fits)
+        (grind arith)
+    next_packet most on (inr few) = grind (arith, length-append, over_soon)
 
     all_came : ends_stage (length last) tmax came wanted ≡ true → (max ≡ tmax) ⊎ (wanted ≤ 8)
         → packets_joined max wanted answer (n + 1) ≡ Wanted
-    all_came was_last (inr few) =
-        let next : (n + 1) * max ≡ n * max + max = omega arith in
-        packets_joined-is max wanted answer (n + 1) (omega (arith, least))
-        ∙ take_all ((n + 1) * max) Wanted (omega (arith, few_wanted, next, least, few))
+    all_came was_last (inr few) = grind (arith, few_wanted, packets_joined-is, take_all)
     all_came was_last (inl same) =
         let pos : 0 < max = omega (arith, least) in
         packets_joined-whole max wanted answer (n + 1) pos
         (elim (packet_at max wanted answer (n + 1))
         as (λ o. is_some o ≡ false → o ≡ None) [ None ↦ λ e. refl | Some x ↦ λ e. cc e ]
         (packet-further max wanted answer last n pos h
-        ∙ over_if (length last) max came wanted
-        (subst (λ m. ends_stage (length last) m came wanted ≡ true) (sym same) was_last)))
+        ∙ over_if (length last) max came wanted (grind arith)))
 
     -- the bytes that are kept are all that was wanted of the answer
     bytes_are_all : (bytes : List ℕ) → bytes ≡ take wanted (got ++ last)
@@ -363,18 +326,17 @@ module _ (t : Target) (request : Setup) (host : IsToHost request) (some : 1 ≤ 
       record {
         row = row_of x.holder.below;
         accepts = record { state = u; at = x; had = refl };
-        frame = subst (λ d. OnlyStage s d) (sym e) refl;
-        naks = subst (λ d. d.naks ≤ s.spec.naks) (sym e) (omega arith);
+        frame = grind arith;
+        naks = grind arith;
         losses = y.kept (host_stretch request host) tt;
         far = elim (first_stage_of (row_of x.holder.below) s Wants o) [
           | refuses h ↦ refuses_at h (ap (λ d. d.stage) e ∙ h) refl
-          | answers_with answer f h ↦ answers_at answer h
-              (record { known = 0; stage = ap (λ d. d.stage) e ∙ h; near = inl refl }) refl
-              (λ least m. first_packet (max_packet s.spec) Wants answer some)
+          | answers_with answer f h ↦ answers_at answer h (grind arith) refl
+              (grind (arith, first_packet))
           | ends h f ↦ cc (sym (is_some_byte Wants some)
-              ∙ f (outcome-is_reading s.spec s.registers request host))
+              ∙ f (grind (arith, outcome-is_reading)))
           | writes_from w f h g ↦
-              absurd (g (outcome-is_reading s.spec s.registers request host))
+              absurd (grind (arith, outcome-is_reading))
         ];
       }
 
@@ -452,7 +414,7 @@ module _ (t : Target) (request : Setup) (host : IsToHost request) (some : 1 ≤ 
             (subst (λ d. is_some (packet_at (max_packet d) Wants answer n) ≡ true)
             (sym (told_on at x).spec) (so least m))
             (subst (λ d. Fits t (max_packet d) Wants answer) (sym (told_on at x).spec)
-            (all_fit t (max_packet s.spec) Wants answer least m))
+            (search (all_fit, s.spec)))
       ]
 
   -- a packet for which there was no memory
@@ -475,10 +437,9 @@ module _ (t : Target) (request : Setup) (host : IsToHost request) (some : 1 ≤ 
       → ControlOutAsked t One [] (Err fault) mid new j u v
       → AskedRead t request (Err (as_pipe_fault fault)) old new j s v
   read_unconfirmed n {old = old} {mid = mid} fault undamaged j s u v at x y = record {
-    frame = told_frame at x v (y.told.read refl refl).frame;
+    frame = grind (arith, told_frame);
     done = λ b e. cc e;
-    refused = λ e. absurd ((y.told.read refl refl).stalled (told_at at x) in_read
-        (fell fault trans.Stalled e));
+    refused = λ e. absurd ((y.told.read refl refl).stalled (told_at at x) in_read (search fell));
     ends = last_failed (as_pipe_fault fault) fault refl mid (IsInRead u) (told_on at x) undamaged
         (y.told.leaves.could (told_at at x)) (λ suits. in_read)
         (λ three. (y.told.read_why three refl refl).answered)
@@ -499,23 +460,23 @@ module _ (t : Target) (request : Setup) (host : IsToHost request) (some : 1 ≤ 
       → ControlOutAsked t One [] (Ok []) mid new j u v → AskedRead t request (Ok whole) old new j s
       v
   read_whole n {old = old} {first} {new = new} whole since j s u v at x y = record {
-    frame = told_frame at x v (y.told.read refl refl).frame;
+    frame = grind (arith, told_frame);
     done = λ bytes e. let same : whole ≡ bytes = cc e in
         subst (λ (w : Vec ℕ). AnswerRead t request w.items old new j s v) same (elim x.far [
           | refuses_at f h none ↦ absurd (omega (arith, none))
           | answers_at answer f r b so ↦
               record {
                 row = x.row;
-                moment = record { now = first; accepts = x.accepts; since = since };
+                moment = grind arith;
                 answer = answer;
                 is = f;
                 came = so;
-                over = ((y.told.read refl refl).done (told_at at x) [] refl).0;
+                over = grind (arith, told_at);
               }
         ]);
     refused = λ e. cc e;
     ends = grind (arith, not_failed, told_at, told_on, y.told.leaves.could);
-    losses = λ sound. y.kept tt ∙ x.losses;
+    losses = grind arith;
   }
 
   -- setup data that were not acknowledged
@@ -529,8 +490,8 @@ module _ (t : Target) (request : Setup) (host : IsToHost request) (some : 1 ≤ 
     ];
     done = λ b e. cc e;
     refused = grind (arith, fell, x.done.could);
-    ends = set_up_failed (as_pipe_fault fault) fault refl (x.done.could at) x.why;
-    losses = λ sound. x.kept (host_stretch request host) (sound_in (Vec ℕ) fault sound);
+    ends = grind (arith, set_up_failed);
+    losses = grind (arith, host_stretch, sound_in);
   }
 
   -- The worlds of a read
@@ -540,16 +501,12 @@ module _ (t : Target) (request : Setup) (host : IsToHost request) (some : 1 ≤ 
       goes : {n : ℕ} {got : List ℕ} {mid : World} → Goes t Wants first n got mid
           → RequestReached t request (ReadTold t request n got (Next t Wants n) old first mid) old
           mid
-      goes start = reached_first t request (ReadTold t request 0 [] (Next t Wants 0) old first
-          first) same settled x told_first
+      goes start = search (reached_first, told_first)
       goes {mid = new} (packet {n} {got} {mid} bytes g asks on) =
           reached_more (ControlInAsked t (flips n One) (Ok bytes) mid new)
           (ReadTold t request (n + 1) (got ++ bytes) (Next t Wants (n + 1)) old first new) bytes
-          (λ j s v y. y.told.leaves.others)
-          (λ j s u v at y z. told_more at y (Next t Wants (n + 1)) z
-          (λ answer came all least m. next_packet (max_packet s.spec) Wants answer t.max n got
-          bytes (at_least_8 s.spec) came all least on m))
-          (goes g) asks (asked_leaves t (flips n One) (Ok bytes) mid new asks)
+          (grind arith) (search (at_least_8, next_packet, told_more))
+          (goes g) asks (grind (arith, asked_leaves))
 
       over : {bytes : List ℕ} {second : World} (d : DataStage t Wants first bytes second)
           → RequestReached t request (ReadTold t request (d.packets + 1) (d.got ++ d.last)
@@ -557,12 +514,9 @@ module _ (t : Target) (request : Setup) (host : IsToHost request) (some : 1 ≤ 
       over {bytes} {second} d =
           reached_more (ControlInAsked t (flips d.packets One) (Ok d.last) d.mid second)
           (ReadTold t request (d.packets + 1) (d.got ++ d.last) (Came t Wants bytes) old first
-          second) d.last (λ j s v y. y.told.leaves.others)
-          (λ j s u v at y z. told_more at y (Came t Wants bytes) z
-          (λ answer came all m. bytes_are_all (max_packet s.spec) Wants answer t.max d.packets
-          d.got d.last (at_least_8 s.spec) came all bytes d.kept d.ends m))
-          (goes d.before) d.came (asked_leaves t (flips d.packets One) (Ok d.last) d.mid second
-          d.came)
+          second) d.last (grind arith)
+          (search (at_least_8, bytes_are_all, told_more, d.packets, d.got, d.last, d.kept, d.ends))
+          (goes d.before) d.came (grind (arith, asked_leaves))
 
     module _ (new : World) (single : new.shared ≡ false) where
       abbrev ReadEnds : Result (Vec ℕ) PipeFault → Type 0
@@ -574,9 +528,9 @@ module _ (t : Target) (request : Setup) (host : IsToHost request) (some : 1 ≤ 
           let d = x.data_stage in
           reached_last (ControlOutAsked t One [] (Ok []) x.second new) (AskedRead t request (Ok
           bytes) old new) _
-          _ _ (Ok []) (λ j s v y. y.told.leaves.others)
+          _ _ (Ok []) (grind arith)
           (read_whole d.packets bytes (course_joined (stage_behind d) (out_behind x.status)))
-          (over x.set_up d) x.status (put_leaves t One [] (Ok []) x.second new x.status) single
+          (over x.set_up d) x.status (grind (arith, put_leaves)) single
       each_read (Err why) (inl x) =
           subst (λ w. ReadEnds (Err w)) (sym x.told)
           (only_first t request (AskedRead t request (Err (as_pipe_fault x.fault)) old new)
@@ -587,17 +541,16 @@ module _ (t : Target) (request : Setup) (host : IsToHost request) (some : 1 ≤ 
             subst (λ w. ReadEnds (Err w)) (sym d.told)
             (reached_last (ControlInAsked t (flips d.packets One) (Err d.fault) d.mid new)
             (AskedRead t request (Err (as_pipe_fault d.fault)) old new) _ _ _ (Err d.fault)
-            (λ j s v y. y.told.leaves.others)
+            (grind arith)
             (read_lost d.fault r.damages (λ e. course_joined (goes_behind d.before)
             (in_behind (flips d.packets One) (ended_stalled d.fault d.lost e))))
-            r d.lost (asked_leaves t (flips d.packets One) (Err d.fault) d.mid new d.lost) single)
+            r d.lost (grind (arith, asked_leaves)) single)
         | inr d ↦
             subst (λ w. ReadEnds (Err w)) (sym d.told)
             (reached_last (ControlInAsked t (flips d.packets One) (Ok d.last) d.mid new)
             (AskedRead t request (Err pipe_fault.Memory) old new) _ _ _ (Ok d.last)
-            (λ j s v y. y.told.leaves.others) read_full
-            (goes x.set_up d.before) d.came (asked_leaves t (flips d.packets One) (Ok d.last) d.mid
-            new d.came) single)
+            (grind arith) read_full
+            (goes x.set_up d.before) d.came (grind (arith, asked_leaves)) single)
       ]
       each_read (Err why) (inr (inr x)) =
           let d = x.data_stage in
@@ -605,9 +558,9 @@ module _ (t : Target) (request : Setup) (host : IsToHost request) (some : 1 ≤ 
           subst (λ w. ReadEnds (Err w)) (sym x.told)
           (reached_last (ControlOutAsked t One [] (Err x.fault) x.second new)
           (AskedRead t request (Err (as_pipe_fault x.fault)) old new) _ _ _ (Err x.fault)
-          (λ j s v y. y.told.leaves.others)
+          (grind arith)
           (read_unconfirmed d.packets x.fault r.damages)
-          r x.status (put_leaves t One [] (Err x.fault) x.second new x.status) single)
+          r x.status (grind (arith, put_leaves)) single)
 
 -- A whole read
 
@@ -620,7 +573,7 @@ module _ (t : Target) (request : Setup) (result : Result (Vec ℕ) PipeFault) (o
   each_read_told R f host some same settled x single =
       spared_all t request R old new (host_harmless request host)
       (spared_wider t request (Only t (AskedRead t request result old new)) R f old new
-      (each_read t request host some same old settled new single result x))
+      (search each_read))
 
   pub read_leaves : IsToHost request → 1 ≤ request.length → setup_of (bytes_of request) ≡ request
       → IsSettled old.roots → Reads t request old result new → new.shared ≡ false
@@ -661,7 +614,7 @@ module _ (t : Target) (request : Setup) (same : setup_of (bytes_of request) ≡ 
     taken_asked = outcome s.spec s.registers request
 
     taken_is : u ≡ accepted s (row_of x.holder.below) request
-    taken_is = x.is ∙ ap (λ r. accepted s (row_of x.holder.below) r) same
+    taken_is = grind arith
 
     taken_accepts : AcceptedIn t request old mid j (row_of x.holder.below) s
     taken_accepts = record { state = u; at = x; had = refl }
@@ -671,7 +624,7 @@ module _ (t : Target) (request : Setup) (same : setup_of (bytes_of request) ≡ 
     taken_stage = ap (λ d. d.stage) taken_is
 
     taken_spec : u.spec ≡ s.spec
-    taken_spec = ap (λ d. d.spec) taken_is ∙ spec_stays s taken_asked
+    taken_spec = search (spec_stays, taken_is)
 
     taken_address : address_of u ≡ address_of s
     taken_address = grind (arith, register_address, taken_is)
@@ -694,7 +647,7 @@ module _ (t : Target) (request : Setup) (same : setup_of (bytes_of request) ≡ 
     kept_then : (fault : PipeFault) (v : State) → OnlyControl u v → v.registers ≡ u.registers
         → EffectOrNone t request fault old j s v
     kept_then fault v frame e = EffectOrNone.some (row_of x.holder.below) mid taken_accepts
-        (subst (λ d. OnlyControl d v) taken_is frame) (e ∙ ap (λ d. d.registers) taken_is)
+        (grind (arith, taken_is)) (search taken_is)
 
     -- or the bus gave up behind a status stage that was given
     effect_then : request.length ≡ 0 → (fault : TransFault) (v : State)
@@ -703,26 +656,25 @@ module _ (t : Target) (request : Setup) (same : setup_of (bytes_of request) ≡ 
         elim (closes (row_of x.holder.below) s request.length taken_asked nothing) [
           | inl h ↦ kept_then (pipe_fault.Bus fault) v y.frame (y.rests (taken_stage ∙ h))
           | inr h ↦ EffectOrNone.whole fault refl (row_of x.holder.below) mid taken_accepts
-              (subst (λ d. OnlyControl d v) taken_is y.frame) (address_at_end taken_asked) h
-              (subst (λ d. StatusGiven (address_at_end taken_asked) d v) taken_is
-              (y.status taken_at refl (address_at_end taken_asked) (taken_stage ∙ h)))
+              (grind (arith, taken_is)) (address_at_end taken_asked) h
+              (grind (arith, taken_at, taken_is, taken_stage))
         ]
     effect_then nothing fault v y =
-        kept_then (as_pipe_fault fault) v y.frame (y.failed refl fault refl tt)
+        kept_then (as_pipe_fault fault) v y.frame (grind arith)
 
     module _ {new : World} (v : State) where
       effect_done : (given : List ℕ) → Course (IsBehind t) mid new → request.length ≡ 0
           → ControlIn t One (Ok given) j u v → EffectDone t request old new j s v
       effect_done given since nothing y =
           elim (closes (row_of x.holder.below) s request.length taken_asked nothing) [
-            | inl h ↦ absurd ((y.refused (taken_stage ∙ h)).1 taken_at given refl)
+            | inl h ↦ absurd (grind (arith, taken_at, taken_stage))
             | inr h ↦ record {
               row = row_of x.holder.below;
-              moment = record { now = mid; accepts = taken_accepts; since = since };
+              moment = grind (arith, taken_accepts);
               address = address_at_end taken_asked;
               is = h;
               given = grind (arith, taken_at, taken_is, taken_stage, y.status);
-              rest = subst (λ d. OnlyControl d v) taken_is y.frame;
+              rest = grind (arith, taken_is);
             }
           ]
 
@@ -747,7 +699,7 @@ module _ (t : Target) (request : Setup) (same : setup_of (bytes_of request) ≡ 
       → ControlInAsked t One (Ok given) mid new j u v → AskedWrite t request (Ok unit) old new j s v
   write_whole {given} unit since j s u v at (x, before) y = record {
     failed = λ nothing fault e. cc e;
-    done = λ nothing d e. effect_done at x v given since nothing y.told.leaves;
+    done = search (effect_done, y.told.leaves);
     refused = λ nothing e. cc e;
     ends = grind (arith, not_failed, taken_at, taken_spec, y.told.leaves.could);
     losses = λ plain sound. record {
@@ -772,12 +724,7 @@ module _ (t : Target) (request : Setup) (same : setup_of (bytes_of request) ≡ 
         record {
           row = row_of x.holder.below;
           moment = record { now = mid; accepts = taken_accepts at x; since = since down };
-          is = elim (closes (row_of x.holder.below) s request.length (taken_asked at x)
-              nothing) [
-                | inl h ↦ h
-                | inr h ↦ cc (sym (ap refuses_in (taken_stage at x ∙ h))
-                    ∙ y.told.leaves.stalled (taken_at at x) down)
-              ];
+          is = grind (arith, closes, taken_at, taken_stage);
         };
     ends = last_failed (as_pipe_fault fault) fault refl mid (HasNext t One u) (taken_on at x)
         undamaged
@@ -788,7 +735,7 @@ module _ (t : Target) (request : Setup) (same : setup_of (bytes_of request) ≡ 
         record {
           done = λ at d e. cc e;
           failed = λ at why e. failed_counted at x v (before plain) l u.stage refl;
-          none = λ at. none_counted at x v (before plain) l;
+          none = search none_counted;
         };
   }
 
@@ -803,7 +750,7 @@ module _ (t : Target) (request : Setup) (same : setup_of (bytes_of request) ≡ 
     ];
     done = λ nothing d e. cc e;
     refused = grind (arith, fell, x.done.could);
-    ends = set_up_failed (as_pipe_fault fault) fault refl (x.done.could at) x.why;
+    ends = grind (arith, set_up_failed);
     losses = grind (arith, sound_in, x.kept);
   }
 
@@ -815,17 +762,15 @@ module _ (t : Target) (request : Setup) (same : setup_of (bytes_of request) ≡ 
 
     began : {mid : World} → SetUp t request old (Ok []) mid
         → RequestReached t request (Took old mid) old mid
-    began {mid} x = reached_first t request (Took old mid) same settled x
-        (λ j s v at y. (y.done.done at [] refl, λ plain. y.kept plain tt))
+    began {mid} x = reached_first t request (Took old mid) same settled x (grind arith)
 
     each_write : (result : Result (Unit {0}) PipeFault) → Writes t request old result new
         → WriteEnds result
     each_write (Ok unit) x =
         reached_last (ControlInAsked t One (Ok x.given) x.mid new)
-        (AskedWrite t request (Ok unit) old new) _ _ _ (Ok x.given) (λ j s v y.
-        y.told.leaves.others)
+        (AskedWrite t request (Ok unit) old new) _ _ _ (Ok x.given) (grind arith)
         (write_whole unit (in_behind One x.status)) (began x.set_up) x.status
-        (asked_leaves t One (Ok x.given) x.mid new x.status) single
+        (grind (arith, asked_leaves)) single
     each_write (Err why) (inl x) =
         subst (λ w. WriteEnds (Err w)) (sym x.told)
         (only_first t request (AskedWrite t request (Err (as_pipe_fault x.fault)) old new)
@@ -834,10 +779,10 @@ module _ (t : Target) (request : Setup) (same : setup_of (bytes_of request) ≡ 
         subst (λ w. WriteEnds (Err w)) (sym x.told)
         (reached_last (ControlInAsked t One (Err x.fault) x.mid new)
         (AskedWrite t request (Err (as_pipe_fault x.fault)) old new) _ _ _ (Err x.fault)
-        (λ j s v y. y.told.leaves.others)
+        (grind arith)
         (write_failed x.fault (ended_damages x.set_up)
         (λ e. in_behind One (ended_stalled x.fault x.status e)))
-        (began x.set_up) x.status (asked_leaves t One (Err x.fault) x.mid new x.status) single)
+        (began x.set_up) x.status (grind (arith, asked_leaves)) single)
 
 -- A whole write
 
@@ -856,9 +801,9 @@ module _ (t : Target) (request : Setup) (result : Result (Unit {0}) PipeFault) (
               | inl at ↦ (y.mine at).failed nothing fault e
               | inr off ↦ effect_or_none_same t request fault old j s v (y.others off)
             ];
-            done = λ at. (y.mine at).done nothing;
-            refused = λ at. (y.mine at).refused nothing;
-            could = λ at. (y.mine at).ends.could;
+            done = grind arith;
+            refused = grind arith;
+            could = grind arith;
           };
           why = grind (arith, y.mine);
         }) old new (each_write t request same old new settled single result x)
@@ -883,9 +828,9 @@ module _ (t : Target) (request : Setup) (result : Result (Unit {0}) PipeFault) (
         → new.shared ≡ false → EachSpared t request (LossesOf t request result old new) old new
     write_losses same plain settled x sound single =
         spared_wider t request _ _ (λ j s v y. record {
-          done = λ at. ((y.mine at).losses plain sound).done at;
-          failed = λ at. ((y.mine at).losses plain sound).failed at;
-          none = λ at. ((y.mine at).losses plain sound).none at;
+          done = grind arith;
+          failed = grind arith;
+          none = grind arith;
         }) old new (each_write t request same old new settled single result x)
 
 -- A data stage, packet by packet, as its call makes it
@@ -910,7 +855,7 @@ read_progress_none t wanted got w trace some none = rw none (record {
   goes = start;
   turned = refl;
   few = some;
-  spends = spends_wider 0 (byte_bound t.max * 0) w w (spends_none w) (omega arith);
+  spends = grind (arith, spends_none, spends_wider);
   sound = λ e. e;
   traced = still;
 })
@@ -927,12 +872,12 @@ kept_front : (wanted : ℕ) (got bytes : List ℕ) → length got < wanted
     → got ++ take (wanted - length got) bytes ≡ take wanted (got ++ bytes)
 kept_front wanted got bytes few =
     let whole : length got + (wanted - length got) ≡ wanted = omega (arith, few) in
-    sym (take-append-add got bytes (wanted - length got)) ∙ ap (λ n. take n (got ++ bytes)) whole
+    grind (arith, take-append-add)
 
 -- a packet that leaves more wanted is full, and kept whole
 ends_stage-false : (size max got wanted : ℕ) → ends_stage size max got wanted ≡ false → (max ≤ size)
     × (got < wanted)
-ends_stage-false size max got wanted e = (grind (arith, nat_tests, e), grind (arith, nat_tests, e))
+ends_stage-false size max got wanted e = grind (arith, nat_tests)
 
 -- so a packet more of them came
 pub grown_full : (max wanted : ℕ) (got : List ℕ) {kept : List ℕ} (bytes : List ℕ)
@@ -953,18 +898,16 @@ onward_more {t} {wanted} {old} {mid} {new} {got = got} {kept} {toggle} {next} by
     worked went is more f =
     let on = ends_stage-false (length bytes) t.max (length kept) wanted more in
     let front : kept ≡ take wanted (got ++ bytes) = is ∙ kept_front wanted got bytes o.few in
-    let whole : kept ≡ got ++ bytes = front
-    ∙ take_all wanted (got ++ bytes)
-    (omega (arith, on.1, ap length front, length-take wanted (got ++ bytes))) in
+    let whole : kept ≡ got ++ bytes = grind (arith, length-take, take_all) in
     let grown : length got + t.max ≤ length kept =
     omega (arith, on.0, ap length whole, length-append got bytes) in
     record {
       packets = o.packets + 1;
       goes = rw whole (packet bytes o.goes (subst (λ x. Asks t x mid (Ok bytes) new) o.turned asks)
-          (subst (λ x. ends_stage (length bytes) t.max (length x) wanted ≡ false) whole more));
-      turned = flips_more o.packets One toggle next o.turned f;
+          (grind arith));
+      turned = grind (arith, flips_more);
       few = on.1;
-      spends = grind (arith, full_packet, spends_then, spends_wider, o.spends, went.spends);
+      spends = grind (arith, full_packet, spends_then, spends_wider);
       sound = λ _. o.sound worked.sound;
       traced = traced_then o.traced went.traced;
     }
@@ -1000,7 +943,7 @@ no_room_ends {t} {mid = mid} {new} {got = got} last (Err why) err said o asks =
       before = o.goes;
       last = last;
       told = said;
-      came = subst (λ x. Asks t x mid (Ok last) new) o.turned asks;
+      came = grind arith;
     })
 no_room_ends last (Ok bytes) err said o asks = cc
 

@@ -1,8 +1,8 @@
 -- What a control transfer with data to the device leaves of each device.
 use Rattle.std.proofs.Common.{◌≡◌, ◌≢◌, ◌⊎◌, inl, inr, refl, sym, ap, subst, ◌∙◌, arith, ℕ, ◌+◌}
-use Rattle.std.proofs.Common.{◌<◌, ◌≤◌, ◌==◌, ◌&&◌, not, nat_le, if◌then◌else◌, Bool, true, false}
-use Rattle.std.proofs.Common.{List, [], ◌++◌, length, take, slice_get, Option, None, Some, Result}
-use Rattle.std.proofs.Common.{Ok, Err, length-append, MatchResult, OnOk}
+use Rattle.std.proofs.Common.{◌<◌, ◌≤◌, ◌==◌, ◌&&◌, not, if◌then◌else◌, Bool, true, false, List, []}
+use Rattle.std.proofs.Common.{◌++◌, length, take, slice_get, Option, None, Some, Result, Ok, Err}
+use Rattle.std.proofs.Common.{length-append, MatchResult, OnOk}
 use Rattle.std.proofs.lemmas.List.{length-take, take_all}
 use Rattle.std.specs.Int.{div_ceil}
 use Rattle.std.proofs.lemmas.Bool.Decides.{nat_tests}
@@ -15,15 +15,12 @@ use Rattle.usb_request.specs.{ENDPOINT_OUT, HUB_IN, PORT_IN, PORT_OUT, GET_DESCR
 use Rattle.usb_request.specs.{GET_CONFIGURATION, SET_ADDRESS, SET_CONFIGURATION, CLEAR_FEATURE}
 use Rattle.usb_request.specs.{SET_FEATURE, ENDPOINT_HALT, INTERFACE_IN, INTERFACE_OUT, ENDPOINT_IN}
 use Rattle.usb_request.specs.{GET_INTERFACE, SET_INTERFACE}
-use Rattle.usb_descriptor.specs.{has_setting}
 use Rattle.usb_device.specs.{OwnAnswer, OwnRequest, asked_at, asked_by_answer, asked_by_row, fits}
 use Rattle.usb_device.specs.{asked_own, goes_so, is_to_host, own_place, Is, Outcome, Registers}
-use Rattle.usb_device.specs.{Spec, State, Stage, Location, ServedEndpoint, stalled, takes, halts}
-use Rattle.usb_device.specs.{unhalts, outcome, on_endpoint, is_value, served, first_stage, ends_if}
-use Rattle.usb_device.specs.{writing, first_write, begun, row_of, refused, Write, written_on}
-use Rattle.usb_device.specs.{is_done, taken_with, IsPacketOf, OnlyWrite, WritingAt, WriteAt}
-use Rattle.usb_device.specs.{WriteEnded, level, ahead, seen, unseen, OnlyControl, max_packet}
-use Rattle.usb_device.specs.{items_at}
+use Rattle.usb_device.specs.{Spec, State, Stage, Location, ServedEndpoint, stalled, takes, outcome}
+use Rattle.usb_device.specs.{on_endpoint, first_stage, writing, first_write, begun, row_of, refused}
+use Rattle.usb_device.specs.{Write, written_on, is_done, taken_with, IsPacketOf, OnlyWrite}
+use Rattle.usb_device.specs.{WritingAt, WriteAt, WriteEnded, level, ahead, OnlyControl, max_packet}
 use Rattle.usb_world.specs.{Course, World, is_harmless}
 use Rattle.usb_world.proofs.Interface.{course_joined}
 use Rattle.usb_tree.specs.{IsSettled}
@@ -36,8 +33,8 @@ use Rattle.usb_transaction.specs.{refused_write}
 use Rattle.usb_transaction.specs.declared.fault.TransFault.TheVariants as trans
 use Rattle.usb_transaction.proofs.Interface.{spared_wider}
 use Rattle.usb_pipe.specs.{AcceptedIn, AllGone, Asks, DataRefused, DataTaken, DataWrite, FaultAfter}
-use Rattle.usb_pipe.specs.{IsMaximum, IsNoBusFault, Gave, IsBehindData, PipeFault, Puts, PutsData}
-use Rattle.usb_pipe.specs.{SetUp, Unshared, as_pipe_fault, stage_begun}
+use Rattle.usb_pipe.specs.{IsMaximum, IsNoBusFault, Gave, IsBehindData, PipeFault, PutsData, SetUp}
+use Rattle.usb_pipe.specs.{Unshared, as_pipe_fault, stage_begun}
 use Rattle.usb_pipe.specs.declared.fault.PipeFault.TheVariants as pipe_fault
 use Rattle.usb_pipe.specs.Moves as moves
 use Rattle.usb_pipe.proofs.ControlSteps.{Only, Requested, RequestReached, MayEnd, GoesOn, goes_on}
@@ -61,8 +58,7 @@ not_so : (b : Bool) (x y : Outcome) → b ≡ false → IsWriting y → IsWritin
 not_so b x y e h = rw e h
 
 and_last : (a b : Bool) → b ≡ false → (a && b) ≡ false
-and_last true b e = e
-and_last false b e = refl
+and_last a b e = grind arith
 
 -- a request of the device's own whose data go to it
 
@@ -83,8 +79,7 @@ module _ (rows : List OwnRequest) (r : Setup) (way : is_to_host r ≡ false) whe
       ∙ (position-Some (λ x. fits x r) rows i row e).1))
 
   by_place : (o : Option ℕ) → own_place rows r ≡ o → IsWriting (asked_at rows o)
-  by_place None e = tt
-  by_place (Some i) e = by_row i e (slice_get rows i) refl
+  by_place o e = grind (arith, by_row)
 
   own_is_writing : (g : Registers) → IsWriting (asked_own rows g r)
   own_is_writing g = grind (arith, by_place, either_way)
@@ -107,31 +102,20 @@ module _ (s : Spec) (g : Registers) (r : Setup) (way : IsToDevice r)
       (no_read DEVICE_IN GET_STATUS _ _ (omega arith)
       (no_read DEVICE_IN GET_CONFIGURATION _ _ (omega arith)
       (either_way IsWriting (Is r DEVICE_OUT SET_ADDRESS) _ _
-      (either_way IsWriting s.stalls.address _ _ tt
-      (not_so (nat_le r.value 127 && r.length == 0) _ _ (and_last (nat_le r.value 127)
-      (r.length == 0) some) tt))
+      (grind (arith, and_last, either_way, not_so))
       (either_way IsWriting (Is r DEVICE_OUT SET_CONFIGURATION) _ _
-      (either_way IsWriting s.stalls.set_config _ _ tt
-      (not_so (not (g.address == 0) && is_value s.configs r.value && r.length == 0) _ _
-      (grind (arith, some)) tt))
+      (grind (arith, either_way, not_so))
       (no_read INTERFACE_IN GET_STATUS _ _ (omega arith)
       (no_read INTERFACE_IN GET_INTERFACE _ _ (omega arith)
       (either_way IsWriting (Is r INTERFACE_OUT SET_INTERFACE) _ _
-      (either_way IsWriting s.stalls.interface _ _ tt
-      (not_so (r.length == 0 && has_setting r.index r.value (items_at s g)) _ _
-      (ap (λ b. b && has_setting r.index r.value (items_at s g)) some) tt))
+      (grind (arith, either_way, not_so))
       (no_read ENDPOINT_IN GET_STATUS _ _ (omega arith)
-      (either_way IsWriting (Is r ENDPOINT_OUT CLEAR_FEATURE) _ _
-      (no_endpoint unhalts (served s g r.index))
-      (either_way IsWriting (Is r ENDPOINT_OUT SET_FEATURE) _ _
-      (no_endpoint halts (served s g r.index))
+      (either_way IsWriting (Is r ENDPOINT_OUT CLEAR_FEATURE) _ _ (search no_endpoint)
+      (either_way IsWriting (Is r ENDPOINT_OUT SET_FEATURE) _ _ (search no_endpoint)
       (no_read HUB_IN GET_DESCRIPTOR _ _ (omega arith)
       (no_read PORT_IN GET_STATUS _ _ (omega arith)
-      (either_way IsWriting (Is r PORT_OUT SET_FEATURE) _ _
-      (not_so (r.length == 0) _ _ some tt)
-      (either_way IsWriting (Is r PORT_OUT CLEAR_FEATURE) _ _
-      (not_so (r.length == 0) _ _ some tt)
-      (own_is_writing s.requests r (grind (arith, nat_tests, way)) g)))))))))))))))
+      (either_way IsWriting (Is r PORT_OUT SET_FEATURE) _ _ (search not_so)
+      (grind (arith, either_way, nat_tests, not_so, own_is_writing)))))))))))))))
 
 -- nothing else comes of it
 asks_data_only : (s : State) (row : List PortState) (wanted : ℕ) (o : Outcome) → IsWriting o
@@ -150,8 +134,7 @@ data BeginsWrite (wanted : ℕ) (first : Stage) : Type 0 where
 begins : (row : List PortState) (d : State) (wanted : ℕ) (o : Outcome) → IsWriting o
     → (wanted == 0) ≡ false → BeginsWrite wanted (first_stage row d wanted o)
 begins row d wanted stalled h e = begins_refused refl
-begins row d wanted (takes kept) h e = begins_write kept
-    (ap (λ b. if b then ends_if kept else writing (first_write wanted kept)) e)
+begins row d wanted (takes kept) h e = begins_write kept (grind arith)
 begins row d wanted o h e = absurd h
 
 -- A device that accepted the request with these ports, as far as its transfer is
@@ -205,9 +188,7 @@ taken_by old bytes got w e f whole v h = grind (arith, nat_tests)
 
 nothing_yet : (old : List ℕ) (wanted : ℕ) (kept : Bool) → 1 ≤ wanted
     → taken_with old (so_far wanted kept 0 []) ≡ old
-nothing_yet old wanted kept some =
-    let none : (0 == wanted) ≡ false = grind (arith, nat_tests, some) in
-    rw none refl
+nothing_yet old wanted kept some = grind (arith, nat_tests)
 
 -- where the registers stay, only the transfer and what such transfers have brought change
 only_write : (s v : State) → OnlyControl s v → v.registers ≡ s.registers → OnlyWrite s v
@@ -219,8 +200,7 @@ write_at old w bytes fault v h = grind arith
 
 taken_ended : (old : List ℕ) (w : Write) (v : State) → WriteEnded old w v
     → v.taken ≡ taken_with old w
-taken_ended old w v (seen e f) = f
-taken_ended old w v (unseen at) = at.taken
+taken_ended old w v h = grind arith
 
 taken_failed : (old : List ℕ) (w : Write) (fault : TransFault) (v : State)
     → WriteStatusEnds old w (Err fault) v → v.taken ≡ taken_with old w
@@ -265,16 +245,16 @@ module _ (t : Target) (request : Setup) (way : IsToDevice request) (some : 1 ≤
       record {
         row = row_of x.holder.below;
         accepts = record { state = u; at = x; had = refl };
-        frame = subst (λ d. OnlyWrite s d) (sym e) refl;
-        naks = subst (λ d. d.naks ≤ s.spec.naks) (sym e) (omega arith);
+        frame = grind arith;
+        naks = grind arith;
         losses = λ plain. y.kept plain tt;
         far = elim (begins (row_of x.holder.below) s request.length
             (outcome s.spec s.registers request)
-            (outcome-is_writing s.spec s.registers request way wants_some) wants_some) [
+            (grind (arith, outcome-is_writing, wants_some)) wants_some) [
               | begins_refused h ↦ refuses_data h (ap (λ d. d.stage) e ∙ h) (ap (λ d. d.taken) e)
               | begins_write kept h ↦ writes_data kept h (record {
-                stage = ap (λ d. d.stage) e ∙ h ∙ ap writing (so_far-first request.length kept);
-                taken = ap (λ d. d.taken) e ∙ sym (nothing_yet s.taken request.length kept some);
+                stage = ap (λ d. d.stage) e ∙ h ∙ ap writing (search so_far-first);
+                taken = grind (arith, nothing_yet);
               })
             ];
       }
@@ -307,13 +287,13 @@ module _ (t : Target) (request : Setup) (way : IsToDevice request) (some : 1 ≤
       accepts = x.accepts;
       frame = data_frame v y.told.leaves.frame;
       naks = omega (arith, x.naks, y.told.leaves.naks);
-      losses = λ plain. y.kept tt ∙ x.losses plain;
+      losses = grind arith;
       far = elim x.far [
-        | refuses_data f h k ↦ absurd ((y.told.leaves.refused h).2 data_at [] refl)
+        | refuses_data f h k ↦ absurd (grind (arith, data_at))
         | writes_data kept f h ↦ writes_data kept f (subst (λ w. WritingAt s.taken w v)
-            (so_far-more request.length kept n sent bytes)
+            (search so_far-more)
             (y.told.leaves.write data_at s.taken (so_far request.length kept n sent) refl
-            (record { some = more; within = within }) (level h)))
+            (grind arith) (level h)))
       ];
     }
 
@@ -338,7 +318,7 @@ module _ (t : Target) (request : Setup) (way : IsToDevice request) (some : 1 ≤
       ends = last_failed why fault told now (Expects (part rest) u) data_on undamaged (y.could
           data_at)
           expected (λ three. (z.told.why three).answered) (λ three. (z.told.why three).waited);
-      losses = λ plain sound. z.kept (sound_told (Unit {0}) why fault told sound) ∙ x.losses plain;
+      losses = grind (arith, sound_told);
     }
       where
         y : WriteOut t (flips n One) (part rest) (Err fault) j u v
@@ -347,25 +327,14 @@ module _ (t : Target) (request : Setup) (way : IsToDevice request) (some : 1 ≤
         expected : IsMaximum t request.length s → Expects (part rest) u
         expected m =
             let fits : length (part rest) ≤ max_packet u.spec =
-            subst (λ d. length (part rest) ≤ max_packet d) (sym data_on.spec)
-            (packet_within t request.length s rest m
-            (omega (arith, all, ap length split, length-append sent rest))) in
+            grind (arith, data_on, length-append, packet_within) in
             elim x.far [
               | refuses_data f h k ↦ refused_write h
               | writes_data kept f h ↦ data_write (w kept) h.stage fits
             ]
 
         is_packet : (kept : Bool) → IsPacketOf (w kept) (part rest)
-        is_packet kept = record {
-          some = omega (arith, length-take t.max rest, more, least);
-          within = omega (
-            arith,
-            length-take t.max rest,
-            all,
-            ap length split,
-            length-append sent rest,
-          );
-        }
+        is_packet kept = grind (arith, length-append, length-take)
 
         ends : (kept : Bool) → WritingAt s.taken (w kept) u
             → WriteEnds s.taken (w kept) (part rest) (Err fault) v
@@ -373,10 +342,9 @@ module _ (t : Target) (request : Setup) (way : IsToDevice request) (some : 1 ≤
 
         by_end : (kept : Bool) → WriteAt s.taken (w kept) (part rest) v
             → (v.taken ≡ s.taken) ⊎ (v.taken ≡ s.taken ++ bytes)
-        by_end kept (level z) = taken_by s.taken bytes sent (w kept) refl all
-            (not_all_sent bytes sent rest split more) v z.taken
+        by_end kept (level z) = grind (arith, not_all_sent, taken_by)
         by_end kept (ahead z) = taken_by s.taken bytes (sent ++ part rest)
-            (written_on (w kept) (part rest)) refl all (all_sent bytes sent rest t.max split) v z.taken
+            (written_on (w kept) (part rest)) refl all (search all_sent) v z.taken
 
     -- The status stage, where all bytes have come
 
@@ -425,12 +393,12 @@ module _ (t : Target) (request : Setup) (way : IsToDevice request) (some : 1 ≤
         y.told.why,
         y.told.write_why,
       );
-      losses = λ plain sound. status_losses y (sound_told (Unit {0}) why fault told sound)
+      losses = λ plain sound. status_losses y (grind (arith, sound_told))
           ∙ x.losses plain;
     }
       where
         not_kept : (kept : Bool) → not (is_done (w kept)) ≡ true → kept ≡ false
-        not_kept true h = absurd (grind (arith, nat_tests, h, all, ap length is))
+        not_kept true h = grind (arith, nat_tests)
         not_kept false h = refl
 
     data_whole : (bytes given : List ℕ) → request.length ≡ length bytes → sent ≡ bytes
@@ -438,7 +406,7 @@ module _ (t : Target) (request : Setup) (way : IsToDevice request) (some : 1 ≤
         → ControlInAsked t One (Ok given) now new j u v → DataAsked t request bytes (Ok tt) old new
         j s v
     data_whole bytes given all is {new} since v y = elim x.far [
-      | refuses_data f h k ↦ absurd ((y.told.leaves.refused h).1 data_at given refl)
+      | refuses_data f h k ↦ absurd (grind (arith, data_at))
       | writes_data kept f h ↦ ended kept f h ((y.told.write refl).status data_at s.taken (w kept)
           h)
     ]
@@ -452,8 +420,7 @@ module _ (t : Target) (request : Setup) (way : IsToDevice request) (some : 1 ≤
             → WriteStatusEnds s.taken (w kept) (Ok given) v
             → DataAsked t request bytes (Ok tt) old new j s v
         ended kept f h (none, done, end) =
-            let came : v.taken ≡ s.taken ++ bytes = taken_ended s.taken (w kept) v end
-            ∙ ap (λ b. if b then s.taken ++ sent else s.taken) done ∙ ap (λ b. s.taken ++ b) is in
+            let came : v.taken ≡ s.taken ++ bytes = grind (arith, taken_ended) in
             record {
               frame = data_frame v (only_write u v y.told.leaves.frame
                   ((y.told.write refl).rests data_at s.taken (w kept) h));
@@ -461,7 +428,7 @@ module _ (t : Target) (request : Setup) (way : IsToDevice request) (some : 1 ≤
               failed = inr came;
               refuses = λ e. cc e;
               ends = grind (arith, data_at, data_on, not_failed, y.told.leaves.could);
-              losses = λ plain sound. status_losses y tt ∙ x.losses plain;
+              losses = grind (arith, status_losses);
             }
 
   -- a SETUP that was not acknowledged
@@ -480,8 +447,8 @@ module _ (t : Target) (request : Setup) (way : IsToDevice request) (some : 1 ≤
       | inr z ↦ ap (λ d. d.taken) (data_accepted s v z.at)
     ]);
     refuses = grind (arith, fell_same_fault, y.done.could);
-    ends = set_up_failed why fault told (y.done.could at) y.why;
-    losses = λ plain sound. y.kept plain (sound_told (Unit {0}) why fault told sound);
+    ends = grind (arith, set_up_failed);
+    losses = grind (arith, sound_told);
   }
 
   -- so many packets were acknowledged
@@ -495,17 +462,14 @@ module _ (t : Target) (request : Setup) (way : IsToDevice request) (some : 1 ≤
       let all : length (sent ++ bytes) ≡ length sent + length bytes = length-append sent bytes in
       reached_more (ControlOutAsked t (flips n One) bytes (Ok []) mid new)
       (DataTold t request (n + 1) (sent ++ bytes) old first new) []
-      (λ j s v y. y.told.leaves.others)
-      (λ j s u v at x y. data_more at x bytes y (omega (arith, more)) (omega (arith, few, all)))
-      (data_gone g r (omega (arith, few, all))) puts
-      (put_leaves t (flips n One) bytes (Ok []) mid new puts)
+      (grind arith) (grind (arith, data_more))
+      (data_gone g r (omega (arith, few, all))) puts (grind (arith, put_leaves))
 
   module _ (bytes : List ℕ) (all : request.length ≡ length bytes) (least : 1 ≤ t.max)
       (old new : World) (settled : IsSettled old.roots) (single : new.shared ≡ false) where
     data_reached : {first : World} → SetUp t request old (Ok []) first
         → RequestReached t request (DataTold t request 0 [] old first first) old first
-    data_reached {first} set_up = reached_first t request (DataTold t request 0 [] old first first)
-        same settled set_up told_data
+    data_reached set_up = search (reached_first, told_data)
 
     -- at the end
     data_last : (result : Result (List ℕ) TransFault) (ended : Result (Unit {0}) PipeFault)
@@ -520,8 +484,8 @@ module _ (t : Target) (request : Setup) (way : IsToDevice request) (some : 1 ≤
         let r = data_gone gone.gone (data_reached set_up) (omega (arith, all)) in
         reached_last (ControlInAsked t One result second new) (DataAsked t request bytes ended old
         new)
-        (heard_as One) (in_attempt t 0) new result (λ j s v y. y.told.leaves.others) (f r.damages)
-        r status (asked_leaves t One result second new status) single
+        (heard_as One) (in_attempt t 0) new result (grind arith) (f r.damages)
+        r status (grind (arith, asked_leaves)) single
 
     data_asked : (result : Result (Unit {0}) PipeFault) → PutsData t request bytes old result new
         → EachSpared t request (Only t (DataAsked t request bytes result old new)) old new
@@ -531,23 +495,18 @@ module _ (t : Target) (request : Setup) (way : IsToDevice request) (some : 1 ≤
         (course_joined (gave_behind t x.data_stage.gone) (asked_behind t One x.status)) v z)
     data_asked (Err why) (inl x) =
         only_first t request (DataAsked t request bytes (Err why) old new) (Err x.fault) same
-        settled x.set_up
-        (λ j s v at y. data_no_set_up bytes x.fault why x.told j s v at y) single
+        settled x.set_up (search (data_no_set_up, x.fault, x.told)) single
     data_asked (Err why) (inr (inl x)) =
         let d = x.data_stage in
         let whole = ap length d.split ∙ length-append d.sent d.rest in
         let r = data_gone d.before (data_reached x.set_up) (omega (arith, all, whole)) in
         reached_last (ControlOutAsked t (flips d.packets One) (take t.max d.rest) (Err d.fault)
         d.mid new) (DataAsked t request bytes (Err why) old new) heard_when_sent
-        (out_attempt t 0 (flips d.packets One) (take t.max d.rest)) new (Err d.fault)
-        (λ j s v y. y.told.leaves.others)
+        (out_attempt t 0 (flips d.packets One) (take t.max d.rest)) new (Err d.fault) (grind arith)
         (λ j s u v at y z. data_lost at y bytes d.rest d.fault why d.told all d.split d.some least
         r.damages
-        (λ stall. course_joined (gave_behind t d.before) (put_behind t (flips d.packets One)
-        (take t.max d.rest) (subst (λ r. Puts t 0 (flips d.packets One) (take t.max d.rest) d.mid r
-        new) stall d.lost))) v z)
-        r d.lost (put_leaves t (flips d.packets One) (take t.max d.rest) (Err d.fault) d.mid new
-        d.lost) single
+        (λ stall. course_joined (gave_behind t d.before) (grind (arith, put_behind))) v z)
+        r d.lost (grind (arith, put_leaves)) single
     data_asked (Err why) (inr (inr x)) =
         data_last (Err x.fault) (Err why) x.set_up x.data_stage x.status
         (λ undamaged j s u v at y z. data_unconfirmed at y bytes x.fault why x.told all refl
@@ -566,8 +525,7 @@ pub put_told : (t : Target) (request : Setup) (bytes sent : List ℕ) {old : Wor
     → result ≢ Err pipe_fault.Memory → PutsData t request bytes old result new
     → DataWrite t request bytes old result new
 put_told t request bytes sent {old} new result least way some all is fields settled ended room x =
-    let same : setup_of (bytes_of request) ≡ request =
-    subst (λ b. setup_of b ≡ request) is fields in
+    let same : setup_of (bytes_of request) ≡ request = grind arith in
     let each = λ (single : new.shared ≡ false). data_asked t request way some same bytes all least
     old new settled single result x in
     record {
@@ -575,26 +533,9 @@ put_told t request bytes sent {old} new result least way some all is fields sett
       stages = x;
       settled = settled;
       room = room;
-      what = λ single. spared_wider t request _ _ (λ j s v y. record {
-        others = y.others;
-        frame = elim (decided (is_at s t)) [
-          | inl h ↦ (y.mine h).frame
-          | inr h ↦ subst (OnlyWrite s) (sym (y.others h)) refl
-        ];
-        done = λ h. (y.mine h).done;
-        failed = elim (decided (is_at s t)) [
-          | inl h ↦ (y.mine h).failed
-          | inr h ↦ inl (ap (λ d. d.taken) (y.others h))
-        ];
-        refused = λ h. (y.mine h).refuses;
-        could = λ h. (y.mine h).ends.could;
-      }) old new (each single);
-      why = λ three sound single. spared_wider t request _ _ (λ j s v y. record {
-        answered = λ l m. (y.mine l.at).ends.answered m three l;
-        waited = λ l m. (y.mine l.at).ends.waited m three l;
-      }) old new (each single);
-      losses = λ plain sound single. spared_wider t request _ _
-          (λ j s v y h. (y.mine h).losses plain sound) old new (each single);
+      what = λ single. spared_wider t request _ _ (grind (arith, decided)) old new (each single);
+      why = λ three sound single. spared_wider t request _ _ (grind arith) old new (each single);
+      losses = λ plain sound single. spared_wider t request _ _ (grind arith) old new (each single);
       who = elim result as (λ r. PutsData t request bytes old r new
           → OnOk r ((is_harmless request ≡ false → t.addr ≢ 0)
           → Unshared new (Answerer t old new))) [

@@ -1,5 +1,5 @@
 -- Control transfers with data to the device: which attempts they make, and who answers them.
-use Rattle.std.proofs.Common.{inl, inr, ◌≡◌, ◌≢◌, ℕ, List, [], take, Result, Ok, Err, refl, subst}
+use Rattle.std.proofs.Common.{arith, inl, inr, ◌≡◌, ◌≢◌, ℕ, List, [], take, Result, Ok, Err, refl}
 use Rattle.std.proofs.Common.{false}
 use Rattle.usb_packet.specs.{Toggle, One, flips}
 use Rattle.usb_request.specs.{Setup, bytes_of, setup_of}
@@ -22,7 +22,7 @@ module _ (t : Target) where
       {result : Result (List ℕ) _}
       → TransactionDone heard_when_sent (out_attempt t 0 toggle bytes) old result new
       → Course (IsBehindData t) old new
-  put_behind toggle bytes e = trail_course (λ w made. inr (toggle, bytes, refl)) e.trail
+  put_behind toggle bytes e = grind (arith, trail_course)
 
   pub asked_behind : (awaited : Toggle) {old new : World} {result : Result (List ℕ) _}
       → TransactionDone (heard_as awaited) (in_attempt t 0) old result new
@@ -33,7 +33,7 @@ module _ (t : Target) where
       → Gave t 0 first old n sent new → Course (IsBehindData t) old new
   gave_behind {old = old} moves.start = here old
   gave_behind {first} (moves.packet {n} bytes g full some fits puts) =
-      course_joined (gave_behind g) (put_behind (flips n first) bytes puts)
+      course_joined (gave_behind g) (search put_behind)
 
 module _ (t : Target) (request : Setup) where
   abbrev Kind : Step → World → Type 0
@@ -87,8 +87,7 @@ pub put_whole : (t : Target) (request : Setup) (bytes sent given last : List ℕ
 put_whole t request bytes sent given last {old} {first} {second} is nothing set_up gone status =
     record {
       first = first;
-      set_up = subst (λ g. SetUp t request old (Ok g) first) nothing
-          (subst (λ b. Transacted set_up_as (setup_attempt t b) old (Ok given) first) is set_up);
+      set_up = grind arith;
       second = second;
       data_stage = gone;
       given = last;

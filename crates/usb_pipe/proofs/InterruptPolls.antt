@@ -2,7 +2,7 @@
 -- what its transaction's call tells.
 use Rattle.usb_device.specs.{Location, State, PollAt, NeverTold, hub_ports, change_bytes, told_bits}
 use Rattle.std.proofs.Common.{◌≡◌, sym, ap, subst, refl, false, true, arith, ℕ, List, Option, Some}
-use Rattle.std.proofs.Common.{None, Result, Ok, Err, OnOk, ◌∙◌}
+use Rattle.std.proofs.Common.{None, Result, Ok, Err, OnOk}
 use Rattle.arrayvec.specs.ArrayVec.{ArrayVec}
 use Rattle.usb_tree.specs.{IsSettled}
 use Rattle.usb_world.specs.{World, EachWas}
@@ -48,7 +48,7 @@ leaves_by pipe left old new result told j s v x f = record {
   where
     said : is_at s pipe.target ≡ true → IsStatusEndpoint pipe.target pipe.ep s
         → PollAt NeverTold pipe.toggle s → TellsOf pipe left old new result j s v
-    said at is even = f (ap (λ (y : State). hub_ports y.spec.hub) (x.frame is)) (x.poll at is even)
+    said at is even = search (x.frame, x.poll)
 
 pub poll_tells : (pipe : Interrupt) (result : Result (Option (ArrayVec ℕ)) PipeFault)
     (left : Interrupt) (old new : World) → IsSettled old.roots → Polls pipe old result left new
@@ -58,7 +58,7 @@ poll_tells pipe (Ok None) left old new settled x single =
     (λ counted told. (
       told.0,
       λ packet r. cc r,
-      λ got r. subst (λ t. PollAt NeverTold t v) (sym (ap (λ l. l.toggle) x.pipe_left)) told.1,
+      λ got r. subst (λ t. PollAt NeverTold t v) (grind arith) told.1,
     ))) old new
     (changes_told pipe.target pipe.ep pipe.toggle (Ok None) old new settled x.asked single)
 poll_tells pipe (Ok (Some got)) left old new settled x single =
@@ -66,9 +66,8 @@ poll_tells pipe (Ok (Some got)) left old new settled x single =
     each_wider _ _
     (λ j s v y. leaves_by pipe left old new (Ok (Some got)) (Ok (Some got.items)) j s v y.leaves
     (λ counted told.
-    let came : got.items ≡ change_bytes (hub_ports s.spec.hub) told.bits =
-    subst (λ n. got.items ≡ change_bytes n told.bits) counted told.came in
-    let back : told_bits got.items ≡ told.bits = ap told_bits came ∙ told.so.1 in (
+    let came : got.items ≡ change_bytes (hub_ports s.spec.hub) told.bits = grind arith in
+    let back : told_bits got.items ≡ told.bits = grind arith in (
       record { bits = told.bits; some = told.so.0; so = told.so.2; is = back },
       λ packet r. same_bytes (hub_ports s.spec.hub) told.bits got packet came back r,
       λ other r. subst (λ t. PollAt NeverTold t v) (sym turned) told.between,
@@ -76,9 +75,7 @@ poll_tells pipe (Ok (Some got)) left old new settled x single =
     old new (changes_told pipe.target pipe.ep pipe.toggle (Ok (Some got.items)) old new settled
     x.asked single)
 poll_tells pipe (Err why) left old new settled x single =
-    each_wider _ _ (λ j s v y. leaves_by pipe left old new (Err why) (Err x.asked.fault) j s v
-    y.leaves
-    (λ counted told. (tt, λ packet r. cc r, λ got r. cc r))) old new
+    each_wider _ _ (grind (arith, leaves_by)) old new
     (changes_told pipe.target pipe.ep pipe.toggle (Err x.asked.fault) old new settled x.asked.polled
     single)
 
@@ -112,13 +109,13 @@ poll_told read pipe result left old new same settled x =
     subst (λ p. InterruptPoll p old result left new) same (record {
       polls = x;
       settled = settled;
-      what = poll_tells read result left old new settled x;
-      why = λ three. polling_why read result left old new settled three x;
+      what = grind (arith, poll_tells);
+      why = search polling_why;
       who = who result x;
-      losses = λ other. poll_losses read result left old new other settled x;
+      losses = search poll_losses;
     })
   where
     who : (r : Result (Option (ArrayVec ℕ)) PipeFault) → Polls read old r left new
         → OnOk r (Unshared new (Answerer read.target old new))
-    who (Ok got) x = who_polls read got left old new settled x
+    who (Ok got) x = search who_polls
     who (Err why) x = tt

@@ -1,9 +1,8 @@
 -- How the packets of a bulk transfer join.
-use Rattle.std.proofs.Common.{◌≡◌, ◌≢◌, ◌∙◌, ◌⊎◌, inl, inr, refl, sym, ap, subst, arith, ℕ, zero}
-use Rattle.std.proofs.Common.{suc, ◌+◌, ◌-◌, ◌*◌, ◌<◌, ◌≤◌, min, List, [], ◌++◌, length, take, drop}
+use Rattle.std.proofs.Common.{◌≡◌, ◌≢◌, ◌∙◌, ◌⊎◌, inl, inr, refl, ap, subst, arith, ℕ, zero, suc}
+use Rattle.std.proofs.Common.{◌+◌, ◌-◌, ◌*◌, ◌<◌, ◌≤◌, min, List, [], ◌++◌, length, take, drop}
 use Rattle.std.proofs.Common.{Option, None, Result, Ok, Err, IsErr, IsErrAnd, add-one, append_assoc}
-use Rattle.std.proofs.Common.{append-nil, length-append, length-drop, length-take}
-use Rattle.std.proofs.Common.{lt_of_mul-lt-mul_right, mul-le-mul_right, take-append-drop}
+use Rattle.std.proofs.Common.{append-nil, length-append, length-drop, length-take, take-append-drop}
 use Rattle.std.specs.Global.{Vec}
 use Rattle.std.specs.Int.{div_ceil}
 use Rattle.std.proofs.lemmas.Grind.{div_ceil_times}
@@ -49,7 +48,7 @@ module _ {n : ℕ} {first toggle : Toggle} {old mid : World} {t r : Option (List
   pub moved_went : {more : ℕ} {new : World} {s : Option (List ℕ)} → n < more
       → StepRun transaction_bound mid r new s → StepRun (transaction_bound * more) old t new s
   moved_went {more} lt w = went_wider (transaction_bound * n + transaction_bound)
-      (transaction_bound * more) (went_then (transaction_bound * n) transaction_bound m.went w)
+      (transaction_bound * more) (search went_then)
       (omega (arith, lt))
 
   moved_more : (next : Toggle) {new : World} {s : Option (List ℕ)}
@@ -58,7 +57,7 @@ module _ {n : ℕ} {first toggle : Toggle} {old mid : World} {t r : Option (List
   moved_more next w worked e = grind (arith, moved_went, flips_more)
 
   worked_then : {k : ℕ} {new : World} → AttemptsMade k mid new → AttemptsMade k old new
-  worked_then w = grind (arith, w.sound, w.least, w.still)
+  worked_then w = grind arith
 
   lost_ends : (fault : TransFault) (new : World) → Ends {A = List ℕ} mid (Err fault) new
       → FaultAfter 0 old (as_pipe_fault fault) new
@@ -70,7 +69,7 @@ module _ {n : ℕ} {first toggle : Toggle} {old mid : World} {t r : Option (List
 
 moved_worked : {n : ℕ} {first toggle : Toggle} {old now : World} {t r : Option (List ℕ)} → 0 < n
     → Moved n first toggle old t now r → AttemptsMade n old now
-moved_worked lt m = grind (arith, m.sound, m.still, m.least)
+moved_worked lt m = grind arith
 
 -- How many packets
 
@@ -86,13 +85,12 @@ gave_packets t ep first (packet {n} {sent} bytes g full more fits puts) some =
 
 -- full packets leave something over
 pub few_full : (n max total : ℕ) → 1 ≤ max → n * max < total → n < div_ceil total max
-few_full n max total some less = grind (arith, div_ceil_times, lt_of_mul-lt-mul_right)
+few_full n max total some less = grind (arith, div_ceil_times)
 
 -- a packet less is one less of them
 less_by : (p a b c : ℕ) → p * b < c + b → c ≡ a - b → 0 < a → p * b < a
 less_by zero a b c lt is some = omega (arith, some)
-less_by (suc k) a b c lt is some = let more : suc k * b ≡ k * b + b = omega arith in
-    omega (arith, lt, is, more)
+less_by (suc k) a b c lt is some = grind arith
 
 pub one_packet_less : (total max : ℕ) → 1 ≤ max → 0 < total → (rest : ℕ) → rest ≡ total - max
     → div_ceil rest max + 1 ≤ div_ceil total max
@@ -111,13 +109,13 @@ came_packets n size max wanted least few ends = grind (arith, le-div, div-mul-ad
 module _ {t : Target} {ep : ℕ} {first : Toggle} {wanted : ℕ} {old new : World} {bytes : List ℕ}
     (a : AllCame t ep first wanted old bytes new) where
   all_size : length bytes ≡ a.packets * t.max + length a.last
-  all_size = grind (arith, ap length a.kept, length-append, came_full a.before)
+  all_size = grind (arith, came_full, length-append)
 
   pub all_packets : 1 ≤ t.max → packets_of (length bytes) t.max wanted ≡ a.packets + 1
   all_packets least = grind (arith, all_size, came_packets)
 
   all_most : length bytes ≤ wanted * t.max
-  all_most = grind (arith, all_size, mul-le-mul_right)
+  all_most = grind (arith, all_size)
 
 -- Packets that are sent
 
@@ -151,20 +149,12 @@ module _ (t : Target) (ep : ℕ) (first : Toggle) (total : List ℕ) (least : 1 
       written → PacketsSent t ep first total old (Ok tt) toggle now
       × StepRun (transaction_bound * div_ceil (length total) t.max) old text now written
   all_sent {now} some none g =
-      let gone : Gave t ep first old g.packets total now =
-      subst (λ x. Gave t ep first old g.packets x now)
-      (sym (g.split ∙ ap (λ x. g.sent ++ x) none ∙ append-nil g.sent)) g.before in
-      let count : div_ceil (length total) t.max ≡ g.packets =
-      gave_packets t ep first gone (λ e. let l : length total ≡ 0 = ap length e in
-      omega (arith, l)) in
-      let few : 0 < g.packets = omega (
-        arith,
-        few_full 0 t.max (length total) least (omega (arith, some)),
-        count,
-      ) in (
+      let gone : Gave t ep first old g.packets total now = grind (arith, append-nil) in
+      let count : div_ceil (length total) t.max ≡ g.packets = grind (arith, gave_packets) in
+      let few : 0 < g.packets = grind (arith, few_full) in (
         record {
           ends = rw count (moved_worked few g.moved);
-          moves = record { packets = g.packets; gone = gone };
+          moves = grind arith;
           behind = g.moved.turned;
           room = λ e. cc e;
           turned = rw count g.moved.turned;
@@ -193,7 +183,7 @@ module _ (t : Target) (ep : ℕ) (first : Toggle) (total : List ℕ) (least : 1 
           before = packet (take k rest) g.before full (omega (arith, l, is)) (omega (arith, l, is))
               (rw (g.moved.turned, front, x.nothing) at x.heard);
           split = grind (arith, append_assoc, take-append-drop, g.split);
-          full = λ more. omega (arith, j, l, d, is, full);
+          full = grind arith;
           moved = moved_more g.moved next went x.ends e;
         })
 
@@ -207,12 +197,9 @@ module _ (t : Target) (ep : ℕ) (first : Toggle) (total : List ℕ) (least : 1 
         let size : k ≡ min t.max (length rest) = omega (arith, is) in
         let fitting : take k rest ≡ take t.max rest = rw size (take_min t.max rest) in
         let parts = ap length g.split ∙ length-append g.sent rest in
-        let few : g.packets < div_ceil (length total) t.max =
-        few_full g.packets t.max (length total) least
-        (omega (arith, g.full some, some, parts)) in (
+        let few : g.packets < div_ceil (length total) t.max = grind (arith, few_full) in (
           record {
-            ends = subst (λ w. FaultAfter 0 old w new) (sym said)
-                (lost_ends g.moved fault new x.ends);
+            ends = grind (arith, lost_ends);
             moves = grind (arith, g.before, g.full, g.split, g.moved.turned, x.heard);
             behind = same ∙ g.moved.turned;
             room = room;
@@ -264,18 +251,7 @@ module _ (t : Target) (ep : ℕ) (first : Toggle) {old : World} {text : Option (
           → PacketsReceived t ep first wanted old (Ok bytes) toggle now
       by_last start is m all = absurd (omega (arith, all, some))
       by_last (packet {n} {got} {mid} last c came full) is m all =
-          all_received (record {
-            packets = n;
-            few = omega (arith, all);
-            got = got;
-            mid = mid;
-            before = c;
-            last = last;
-            came = came;
-            fits = omega (arith, full);
-            kept = is;
-            ends = inl all;
-          }) m
+          all_received (grind arith) m
 
   -- a packet behind them
   module _ {n : ℕ} {got : List ℕ} {mid new : World} {between written : Option (List ℕ)}
@@ -289,7 +265,7 @@ module _ (t : Target) (ep : ℕ) (first : Toggle) {old : World} {text : Option (
           → Coming t ep first old text m kept next new written
       coming_more more full = rw (more, is, same) (record {
         came = packet last c.came (rw c.moved.turned at x.heard) full;
-        moved = moved_more c.moved next went x.ends e;
+        moved = search moved_more;
       })
 
       -- and was short
@@ -305,7 +281,7 @@ module _ (t : Target) (ep : ℕ) (first : Toggle) {old : World} {text : Option (
             last = last;
             came = rw c.moved.turned at x.heard;
             fits = x.short;
-            kept = items ∙ is ∙ ap (λ z. got ++ z) same;
+            kept = grind arith;
             ends = inr short;
           })
           (moved_more c.moved next went x.ends e)
@@ -316,7 +292,7 @@ module _ (t : Target) (ep : ℕ) (first : Toggle) {old : World} {text : Option (
         → AsksIn t ep toggle mid (Err fault) new → next ≡ toggle
         → PacketsReceived t ep first wanted old result next new
     lost_received fault (Err why) err said x same = record {
-      ends = subst (λ w. FaultAfter 0 old w new) (sym said) (lost_ends c.moved fault new x.ends);
+      ends = grind (arith, lost_ends);
       moves = inl (record {
         packets = n;
         few = few;
@@ -339,9 +315,9 @@ module _ (t : Target) (ep : ℕ) (first : Toggle) {old : World} {text : Option (
         → IsErrAnd result (λ why. why ≡ Memory) → AsksIn t ep toggle mid (Ok last) new
         → next ≡ other toggle → PacketsReceived t ep first wanted old result next new
     room_received last (Err why) err said x e = record {
-      ends = subst (λ w. FaultAfter 0 old w new) (sym said) (worked_then c.moved x.ends);
+      ends = grind (arith, worked_then);
       moves = grind (arith, c.came, c.moved.turned, x.heard, x.short);
-      behind = flips_more n first toggle next c.moved.turned e;
+      behind = grind (arith, flips_more);
       most = tt;
       turned = tt;
       halted = λ h. cc (said, h);

@@ -3,7 +3,7 @@ use Rattle.std.proofs.Common.{◌≡◌, ◌≢◌, ◌∙◌, inl, inr, refl, s
 use Rattle.std.proofs.Common.{◌+◌, ◌-◌, ◌*◌, ◌<◌, ◌≤◌, min, List, [], ◌++◌, length, take, drop}
 use Rattle.std.proofs.Common.{Option, None, Result, Ok, Err, IsErr, IsErrAnd, append_assoc}
 use Rattle.std.proofs.Common.{append-nil, length-append, length-drop, length-take, take-append-drop}
-use Rattle.std.proofs.Common.{lt_of_mul-lt-mul_right, mul-le-mul_right}
+use Rattle.std.proofs.Common.{mul-le-mul_right}
 use Rattle.std.proofs.Math.Nat.{add-mul}
 use Rattle.std.proofs.Math.Seq.{drop-append-add, take-append-add}
 use Rattle.std.specs.Global.{Vec}
@@ -26,15 +26,12 @@ use Rattle.usb_pipe.proofs.MovedPackets.{Coming, Moved, PacketsMoving, all_recei
 -- How many packets
 
 ceil_least : (a max n : ℕ) → 1 ≤ max → n * max < a + max → n ≤ div_ceil a max
-ceil_least a max n least lt = grind (arith, div_ceil_times, lt_of_mul-lt-mul_right)
+ceil_least a max n least lt = grind (arith, div_ceil_times)
 
 both_times : (p n max rest after row : ℕ) → p * max < after + max → n * max < row + max → row ≤ rest
     → after ≡ rest - min rest (n * max) → (p + n) * max < rest + max
 both_times zero n max rest after row lt gone le is = omega (arith, gone, le)
-both_times (suc k) n max rest after row lt gone le is =
-    let more : suc k * max ≡ k * max + max = omega arith in
-    let sum = add-mul (suc k) n max in
-    omega (arith, sum, more, lt, gone, le, is)
+both_times (suc k) n max rest after row lt gone le is = grind (arith, add-mul)
 
 -- after a row there are as many packets fewer
 pub rows_less : (max rest n row after : ℕ) → 1 ≤ max → row ≤ rest → n ≤ div_ceil row max
@@ -43,8 +40,7 @@ rows_less max rest n row after least le few is =
     let d = div_ceil_times row max least in
     let c = div_ceil_times after max least in
     let most : n * max ≤ div_ceil row max * max = mul-le-mul_right max few in
-    ceil_least rest max (div_ceil after max + n) least
-    (both_times (div_ceil after max) n max rest after row c.1 (omega (arith, d, most)) le is)
+    ceil_least rest max (div_ceil after max + n) least (grind (arith, both_times))
 
 -- fewer bytes are no more packets
 pub fewer_packets : (max row rest : ℕ) → 1 ≤ max → row ≤ rest → div_ceil row max ≤ div_ceil rest max
@@ -60,7 +56,7 @@ more_packets n max row rest total least le is =
 
 flips_add : (k n m : ℕ) (t : Toggle) → m ≡ n + k → flips m t ≡ flips k (flips n t)
 unfolding flips
-flips_add zero n m t e = let same : m ≡ n = omega (arith, e) in ap (λ z. flips z t) same
+flips_add zero n m t e = grind arith
 flips_add (suc k) n m t e = let step : m ≡ suc (n + k) = omega (arith, e) in
     ap (λ z. flips z t) step ∙ ap other (flips_add k n (n + k) t refl)
 
@@ -70,10 +66,8 @@ row_parts : (rest row front tail : List ℕ) (m full n max : ℕ) → row ≡ ta
     → n ≡ full + 1 → n ≤ 64 → front ++ take max tail ≡ take (min (length rest) (n * max)) rest
 row_parts rest row front tail m full n max is size split long count few =
     let wide : n * max ≤ 64 * max = mul-le-mul_right max few in
-    let one : n * max ≡ full * max + max = rw count (omega (arith, add-mul full 1 max)) in
-    let whole : take (n * max) row ≡ front ++ take max tail =
-    ap (λ l. take (n * max) l) split ∙ ap (λ k. take k (front ++ tail)) (omega (arith, one, long))
-    ∙ take-append-add front tail max in
+    let one : n * max ≡ full * max + max = grind (arith, add-mul) in
+    let whole : take (n * max) row ≡ front ++ take max tail = grind (arith, take-append-add) in
     let long_row = ap length is ∙ length-take m rest in
     sym whole ∙ sym (take_min (n * max) row)
     ∙ ap (λ l. take (min (n * max) (length row)) l) is
@@ -117,10 +111,10 @@ record Lasted (n : ℕ) (old new : World) : Type 0 where
 
 one_more : {n : ℕ} {old mid new : World} → Lasted n old mid → AttemptsMade 1 mid new
     → Lasted (n + 1) old new
-one_more l w = grind (arith, l.least, l.sound, w.least, w.sound)
+one_more l w = grind arith
 
 none_lasted : (w : World) → Lasted 0 w w
-none_lasted w = record { least = omega arith; sound = λ e. e }
+none_lasted w = grind arith
 
 module _ {n : ℕ} {first toggle : Toggle} {old mid : World} {t r : Option (List ℕ)}
     (m : Moved n first toggle old t mid r) {full : ℕ} {now : World} (l : Lasted full mid now) where
@@ -130,16 +124,16 @@ module _ {n : ℕ} {first toggle : Toggle} {old mid : World} {t r : Option (List
       → next ≡ flips k toggle → Moved (n + k) first next old t new s
   row_moved k next {new} is went w turned = record {
     went = went_wider (transaction_bound * n + transaction_bound * k) (transaction_bound * (n + k))
-        (went_then (transaction_bound * n) (transaction_bound * k) m.went went) (omega arith);
+        (search went_then) (omega arith);
     least = omega (arith, m.least, l.least, w.least, is);
-    sound = λ _. m.sound (l.sound w.sound);
+    sound = grind arith;
     still = λ _. w.still;
-    turned = turned ∙ ap (λ z. flips k z) m.turned ∙ sym (flips_add k n (n + k) first refl);
+    turned = grind (arith, flips_add);
   }
 
   -- or without
   row_worked : {k : ℕ} {new : World} → AttemptsMade k now new → AttemptsMade k old new
-  row_worked w = grind (arith, w.sound, w.least, w.still)
+  row_worked w = grind arith
 
   row_ends : (fault : TransFault) (new : World) → Ends {A = List ℕ} now (Err fault) new
       → FaultAfter 0 old (as_pipe_fault fault) new
@@ -150,7 +144,7 @@ module _ {n : ℕ} {first toggle : Toggle} {old mid : World} {t r : Option (List
       → StepRun (transaction_bound * more) old t new s
   row_went bound {more} le went =
       went_wider (transaction_bound * n + transaction_bound * bound) (transaction_bound * more)
-      (went_then (transaction_bound * n) (transaction_bound * bound) m.went went)
+      (search went_then)
       (omega (arith, le))
 
 -- Rows that are sent
@@ -165,18 +159,13 @@ sent_more : {t : Target} {ep : ℕ} {first toggle : Toggle} {old mid : World} {n
     {front : List ℕ} {new : World} → SentFull t ep toggle mid k front new
     → Gave t ep first old (n + k) (sent ++ front) new
 sent_more {t} {ep} {first} {toggle} {old} {mid} {n} {sent} g full turned none_sent =
-    let same : n ≡ n + 0 = omega arith in
-    let P : ℕ → Type 0 = λ z. Gave t ep first old z (sent ++ []) mid in
-    subst P same (subst (λ z. Gave t ep first old n z mid) (sym (append-nil sent)) g)
+    grind (arith, append-nil)
 sent_more {t} {ep} {first} {toggle} {old} {n = n} {sent = sent} g full turned
     (one_sent {n = k} {sent = front} {mid = mid} {new = new} bytes s size some short x) =
     let before = sent_more g full turned s in
-    let due : flips k toggle ≡ flips (n + k) first =
-    ap (λ z. flips k z) turned ∙ sym (flips_add k n (n + k) first refl) in
-    let put : Puts t ep (flips (n + k) first) bytes mid (Ok []) new =
-    subst (λ z. Puts t ep z bytes mid (Ok []) new) due x.heard in
-    let long : length (sent ++ front) ≡ (n + k) * t.max =
-    omega (arith, length-append sent front, full, size, add-mul n k t.max) in
+    let due : flips k toggle ≡ flips (n + k) first = grind (arith, flips_add) in
+    let put : Puts t ep (flips (n + k) first) bytes mid (Ok []) new = grind arith in
+    let long : length (sent ++ front) ≡ (n + k) * t.max = grind (arith, add-mul, length-append) in
     let count : n + k + 1 ≡ n + (k + 1) = omega arith in
     let P : ℕ → Type 0 = λ z. Gave t ep first old z (sent ++ (front ++ bytes)) new in
     subst P count (subst (λ z. Gave t ep first old (n + k + 1) z new)
@@ -192,7 +181,7 @@ module _ (t : Target) (ep : ℕ) (first : Toggle) (total : List ℕ) (least : 1 
       (long : length sent ≡ full * t.max) (more : 0 < length left)
       (s : SentFull t ep toggle mid full sent now) where
     row_before : Gave t ep first old (g.packets + full) (g.sent ++ sent) now
-    row_before = sent_more g.before (g.full some) g.moved.turned s
+    row_before = grind (arith, sent_more)
 
     row_full : length (g.sent ++ sent) ≡ (g.packets + full) * t.max
     row_full = grind (arith, add-mul, length-append)
@@ -203,8 +192,7 @@ module _ (t : Target) (ep : ℕ) (first : Toggle) (total : List ℕ) (least : 1 
     -- a row has at most 64 packets
     full_few : full < 64
     full_few = let parts = ap length split ∙ length-append sent left in
-        let whole = ap length cut ∙ length-take m rest in
-        lt_of_mul-lt-mul_right t.max (omega (arith, parts, whole, size, long, more))
+        let whole = ap length cut ∙ length-take m rest in grind arith
 
     gone_parts : (n : ℕ) → n ≡ full + 1
         → sent ++ take t.max left ≡ take (min (length rest) (n * t.max)) rest
@@ -219,32 +207,30 @@ module _ (t : Target) (ep : ℕ) (first : Toggle) (total : List ℕ) (least : 1 
   going_row {new} {next = next} n c after is back went x =
       let f = x.so_far in
       let last = take t.max f.rest in
-      let parts : f.sent ++ last ≡ take c rest =
-      rw is (gone_parts f.sent f.rest f.split f.size f.some f.before n x.count) in
+      let parts : f.sent ++ last ≡ take c rest = grind (arith, gone_parts) in
       let long = row_full f.sent f.rest f.split f.size f.some f.before in
       let put : Puts t ep (flips (g.packets + x.full) first) last x.mid (Ok []) new =
-      subst (λ z. Puts t ep z last x.mid (Ok []) new)
-      (row_due f.sent f.rest f.split f.size f.some f.before) x.went.heard in
+      grind (arith, row_due) in
       let l = length-take t.max f.rest in
       let gave : Gave t ep first old (g.packets + x.full + 1) ((g.sent ++ f.sent) ++ last) new =
-      packet last (row_before f.sent f.rest f.split f.size f.some f.before) long
+      packet last (grind (arith, row_before)) long
       (omega (arith, l, least, f.some)) (omega (arith, l)) put in
       let count : g.packets + x.full + 1 ≡ g.packets + n = omega (arith, x.count) in
       let whole : (g.sent ++ f.sent) ++ last ≡ g.sent ++ take c rest =
-      append_assoc g.sent f.sent last ∙ ap (λ z. g.sent ++ z) parts in
+      grind (arith, append_assoc) in
       let P : ℕ → Type 0 = λ z. Gave t ep first old z (g.sent ++ take c rest) new in
       rw back (record {
         packets = g.packets + n;
         sent = g.sent ++ take c rest;
-        before = subst P count (subst (λ z. Gave t ep first old (g.packets + x.full + 1) z new)
-            whole gave);
+        before = grind arith;
         split = grind (arith, append_assoc, take-append-drop, g.split);
         full = grind (arith, add-mul, length-append, length-drop, length-take, g.full);
-        moved = row_moved g.moved (sent_lasted f.before) n next x.count went x.went.ends x.turned;
+        moved = search (row_moved, sent_lasted, x.count, x.went.ends, x.turned);
       })
 
   -- one did not
-  pub lost_row : {new : World} {written : Option (List ℕ)} {next : Toggle} (fault : TransFault) (result : Result (Unit {0}) PipeFault) → IsErr result
+  pub lost_row : {new : World} {written : Option (List ℕ)} {next : Toggle} (fault : TransFault)
+      (result : Result (Unit {0}) PipeFault) → IsErr result
       → IsErrAnd result (λ why. why ≡ as_pipe_fault fault) → result ≢ Err Memory
       → StepRun (transaction_bound * div_ceil (length row) t.max) mid between new written
       → RowKept t ep toggle row mid fault next new
@@ -255,22 +241,18 @@ module _ (t : Target) (ep : ℕ) (first : Toggle) (total : List ℕ) (least : 1 
       let packets = g.packets + x.full in
       let few = full_few f.sent f.rest f.split f.size f.some f.before in
       let beyond = drop (length f.sent) rest in
-      let left : rest ≡ f.sent ++ beyond =
-      row_left rest row f.sent f.rest m x.full t.max cut size f.split f.size few in
-      let next_is : take t.max f.rest ≡ take t.max beyond =
-      row_next rest row f.sent f.rest m x.full t.max cut size f.split f.size few in
+      let left : rest ≡ f.sent ++ beyond = search (row_left, x.full) in
+      let next_is : take t.max f.rest ≡ take t.max beyond = search (row_next, x.full) in
       let long = row_full f.sent f.rest f.split f.size f.some f.before in
-      let split : total ≡ (g.sent ++ f.sent) ++ beyond =
-      g.split ∙ ap (λ z. g.sent ++ z) left ∙ sym (append_assoc g.sent f.sent beyond) in
+      let split : total ≡ (g.sent ++ f.sent) ++ beyond = grind (arith, append_assoc) in
       let whole = ap length split ∙ length-append (g.sent ++ f.sent) beyond in
       let parts = ap length f.split ∙ length-append f.sent f.rest in
       let rows = ap length cut ∙ length-take m rest in
       let rests = ap length left ∙ length-append f.sent beyond in
       let more : 0 < length beyond = omega (arith, parts, rows, rests, f.some) in
-      let short : packets < div_ceil (length total) t.max =
-      few_full packets t.max (length total) least (omega (arith, long, whole, more)) in
+      let short : packets < div_ceil (length total) t.max = grind (arith, few_full) in
       let fewer = more_packets g.packets t.max (length row) (length rest) (length total) least
-      (omega (arith, rows)) (omega (arith, ap length g.split, length-append g.sent rest, g.full some))
+      (omega (arith, rows)) (grind (arith, length-append))
       in
       let due = row_due f.sent f.rest f.split f.size f.some f.before in (
         record {
@@ -280,20 +262,18 @@ module _ (t : Target) (ep : ℕ) (first : Toggle) (total : List ℕ) (least : 1 
             sent = g.sent ++ f.sent;
             rest = beyond;
             mid = x.mid;
-            before = row_before f.sent f.rest f.split f.size f.some f.before;
+            before = grind (arith, row_before);
             full = long;
             split = split;
             some = more;
             fault = fault;
             told = said;
-            lost = subst (λ z. Puts t ep z (take t.max beyond) x.mid (Err fault) new) due
-                (subst (λ z. Puts t ep (flips x.full toggle) z x.mid (Err fault) new) next_is
-                x.lost.heard);
+            lost = grind arith;
           };
           behind = x.turned ∙ due;
           room = room;
           turned = tt;
-          halted = λ _. record { packets = packets; few = short; turned = x.turned ∙ due };
+          halted = grind arith;
         },
         row_went g.moved (sent_lasted f.before) (div_ceil (length row) t.max) fewer went,
       )
@@ -313,16 +293,14 @@ asked_size (one_asked {n} {got} bytes s x long) = let before = asked_size s in
     omega (arith, before, length-append got bytes, long)
 
 came_more : {t : Target} {ep : ℕ} {first toggle : Toggle} {old mid : World} {n : ℕ} {got : List ℕ}
-    → Came t ep first old n got mid → toggle ≡ flips n first → {k : ℕ} {front : List ℕ} {new : World}
+    → Came t ep first old n got mid → toggle ≡ flips n first
+    → {k : ℕ} {front : List ℕ} {new : World}
     → AskedFull t ep toggle mid k front new → Came t ep first old (n + k) (got ++ front) new
 came_more {t} {ep} {first} {toggle} {old} {mid} {n} {got} c turned none_asked =
-    let same : n ≡ n + 0 = omega arith in
-    let P : ℕ → Type 0 = λ z. Came t ep first old z (got ++ []) mid in
-    subst P same (subst (λ z. Came t ep first old n z mid) (sym (append-nil got)) c)
+    grind (arith, append-nil)
 came_more {t} {ep} {first} {toggle} {old} {n = n} {got = got} c turned
     (one_asked {n = k} {got = front} {mid = mid} {new = new} bytes s x long) =
-    let due : flips k toggle ≡ flips (n + k) first =
-    ap (λ z. flips k z) turned ∙ sym (flips_add k n (n + k) first refl) in
+    let due : flips k toggle ≡ flips (n + k) first = grind (arith, flips_add) in
     let fetched : Fetches t ep (flips (n + k) first) mid (Ok bytes) new =
     subst (λ z. Fetches t ep z mid (Ok bytes) new) due x.heard in
     let count : n + k + 1 ≡ n + (k + 1) = omega arith in
@@ -345,13 +323,13 @@ module _ (t : Target) (ep : ℕ) (first : Toggle) {old : World} {text : Option (
   module _ {full : ℕ} {front : List ℕ} {now : World} (less : full < most)
       (s : AskedFull t ep toggle mid full front now) where
     asked_before : Came t ep first old (g.packets + full) (got ++ front) now
-    asked_before = came_more g.coming.came g.coming.moved.turned s
+    asked_before = grind (arith, came_more)
 
     asked_due : flips full toggle ≡ flips (g.packets + full) first
     asked_due = grind (arith, flips_add)
 
     asked_few : g.packets + full < wanted
-    asked_few = omega (arith, g.count, few, less)
+    asked_few = grind arith
 
   -- some packets came
   module _ {n : ℕ} {row kept : List ℕ} {new : World} {written : Option (List ℕ)} {next : Toggle}
@@ -366,14 +344,13 @@ module _ (t : Target) (ep : ℕ) (first : Toggle) {old : World} {text : Option (
     row_kept = grind (arith, append_assoc)
 
     row_next_moved : Moved (g.packets + n) first next old text new written
-    row_next_moved = row_moved g.coming.moved (asked_lasted x.before) n next x.count went
-        x.came.ends x.turned
+    row_next_moved = search (asked_lasted, row_moved)
 
     came_size : length row ≡ x.full * t.max + length x.last
     came_size = grind (arith, asked_size, length-append)
 
     came_one : n * t.max ≡ x.full * t.max + t.max
-    came_one = rw x.count (omega (arith, add-mul x.full 1 t.max))
+    came_one = grind (arith, add-mul)
 
     -- all full
     pub receiving_row : (less : ℕ) → less ≡ left - n → n * t.max ≤ length row
@@ -415,7 +392,8 @@ module _ (t : Target) (ep : ℕ) (first : Toggle) {old : World} {text : Option (
   -- no memory for them
   pub room_row : {n : ℕ} {row : List ℕ} {new : World} {written : Option (List ℕ)} {next : Toggle}
       → RowCame t ep toggle most mid n row next new
-      → StepRun (transaction_bound * n) mid between new written → (result : Result (Vec ℕ) PipeFault)
+      → StepRun (transaction_bound * n) mid between new written
+      → (result : Result (Vec ℕ) PipeFault)
       → IsErr result → IsErrAnd result (λ why. why ≡ Memory)
       → PacketsReceived t ep first wanted old result next new
   room_row {n} {new = new} {next = next} x went (Err why) err said =
@@ -423,8 +401,7 @@ module _ (t : Target) (ep : ℕ) (first : Toggle) {old : World} {text : Option (
       x.turned in
       let count : g.packets + n ≡ g.packets + x.full + 1 = omega (arith, x.count) in
       record {
-        ends = subst (λ w. FaultAfter 0 old w new) (sym said)
-            (row_worked g.coming.moved (asked_lasted x.before) x.came.ends);
+        ends = grind (arith, asked_lasted, row_worked);
         moves = inr (record {
           packets = g.packets + x.full;
           few = asked_few x.few x.before;
@@ -437,7 +414,7 @@ module _ (t : Target) (ep : ℕ) (first : Toggle) {old : World} {text : Option (
               x.came.heard;
           fits = x.came.short;
         });
-        behind = moved.turned ∙ ap (λ z. flips z first) count;
+        behind = grind arith;
         most = tt;
         turned = tt;
         halted = λ h. cc (said, h);
@@ -477,6 +454,4 @@ module _ (t : Target) (ep : ℕ) (first : Toggle) {old : World} {text : Option (
       → StepRun (transaction_bound * wanted) old text new written
   row_steps bound le went =
       went_wider (transaction_bound * g.packets + transaction_bound * bound)
-      (transaction_bound * wanted)
-      (went_then (transaction_bound * g.packets) (transaction_bound * bound) g.coming.moved.went
-      went) (omega (arith, g.count, le))
+      (transaction_bound * wanted) (search went_then) (omega (arith, g.count, le))

@@ -1,11 +1,11 @@
 -- The next packets of an endpoint, as a pipe gets them one after another.
-use Rattle.std.proofs.Common.{◌≡◌, ◌∙◌, refl, sym, ap, subst, arith, true, ℕ, zero, suc, ◌+◌, ◌<◌}
-use Rattle.std.proofs.Common.{List, [], ◌∷◌, ◌++◌, length, Some, is_some, append_assoc, append-nil}
+use Rattle.std.proofs.Common.{◌≡◌, ◌∙◌, refl, sym, ap, arith, true, ℕ, zero, suc, ◌+◌, ◌<◌, List}
+use Rattle.std.proofs.Common.{[], ◌∷◌, ◌++◌, length, Some, is_some, append_assoc, append-nil}
 use Rattle.std.proofs.Common.{length-append}
 use Rattle.std.specs.List.{concat}
 use Rattle.usb_packet.specs.{Toggle, other}
 use Rattle.usb_device.specs.{GivesOn, HasPackets, NextBytes, SourceAt, SourceOn, State, in_data}
-use Rattle.usb_device.specs.{next_packet, next_place, packet_in, place_behind}
+use Rattle.usb_device.specs.{next_packet, next_place, packet_in}
 use Rattle.usb_device.proofs.Interface.{gives-append}
 
 -- one packet more, end to end
@@ -20,14 +20,13 @@ pub one_there : (ep most place behind wanted : ℕ) (packets : List (List ℕ)) 
     → GivesOn (in_data s ep) most place packets behind → length packets < wanted
     → HasPackets ep most place wanted s → is_some (next_packet s ep most behind) ≡ true
 one_there ep most place behind zero packets s come few has = absurd (omega (arith, few))
-one_there ep most place behind (suc n) [] s come few has =
-    subst (λ p. is_some (next_packet s ep most p) ≡ true) (sym come) has.0
+one_there ep most place behind (suc n) [] s come few has = grind arith
 one_there ep most place behind (suc n) (bytes ∷ packets) s come few has =
     one_there ep most (next_place s ep most place) behind n packets s come.1 (omega (arith, few))
     has.1
 
 pub no_bytes : (ep most place : ℕ) (s : State) → NextBytes ep most place [] place s
-no_bytes ep most place s = record { packets = []; come = refl; joined = refl }
+no_bytes ep most place s = grind arith
 
 -- so many packets came from a place on, and the endpoint is behind them
 pub record CameFrom (ep most place : ℕ) (toggle : Toggle) (n : ℕ) (got : List ℕ) (s v : State) :
@@ -50,17 +49,10 @@ pub one_came_then : {ep most place : ℕ} {toggle : Toggle} {n : ℕ} {got : Lis
 one_came_then {ep} {most} {place} {toggle} {n} {got} {s} {u} {v} last x same on =
     let packets = x.bytes.packets in
     let next = next_place s ep most x.behind in
-    let came : packet_in (in_data s ep) most x.behind ≡ Some last =
-    sym (ap (λ content. packet_in content most x.behind) same) ∙ on.0 in
+    let came : packet_in (in_data s ep) most x.behind ≡ Some last = grind arith in
     record {
       behind = next;
-      bytes = record {
-        packets = packets ++ (last ∷ []);
-        come = gives-append (in_data s ep) most place x.behind next packets (last ∷ []) x.bytes.come
-            (came, refl);
-        joined = ap (λ l. l ++ last) x.bytes.joined ∙ concat_more packets last;
-      };
-      count = length-append packets (last ∷ []) ∙ ap (λ k. k + 1) x.count;
-      at = subst (λ content. SourceAt ep most (place_behind content most x.behind) (other toggle) v)
-          same on.1;
+      bytes = grind (arith, concat_more, gives-append);
+      count = grind (arith, length-append);
+      at = grind arith;
     }

@@ -40,7 +40,7 @@ turned pipe result = record pipe { toggle = toggle_after pipe.toggle result }
 
 pipe_turned : (pipe : PipeState) (result : Answer) (left : PipeState) (old new : World)
     → PollsOnce pipe old result left new → left ≡ turned pipe result
-pipe_turned pipe result left old new x = grind (arith, x.pipe_left, x.polls.pipe_left)
+pipe_turned pipe result left old new x = grind arith
 
 -- One device and its pipe
 
@@ -52,7 +52,7 @@ module _ (pipe : PipeState) (least : 1 ≤ pipe.max) (works : pipe.condition ≢
       → (pipe.condition ≡ Ready → SourceAt pipe.ep pipe.max got pipe.toggle v)
       → InPipeInSync pipe got v
   still told y h got f at = record {
-    endpoint = source_kept pipe.ep pipe.max s v (y.frame pipe.max f.endpoint) f.endpoint;
+    endpoint = search (source_kept, y.frame, f.endpoint);
     level = at;
     halted = grind (arith, y.halted, f.halted);
   }
@@ -61,14 +61,14 @@ module _ (pipe : PipeState) (least : 1 ≤ pipe.max) (works : pipe.condition ≢
       → SourcePolled (end_of pipe) pipe.ep pipe.toggle (Err fault) j s v
       → is_at s pipe.target ≡ true → (got : ℕ) → InPipeInSync pipe got s
       → InPipeInSync (pipe_known {A = Option (ArrayVec ℕ)} (Err why) pipe) got v
-  failed_still why trans.Stalled e y h got f = rw e (still (Err trans.Stalled) y h got f
-      (λ r. y.source h pipe.max got f.endpoint least (f.level r)))
-  failed_still why trans.Busy e y h got f = rw e (still (Err trans.Busy) y h got f
-      (λ r. y.source h pipe.max got f.endpoint least (f.level r)))
-  failed_still why trans.NoAnswer e y h got f = rw e (still (Err trans.NoAnswer) y h got f
-      (λ r. y.source h pipe.max got f.endpoint least (f.level r)))
+  failed_still why trans.Stalled e y h got f =
+      rw e (search (still, trans.Stalled, y.source, f.endpoint, f.level))
+  failed_still why trans.Busy e y h got f =
+      rw e (search (still, trans.Busy, y.source, f.endpoint, f.level))
+  failed_still why trans.NoAnswer e y h got f =
+      rw e (search (still, trans.NoAnswer, y.source, f.endpoint, f.level))
   failed_still why (trans.Bus fault) e y h got f = rw e (record {
-    endpoint = source_kept pipe.ep pipe.max s v (y.frame pipe.max f.endpoint) f.endpoint;
+    endpoint = search (source_kept, y.frame, f.endpoint);
     level = λ r. cc r;
     halted = λ r. cc r;
   })
@@ -84,10 +84,10 @@ module _ (pipe : PipeState) (least : 1 ≤ pipe.max) (works : pipe.condition ≢
       level = still (Ok None) y h got f
           (λ r. y.source h pipe.max got f.endpoint least (f.level r));
     };
-    none = λ h i few each e. y.empty h pipe.max i few each refl;
+    none = grind arith;
     stalled = λ h i e. cc e;
-    halted = λ h i c. let z = y.halted h pipe.max i c in (z.0, λ got e. z.1 None refl);
-    paced = λ h limit i p. y.paced h pipe.max limit i p;
+    halted = λ h i c. grind arith;
+    paced = search y.paced;
   }
 
   one_came : (packet : ArrayVec ℕ)
@@ -104,17 +104,16 @@ module _ (pipe : PipeState) (least : 1 ≤ pipe.max) (works : pipe.condition ≢
           behind = next_place s pipe.ep pipe.max got;
           come = (z.0, refl);
           level = record {
-            endpoint = source_kept pipe.ep pipe.max s v (y.frame pipe.max i) i;
+            endpoint = search (source_kept, y.frame);
             level = λ q. z.1;
             halted = λ q. cc (sym r ∙ q);
           };
         })
-        (λ r. absurd ((y.halted h pipe.max i (f.halted r)).1 (Some packet.items) refl));
+        (λ r. absurd (grind arith));
     none = λ h i few each e. cc e;
     stalled = λ h i e. cc e;
-    halted = λ h i c. let z = y.halted h pipe.max i c in
-        (z.0, λ got e. z.1 (Some packet.items) refl);
-    paced = λ h limit i p. y.paced h pipe.max limit i p;
+    halted = λ h i c. grind arith;
+    paced = search y.paced;
   }
 
   failed : (why : PipeFault) (fault : TransFault) → why ≡ as_pipe_fault fault
@@ -124,11 +123,11 @@ module _ (pipe : PipeState) (least : 1 ≤ pipe.max) (works : pipe.condition ≢
     others = y.others;
     frame = y.frame pipe.max;
     gave = λ h got f.
-        record { behind = got; come = refl; level = failed_still why fault told y h got f };
+        record { behind = got; come = refl; level = search failed_still };
     none = λ h i few each e. cc e;
-    stalled = λ h i e. y.stalled h pipe.max i (same_told why fault trans.Stalled told e);
-    halted = λ h i c. ((y.halted h pipe.max i c).0, λ got e. cc e);
-    paced = λ h limit i p. y.paced h pipe.max limit i p;
+    stalled = grind (arith, same_told);
+    halted = grind arith;
+    paced = search y.paced;
   }
 
 -- a call that makes no attempt
@@ -160,23 +159,20 @@ module _ (pipe left : PipeState) (old new : World) (least : 1 ≤ pipe.max)
       → EachWas (PacketSaid (turned pipe result) result) old new
   asked_told (Ok None) works x =
       each_wider _ _ (λ j s v y. record {
-        leaves = none_came pipe least works j s v y.leaves;
-        why = λ three. never_failed pipe (Ok None) (λ e. cc e) (λ e. cc e);
+        leaves = search none_came;
+        why = grind (arith, never_failed);
       }) old new
       (source_poll_told (end_of pipe) pipe.ep pipe.toggle (Ok None) old new x.settled x.polls.asked
       single)
   asked_told (Ok (Some packet)) works x =
-      each_wider _ _ (λ j s v y. record {
-        leaves = one_came pipe least works j s v packet y.leaves;
-        why = λ three. never_failed pipe (Ok (Some packet)) (λ e. cc e) (λ e. cc e);
-      }) old new
+      each_wider _ _ (grind (arith, never_failed, one_came)) old new
       (source_poll_told (end_of pipe) pipe.ep pipe.toggle (Ok (Some packet.items)) old new x.settled
       x.polls.asked single)
   asked_told (Err why) works x =
       let n = x.polls.asked in
       each_wider _ _ (λ j s v y. record {
-        leaves = failed pipe least works j s v why n.fault n.told y.leaves;
-        why = λ three. failed_why pipe why n.fault n.told j s v (y.why three);
+        leaves = search failed;
+        why = grind (arith, failed_why);
       }) old new
       (source_poll_told (end_of pipe) pipe.ep pipe.toggle (Err n.fault) old new x.settled n.polled
       single)
@@ -231,10 +227,7 @@ pub polls_by : (read pipe : PipeState) (result : Answer) (left : PipeState) (old
     → PipePoll pipe old result left new
 polls_by read pipe result left old new same least works x is settled =
     subst (λ p. PipePoll p old result left new) same
-    (packet_told read result left old new least (record {
-      broken = λ e. absurd (works e);
-      asked = λ w. record { settled = settled; polls = x; pipe_left = is };
-    }))
+    (packet_told read result left old new least (grind arith))
 
 pub polls_broken : (pipe : PipeState) (w : World) → 1 ≤ pipe.max
     → is_broken pipe.condition ≡ true → PipePoll pipe w (Err pipe_fault.Broken) pipe w

@@ -1,5 +1,5 @@
 -- Polls through one pipe, one after another: what they tell are the next packets of the endpoint.
-use Rattle.std.proofs.Common.{◌≡◌, ◌≢◌, ◌∙◌, refl, ap, subst, arith, true, false, ℕ, List, [], ◌++◌}
+use Rattle.std.proofs.Common.{◌≡◌, ◌≢◌, ◌∙◌, refl, ap, arith, true, false, ℕ, List, [], ◌++◌}
 use Rattle.std.proofs.Common.{Option, None, Some, Result, Ok, Err, append-nil}
 use Rattle.arrayvec.specs.ArrayVec.{ArrayVec}
 use Rattle.usb_device.specs.{GivesOn, IsSource, Location, OnlySource, State, in_data}
@@ -70,19 +70,19 @@ module _ (pipe mid left : PipeState) (packets : List (List ℕ)) (result : Answe
     (y : PacketLeaves mid result left j u v) where
   module _ (i : IsSource pipe.ep pipe.max s) where
     source_then : IsSource pipe.ep pipe.max u
-    source_then = source_kept pipe.ep pipe.max s u (x.frame i) i
+    source_then = grind (arith, source_kept)
 
     frame_then : OnlySource pipe.ep u v
     frame_then = grind (arith, source_then)
 
     same_data : in_data u pipe.ep ≡ in_data s pipe.ep
-    same_data = ap (λ q. in_data q pipe.ep) (x.frame i).rest
+    same_data = grind arith
 
     frame_both : OnlySource pipe.ep s v
     frame_both = grind (arith, frame_then)
 
     at_then : is_at s pipe.target ≡ true → is_at u mid.target ≡ true
-    at_then h = rw kept (source_at_kept pipe.target s u (x.frame i) h)
+    at_then h = grind (arith, source_at_kept)
 
   gave_then : is_at s pipe.target ≡ true → (got : ℕ) → InPipeInSync pipe got s
       → GaveReports pipe got (packets ++ report_in result) left new s v
@@ -96,19 +96,17 @@ module _ (pipe mid left : PipeState) (packets : List (List ℕ)) (result : Answe
       by_bus (Some fault) gone =
           let z = none_told result fault gone p in record {
             behind = before.behind;
-            come = rw (z.0, append-nil packets) before.come;
+            come = grind (arith, append-nil);
             level = λ works. absurd (z.1 works);
           }
       by_bus None able =
           let z = y.gave (at_then f.endpoint h) before.behind (before.level able) in
-          let come : GivesOn (in_data s pipe.ep) pipe.max before.behind (report_in result) z.behind =
-          rw (← same_data f.endpoint)
-          (subst (λ q. GivesOn (in_data u q.ep) q.max before.behind (report_in result) z.behind)
-          kept z.come) in record {
+          let come : GivesOn (in_data s pipe.ep) pipe.max before.behind
+          (report_in result) z.behind =
+          grind (arith, same_data) in record {
             behind = z.behind;
-            come = grind (arith, gives-append, before.behind, z.behind, before.come);
-            level = λ works. subst (λ q. InPipeInSync q z.behind v) (known_left result works p)
-                z.level;
+            come = grind (arith, gives-append);
+            level = grind (arith, known_left);
           }
 
   reports_then : ReportsLeave pipe (packets ++ report_in result) left new j s v
@@ -123,5 +121,5 @@ pub reports_leave : (pipe : PipeState) (old : World) (packets : List (List ℕ))
     → EachWas (ReportsLeave pipe packets left new) old new
 reports_leave pipe old packets left new start single = each_none _ (reports_none pipe old) old
 reports_leave pipe old packets left new (poll {packets = told} {mid} {now} {result} x p) single =
-    each_joined _ _ _ (reports_then pipe mid left told result now new (turn_keeps x) p.polls) old
+    each_joined _ _ _ (grind (arith, reports_then, turn_keeps)) old
     now new (reports_leave pipe old told mid now x (poll_unshared p.polls single)) (p.what single)

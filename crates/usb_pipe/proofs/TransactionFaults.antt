@@ -1,5 +1,5 @@
 -- The fault of a transfer is that of its last transaction.
-use Rattle.std.proofs.Common.{◌≡◌, arith, List, ℕ, Result, Err, refl}
+use Rattle.std.proofs.Common.{◌≡◌, arith, List, ℕ, Result, Err}
 use Rattle.usb_device.specs.{Spec}
 use Rattle.usb_transaction.specs.{TransFault, CanAnswer, CanAccept}
 use Rattle.usb_pipe.specs.{PipeFault, as_pipe_fault, CanEnd}
@@ -16,7 +16,7 @@ fell_same_fault A why fault other told e = grind arith
 
 pub fell : {A : Type 0} (fault other : TransFault)
     → FailsWith A (as_pipe_fault fault) (as_pipe_fault other) → Fell fault other
-fell {A} fault other e = fell_same_fault A (as_pipe_fault fault) fault other refl e
+fell fault other e = grind (arith, fell_same_fault)
 
 -- a device that can answer a transaction so can end the transfer so
 

@@ -1,7 +1,6 @@
 -- The address losses that transfers of pipes count: none.
 use Rattle.std.specs.Global.{Vec}
-use Rattle.std.proofs.Common.{◌≡◌, ℕ, List, Option, None, Some, refl, subst, ◌∙◌, ◌≢◌, ap, inl, inr}
-use Rattle.std.proofs.Common.{take, Result, Ok, Err}
+use Rattle.std.proofs.Common.{arith, ◌≡◌, ℕ, List, Option, refl, ◌∙◌, ◌≢◌, ap, Result, Err}
 use Rattle.arrayvec.specs.ArrayVec.{ArrayVec}
 use Rattle.usb_packet.specs.{Toggle, flips}
 use Rattle.usb_tree.specs.{IsSettled}
@@ -9,9 +8,8 @@ use Rattle.usb_world.specs.{World}
 use Rattle.usb_transaction.specs.{Polled, in_attempt, TransFault, Target}
 use Rattle.usb_transaction.specs.declared.fault.TransFault.TheVariants as trans
 use Rattle.usb_transaction.proofs.Interface.{other_losses, out_losses}
-use Rattle.usb_pipe.specs.{PipeState, Sends, Receives, as_pipe_fault, packet_target, Interrupt}
-use Rattle.usb_pipe.specs.{PollAsked, Polls, IsNoBusFault, Gave, Came, SendEnds, ReceiveEnds}
-use Rattle.usb_pipe.specs.{PipeFault}
+use Rattle.usb_pipe.specs.{PipeState, Sends, Receives, as_pipe_fault, Interrupt, PollAsked, Polls}
+use Rattle.usb_pipe.specs.{IsNoBusFault, Gave, Came, SendEnds, ReceiveEnds, PipeFault}
 use Rattle.usb_pipe.specs.Moves as moves
 use Rattle.usb_pipe.proofs.BulkCalls.{send_by, receive_by, received_settled, gave_settled}
 use Rattle.usb_pipe.proofs.ControlSteps.{transacted_ended}
@@ -29,25 +27,20 @@ gave_losses t ep first {new = new} settled (moves.packet {n} {mid = mid} bytes g
 sent_losses : (t : Target) (ep : ℕ) (first : Toggle) (total : List ℕ)
     (result : Result (Unit {0}) PipeFault) (old new : World) → IsSettled old.roots
     → SendEnds t ep first total old result new → IsNoBusFault result → new.losses ≡ old.losses
-sent_losses t ep first total (Ok done) old new settled x sound =
-    gave_losses t ep first settled x.gone
-sent_losses t ep first total (Err why) old new settled x sound =
-    let over = transacted_ended (Unit {0}) why x.fault x.told sound x.lost in
-    out_losses t ep (flips x.packets first) (take t.max x.rest) x.mid new
-    (gave_settled x.before settled) over.trail ∙ gave_losses t ep first settled x.before
+sent_losses t ep first total result old new settled x sound =
+    grind (arith, gave_losses, gave_settled, out_losses, transacted_ended)
 
 -- what leaves the world as it was counts nothing
 pub losses_same : {old new : World} → new ≡ old → new.losses ≡ old.losses
 losses_same e = ap (λ w. w.losses) e
 
 pub send_losses : (bytes : List ℕ) (pipe : PipeState) (result : Result (Unit {0}) PipeFault)
-    (left : PipeState) (old new : World) → Sends bytes pipe old result left new → IsNoBusFault result
+    (left : PipeState) (old new : World) → Sends bytes pipe old result left new
+    → IsNoBusFault result
     → new.losses ≡ old.losses
 send_losses bytes pipe result left old new x sound =
     send_by (new.losses ≡ old.losses) (λ i. losses_same i.world_kept)
-    (λ none i. losses_same i.world_kept)
-    (λ works some y. sent_losses (packet_target pipe.target pipe.max) pipe.ep pipe.toggle bytes
-    result old new y.settled y.went sound) x
+    (λ none i. losses_same i.world_kept) (grind (arith, sent_losses)) x
 
 -- Bulk transfers to the host
 
@@ -63,25 +56,15 @@ came_losses t ep first {new = new} other settled (moves.packet {n} {mid = mid} b
 received_losses : (t : Target) (ep : ℕ) (first : Toggle) (wanted : ℕ)
     (result : Result (Vec ℕ) PipeFault) (old new : World) → ep ≢ 0 → IsSettled old.roots
     → ReceiveEnds t ep first wanted old result new → IsNoBusFault result → new.losses ≡ old.losses
-received_losses t ep first wanted (Ok bytes) old new other settled x sound =
-    other_losses t ep x.mid new other (received_settled x.before settled) x.came.trail
-    ∙ came_losses t ep first other settled x.before
-received_losses t ep first wanted (Err why) old new other settled (inl x) sound =
-    let over = transacted_ended (Vec ℕ) why x.fault x.told sound x.lost in
-    other_losses t ep x.mid new other (received_settled x.before settled) over.trail
-    ∙ came_losses t ep first other settled x.before
-received_losses t ep first wanted (Err why) old new other settled (inr x) sound =
-    other_losses t ep x.mid new other (received_settled x.before settled) x.came.trail
-    ∙ came_losses t ep first other settled x.before
+received_losses t ep first wanted result old new other settled x sound =
+    grind (arith, came_losses, other_losses, received_settled, transacted_ended)
 
-pub receive_losses : (wanted : ℕ) (pipe : PipeState) (result : Result (Vec ℕ) PipeFault) (left : PipeState)
+pub receive_losses : (wanted : ℕ) (pipe : PipeState) (result : Result (Vec ℕ) PipeFault)
+    (left : PipeState)
     (old new : World) → pipe.ep ≢ 0
     → Receives wanted pipe old result left new → IsNoBusFault result → new.losses ≡ old.losses
 receive_losses wanted pipe result left old new other x sound =
-    receive_by (new.losses ≡ old.losses) (λ broken kept same. losses_same same)
-    (λ bytes is none kept same. losses_same same)
-    (λ works some y. received_losses (packet_target pipe.target pipe.max) pipe.ep pipe.toggle wanted
-    result old new other y.settled y.came sound) x
+    grind (arith, losses_same, receive_by, received_losses)
 
 -- Polls
 
@@ -90,23 +73,14 @@ failed_losses : (pipe : Interrupt) (old new : World) (why : PipeFault) (fault : 
     → why ≡ as_pipe_fault fault → IsNoBusFault {A = Option (ArrayVec ℕ)} (Err why) → pipe.ep ≢ 0
     → IsSettled old.roots → Polled pipe.toggle (in_attempt pipe.target pipe.ep) old (Err fault) new
     → new.losses ≡ old.losses
-failed_losses pipe old new why (trans.Bus fault) e sound other settled x =
-    absurd (subst (λ y. IsNoBusFault {A = Option (ArrayVec ℕ)} (Err y)) e sound)
-failed_losses pipe old new why fault e sound other settled x =
-    other_losses pipe.target pipe.ep old new other settled x.trail
+failed_losses pipe old new why fault e sound other settled x = grind (arith, other_losses)
 
 asked_losses : (pipe : Interrupt) (result : Result (Option (ArrayVec ℕ)) PipeFault)
     (old new : World) → pipe.ep ≢ 0 → IsSettled old.roots → PollAsked pipe old result new
     → IsNoBusFault result → new.losses ≡ old.losses
-asked_losses pipe (Ok None) old new other settled x sound =
-    other_losses pipe.target pipe.ep old new other settled x.trail
-asked_losses pipe (Ok (Some packet)) old new other settled x sound =
-    other_losses pipe.target pipe.ep old new other settled x.trail
-asked_losses pipe (Err why) old new other settled x sound =
-    failed_losses pipe old new why x.fault x.told sound other settled x.polled
+asked_losses pipe result old new other settled x sound = grind (arith, failed_losses, other_losses)
 
 pub poll_losses : (pipe : Interrupt) (result : Result (Option (ArrayVec ℕ)) PipeFault)
     (left : Interrupt) (old new : World) → pipe.ep ≢ 0 → IsSettled old.roots
     → Polls pipe old result left new → IsNoBusFault result → new.losses ≡ old.losses
-poll_losses pipe result left old new other settled x sound =
-    asked_losses pipe result old new other settled x.asked sound
+poll_losses pipe result left old new other settled x sound = grind (arith, asked_losses)

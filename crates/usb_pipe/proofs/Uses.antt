@@ -1,5 +1,5 @@
 -- How calls over a bus join.
-use Rattle.std.proofs.Common.{◌≤◌, ◌+◌, ◌∙◌, ℕ, Bool, List, Option, arith}
+use Rattle.std.proofs.Common.{◌≤◌, ◌+◌, ℕ, Bool, List, Option, arith}
 use Rattle.usb_world.specs.{BusFault, World}
 use Rattle.usb_bus.specs.{Steps}
 use Rattle.usb_bus.proofs.Interface.{went_none, went_then, went_wider}
@@ -11,7 +11,7 @@ module _ {S : Type 0} {modelled : Bool} {spent ports : S → ℕ} {failed : S �
       {old new : S} → UsesBus modelled Went spent ports failed n Told old new
       → (Told (failed new) → To (failed new))
       → UsesBus modelled Went spent ports failed n To old new
-  uses_as u so = grind (arith, u.spends, u.told, u.steps)
+  uses_as u so = grind arith
 
   module _ {world : S → World} {trace : S → Option (List ℕ)} where
     pub uses_none : {n : ℕ} {Told : Option BusFault → Type 0} {old : S} → Told (failed old)
@@ -28,7 +28,7 @@ module _ {S : Type 0} {modelled : Bool} {spent ports : S → ℕ} {failed : S �
         → UsesBus modelled (Steps world trace) spent ports failed n To mid new
         → UsesBus modelled (Steps world trace) spent ports failed (m + n) To old new
     uses_then {m = m} {n = n} u v = record {
-      spends = (omega (arith, u.spends.0, v.spends.0), v.spends.1 ∙ u.spends.1);
+      spends = grind arith;
       told = v.told;
       steps = λ known. went_then m n (u.steps known) (v.steps known);
     }

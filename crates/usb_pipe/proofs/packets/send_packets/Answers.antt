@@ -2,8 +2,8 @@ use Rattle.std.proofs.Common.{rules, ◌≡◌, ◌∙◌, sym, Bool, nat_eq, �
 use Rattle.std.proofs.Common.{true, ◌≢◌}
 use Rattle.std.proofs.lemmas.Bool.{eqb-true, eqb-false}
 use Rattle.std.proofs.lemmas.List.{nil_from_length}
-use Rattle.usb_pipe.proofs.MovedPackets.{one_packet_less}
-use Rattle.usb_pipe.proofs.MovedPackets.{moving_none, going_more, all_sent, lost_sent}
+use Rattle.usb_pipe.proofs.MovedPackets.{one_packet_less, moving_none, going_more, all_sent}
+use Rattle.usb_pipe.proofs.MovedPackets.{lost_sent}
 use Rattle.usb_pipe.proofs.packets.send_packets.Goals as goal
 
 pub packets-init : goal.packets-init

@@ -1,5 +1,5 @@
-use Rattle.std.proofs.Common.{◌≡◌, ◌∙◌, ◌≢◌, refl, sym, rules, arith, ℕ, ◌<◌, ◌≤◌, length, Bool, false}
-use Rattle.std.proofs.Common.{nat_eq}
+use Rattle.std.proofs.Common.{◌≡◌, ◌∙◌, ◌≢◌, refl, sym, rules, arith, ℕ, ◌<◌, ◌≤◌, length, Bool}
+use Rattle.std.proofs.Common.{false, nat_eq}
 use Rattle.std.proofs.lemmas.Bool.{eqb-true, eqb-false}
 use Rattle.std.proofs.lemmas.List.{nil_from_length}
 use Rattle.usb_pipe.proofs.MovedPackets.{all_sent, moving_none}

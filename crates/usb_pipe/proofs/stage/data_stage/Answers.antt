@@ -2,9 +2,8 @@ use Rattle.std.proofs.Common.{rules, ◌≤◌, ◌≡◌, ◌-◌, ◌++◌, ta
 use Rattle.std.proofs.Common.{false}
 use Rattle.usb_pipe.specs.{ends_stage}
 use Rattle.usb_pipe.proofs.ControlTransfers.{grown_full, read_progress_none, onward_more}
-use Rattle.usb_pipe.proofs.ControlTransfers.{onward_went}
+use Rattle.usb_pipe.proofs.ControlTransfers.{onward_went, data_ends, lost_ends, no_room_ends}
 use Rattle.usb_pipe.proofs.Bounds.{full_packet}
-use Rattle.usb_pipe.proofs.ControlTransfers.{data_ends, lost_ends, no_room_ends}
 use Rattle.usb_pipe.proofs.stage.data_stage.Goals as goal
 
 pub packets-init : goal.packets-init
