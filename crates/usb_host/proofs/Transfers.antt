@@ -38,8 +38,6 @@ pub polled_works : (pipes left : Pipes) (answer : Result (Option (ArrayVec ℕ))
     (old new : World) → PipesPolled pipes old answer left new → WorksAfter answer old new
 polled_works pipes left answer old new x = grind arith
 
--- Through one pipe
-
 -- As the table tells it
 
 abbrev TableNotOfBus : TableFault → Type 0
@@ -113,8 +111,6 @@ pub bytes_written_works : (request : Setup) (bytes path : List ℕ) (tab : Table
     → TransferIf (WriteMade request bytes) (WriteLeft request bytes) path tab target old answer new
     → TableWorks old answer new
 bytes_written_works request bytes path tab target old new answer h = grind arith
-
--- One part after another
 
 -- A fault that is not the bus's
 

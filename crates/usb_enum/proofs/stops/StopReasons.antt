@@ -108,8 +108,6 @@ explained_at So A t f port p mid new at pre three single sane explains is v on t
     was_at (Explained Hears So t) p mid new (explains three single) v on there in
     let has = at_place (IsTargeted A t) is s in grind (arith, sane_spec)
 
--- The device that awaits its address has address 0
-
 -- Its head
 
 pub head_stops : {port : HubPort} {address : ℕ} {low : Bool} (pre : Bool) (stop : Stop)

@@ -335,8 +335,6 @@ number_unknown {h = h} unknown = record {
   pays = grind arith;
 }
 
--- A hub was dropped
-
 -- Where nothing was reported
 
 -- a look is owed again for each device, of which there are no more than events
