@@ -112,11 +112,7 @@ set_up_done t bytes done old new eight settled e h =
     let a = setup_attempt t bytes in
     let last : e.last ≡ outcome.Ack = grind (arith, set_up_last) in
     let (q, came) = asked_last settled e.trail h (given_loud (ap given_by last)) in
-    let own = q.holder.own in
-    let spot = q.holder.spot in
-    let d = damage_in (at_attempt q.mid) in
     let x = setup_in a q.mid q.holder q.loud bytes (grind arith) in
-    let whole : Bool = grind arith in
     record {
       asked = q;
       on = asked_last-reach q;
