@@ -11,49 +11,32 @@
 
 mod alone;
 mod answer;
-mod between;
 mod bulk;
-mod children;
-mod clearing;
 mod delivery;
-mod device;
-mod devices;
 mod effect;
 mod endpoint_spec;
 mod ends;
 mod hearing;
 mod holders;
-mod hub_spec;
-mod laws;
-mod lent_packet;
 mod lists;
-mod own;
 mod own_request;
-mod ports;
 mod request;
-mod route;
 mod spec;
 mod transfer;
 mod write;
 
 pub use alone::{DeviceSide, HostSide};
 pub use answer::{Answer, AnswerPid};
-pub use children::Parent;
+pub use bulk::{EndpointState, ServedEndpoint};
 pub use delivery::{Content, Heard, Sent};
-pub use device::Device;
-pub use devices::Devices;
 pub use effect::{Effect, keeps_enable};
 pub use endpoint_spec::{EndpointData, EndpointSpec, EndpointSpecs};
-pub use ends::{EndpointNumber, InEnd, Pace};
-pub use hearing::{HeardPid, Hearing};
-pub use holders::{Holder, Holders};
-pub use hub_spec::{HubSpec, has_hub_class};
-pub use laws::{
-    answer_laws, attempt_laws, control_read_goes_on, control_write_goes_on, sink_goes_on,
-    source_goes_on, source_is_cut, stray_laws,
-};
-pub use lent_packet::LentPacket;
-pub use lists::{Bytes, ConfigTexts, Name, Packets, StringTexts, Texts};
+pub use ends::{EndpointNumber, InEnd, OutHead, Pace};
+pub use hearing::HeardPid;
+pub use holders::{Holder, path_copy};
+pub use lists::{Bytes, ConfigTexts, Packets, StringTexts, Texts};
 pub use own_request::{OwnAnswer, OwnRequest, OwnRequests};
-pub use ports::Ports;
-pub use spec::{DeviceSpec, Stalls};
+pub use request::{Reaction, Registers, Source};
+pub use spec::Stalls;
+pub use transfer::{InEndpoint, Progress, RememberedPacket};
+pub use write::WriteData;

@@ -8,7 +8,8 @@ ghost use Rattle.usb_judge.specs.Scenes.{device_seen};
 ghost use Rattle.usb_judge.specs.Worlds.{configuration_in, given_below, scene_on, state_seen};
 
 use crate::way::is_reached;
-use usb_device::{Bytes, Device, DeviceSpec, Ports};
+use usb_device::Bytes;
+use usb_device_steps::{Device, DeviceSpec, Ports};
 use usb_judge::PluggedDevice;
 use usb_port::PortPath;
 use usb_resources::supply;

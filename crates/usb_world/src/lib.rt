@@ -15,24 +15,13 @@
 mod damage;
 mod event;
 mod exchange;
-mod laws;
 mod losses;
-mod plan;
-mod route;
 mod types;
 mod wire;
 
-pub use damage::{Damage, Damages, Harm};
-pub use event::{Action, Ask, Change, Event, Events, SentBytes, WriteRequest, event_copies};
-pub use exchange::{Exchange, ExchangeAnswer, ExchangeRoom};
-pub use laws::{
-    a_port_rests_or_is_pending, control_courses_keep_addresses, devices_have_their_ports,
-    events_are_pending, one_device_at_most_answers, pending_stays, plugged_is_what_the_events_left,
-    reachable_is_the_same, reset_makes_reachable, undisturbed_keeps_what_is_plugged,
-    what_an_attempt_does_to_a_device,
-};
+pub use damage::{Damage, Harm};
+pub use event::{Action, Ask, Change, Event, SentBytes, WriteRequest};
+pub use exchange::{Exchange, ExchangeAnswer};
 pub use losses::Losses;
-pub use plan::Plan;
-pub use route::make_exchange_by;
 pub use types::{Attempt, BusFault, Destination, Outcome};
-pub use wire::{Mark, Outgoing, OutgoingRoom, damage_of};
+pub use wire::{Mark, Outgoing};
