@@ -29,4 +29,3 @@ pub use Rattle.usb_device.proofs.places.HolderIndexes.{way_addresses, held-reach
 pub use Rattle.usb_device.proofs.places.HolderPaths.{one_is_held, nat_eq-true_sym}
 pub use Rattle.usb_device.proofs.places.ReachedPlaces.{reached-acted, reached-both}
 pub use Rattle.usb_device.proofs.packets.StoppedPackets.{stopped_on_err}
-pub use Rattle.usb_device.proofs.Names.{bytes_eq-sym}

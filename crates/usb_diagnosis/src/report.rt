@@ -8,7 +8,7 @@ ghost use Rattle.usb_diagnosis.specs.Report.{count_line, fault_name, fault_text,
 use crate::place::{Spot, push_spot};
 use crate::shown::{push_number, push_shown};
 use std::alloc::{AllocError, Global};
-use usb_device_steps::DeviceSpec;
+use usb_scene::DeviceSpec;
 use usb_plan::{Place, Plan, PlanFault, bound};
 use usb_remarks::{Remark, push_remark, remark_of};
 

@@ -25,7 +25,7 @@ use usb_request::feature::{
 };
 use usb_sim::{FollowFault, Plan, SimBus, Trace, Tracer, Untraced};
 use usb_wire::{Answer, Endpoint, Question};
-use usb_world_steps::damage_of;
+use usb_exchange::damage_of;
 
 /// The statuses of root ports, port 1 first.
 pub type Statuses = ArrayVec<[u8; 4], 7>;

@@ -7,9 +7,8 @@ ghost use Rattle.usb_places.specs.Known.{after_of, damage_found, damages_known, 
 
 use crate::sought::{AllSought, Sought, Whose};
 use std::alloc::{AllocError, Global};
-use usb_device_steps::{DeviceSpec, Devices};
 use usb_world::{Damage, Event};
-use usb_world_steps::{Damages, Events, Plan, event_copies};
+use usb_scene::{Damages, DeviceSpec, Devices, Events, Plan, event_copies};
 
 /// The most damages of a plan.
 const MOST_DAMAGES: usize = 10_000;

@@ -14,7 +14,7 @@ use crate::value::{number_at, read_text, value_at};
 use std::alloc::Global;
 use toml::{Table, Value};
 use usb_world::{Damage, Harm};
-use usb_world_steps::Damages;
+use usb_scene::Damages;
 
 /// The key `attempt`: after the last one.
 #[tactic(auto, unfolding(crate::specs::Damage::attempt_at))]

@@ -13,7 +13,7 @@ use crate::value::{number_or, value_at};
 use std::alloc::{AllocError, Global};
 use std::marker::Model;
 use toml::Value;
-use usb_device_steps::DeviceSpec;
+use usb_scene::DeviceSpec;
 use usb_port::PortPath;
 use usb_world::Action;
 

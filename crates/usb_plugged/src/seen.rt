@@ -9,7 +9,8 @@ ghost use Rattle.usb_judge.specs.Worlds.{configuration_in, given_below, scene_on
 
 use crate::way::is_reached;
 use usb_device::Bytes;
-use usb_device_steps::{Device, DeviceSpec, Ports};
+use usb_function::{Device, Ports};
+use usb_scene::DeviceSpec;
 use usb_judge::PluggedDevice;
 use usb_port::PortPath;
 use usb_resources::supply;

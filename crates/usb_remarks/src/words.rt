@@ -9,7 +9,7 @@ use crate::text::{TextRemark, byte_at, first_endpoint, text_read};
 use std::alloc::{AllocError, Global};
 use usb_descriptor::DescriptorFault;
 use usb_device::Bytes;
-use usb_device_steps::DeviceSpec;
+use usb_scene::DeviceSpec;
 use usb_request::descriptor_type::{ENDPOINT, INTERFACE};
 use usb_request::endpoint_address::STATUS_ENDPOINT;
 

@@ -6,7 +6,7 @@ ghost use Rattle.usb_bus.specs.Shown.{ends_line, is_escaped, escaped, shown_char
 
 use std::alloc::{AllocError, Global};
 use std::marker::Model;
-use usb_device_steps::DeviceSpec;
+use usb_scene::DeviceSpec;
 use usb_packet::hex_digits;
 
 /// A device's name as it is in a line of the trace.

@@ -6,7 +6,7 @@ ghost use Rattle.usb_world.specs.PlanLimits.{attempt_most, damage_most, event_mo
 ghost use Rattle.usb_device.specs.DeviceSpecs.{IsSpec};
 ghost use Rattle.usb_device.specs.Rows.{out_end};
 ghost use Rattle.usb_device.specs.Tree.{new_ports, row_of};
-ghost use Rattle.usb_device_steps.specs.HolderIndex.{IsIndexOf};
+ghost use Rattle.usb_function.specs.HolderIndex.{IsIndexOf};
 ghost use Rattle.usb_world.specs.Losses.{AreOfDamages};
 ghost use Rattle.usb_tree.specs.AttemptPackets.{IsSettled};
 ghost use Rattle.usb_world.specs.SanePorts.{Consistent};
@@ -31,10 +31,11 @@ use std::collections::VecDeque;
 use std::io::Write;
 use usb_bus::Watched;
 use usb_device::{AnswerPid, EndpointNumber, HeardPid};
-use usb_device_steps::{Holders, Ports};
+use usb_function::{Holders, Ports};
 use usb_port::PortPath;
 use usb_world::{BusFault, Losses};
-use usb_world_steps::{ExchangeRoom, event_copies};
+use usb_exchange::ExchangeRoom;
+use usb_scene::event_copies;
 
 /// A bus that a plan describes. Each attempt, plug and unplug is a line of the trace, which goes to a writer at once
 /// where the bus is `Tracer`.

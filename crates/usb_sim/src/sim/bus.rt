@@ -1,7 +1,7 @@
 //! The simulated bus as the host sees it.
 ghost use Rattle.std.specs.Prelude.{◌≡◌, ◌+◌, ◌-◌, ◌<◌, ◌≤◌, ◌∷◌, [], length, slice_index_or, true, false, None, Some, IfOk, IfErr, OnOk, refl};
 ghost use Rattle.usb_port.specs.PortStates.{off, status_of};
-ghost use Rattle.usb_device_steps.specs.HolderIndex.{IsIndexOf};
+ghost use Rattle.usb_function.specs.HolderIndex.{IsIndexOf};
 ghost use Rattle.usb_device.specs.Tree.{row_of, changed, called};
 ghost use Rattle.usb_port.specs.Calls.{IsSetFeature, IsClearFeature};
 ghost use Rattle.usb_world.specs.Exchanges.{outcome_of};
@@ -17,10 +17,10 @@ use crate::Trace;
 use arrayvec::ArrayVec;
 use usb_bus::{Bus, OutcomeKind};
 use usb_device::{AnswerPid, HeardPid, keeps_enable};
-use usb_device_steps::{Holders, Ports};
+use usb_function::{Holders, Ports};
 use usb_port::PortCall;
 use usb_world::{Attempt, BusFault, Outcome};
-use usb_world_steps::{ExchangeRoom, damage_of, make_exchange_by};
+use usb_exchange::{ExchangeRoom, damage_of, make_exchange_by};
 
 impl<T: Trace> Bus for SimBus<T> {
     ghost use Rattle.usb_sim.specs.Parts.{LeavesAttempt};

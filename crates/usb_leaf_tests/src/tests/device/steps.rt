@@ -4,7 +4,7 @@ use super::packets::{ADDRESSING, Exchange, Host, are_answered, is_answered};
 use super::{attempts, bulk, hubs, requests, writes};
 use std::alloc::{AllocError, Global};
 use std::test::Fail;
-use usb_device_steps::{Device, Parent};
+use usb_function::{Device, Parent};
 use usb_device::EndpointNumber;
 
 #[derive(Clone, Copy)]

@@ -10,7 +10,7 @@ use TreeStep::{
 use std::alloc::{AllocError, Global};
 use std::test::Fail;
 use usb_device::Holder;
-use usb_device_steps::{Holders, LentPacket, Ports};
+use usb_function::{Holders, LentPacket, Ports};
 use usb_port::PortCall;
 
 #[derive(Clone, Copy)]

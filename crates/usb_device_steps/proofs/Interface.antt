@@ -1,4 +1,0 @@
--- The lemmas that crates above cite.
-pub use Rattle.usb_device_steps.proofs.places.HolderIndexes.{same_index}
-pub use Rattle.usb_device_steps.proofs.places.ReachedPlaces.{index_around, index_called}
-pub use Rattle.usb_device_steps.proofs.places.ReachedPlaces.{index_plugged}
