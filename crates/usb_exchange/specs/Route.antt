@@ -2,7 +2,7 @@
 use Rattle.std.specs.Prelude.{ℕ, List}
 use Rattle.usb_function.specs.{holder_in}
 use Rattle.usb_function.specs.declared.holders.Holders.{Holders}
-use Rattle.usb_world.specs.Route.{holder_path}
+use Rattle.usb_world.specs.{holder_path}
 
 abbrev pub way_in : Holders → ℕ → List ℕ
 way_in h n = holder_path h.shared (holder_in h n)

@@ -1,11 +1,8 @@
 -- The index that a bus keeps of a tree of devices.
 use Rattle.std.specs.Prelude.{◌≡◌, ℕ, List, slice_index_or, None}
-use Rattle.usb_device.specs.declared.holders.Holder.{Holder}
+use Rattle.usb_device.specs.{Holder, Ports, changed, put, held_addresses, repeats, IsIndex}
 use Rattle.usb_device.specs.declared.holders.Holder.TheVariants.{Nobody}
 use Rattle.usb_function.specs.declared.holders.Holders.{Holders}
-use Rattle.usb_device.specs.Tree.{Ports, changed, put}
-use Rattle.usb_device.specs.Delivery.{held_addresses, repeats}
-use Rattle.usb_device.specs.Holders.{IsIndex}
 
 -- who holds an address, as the index has it
 abbrev pub holder_in : Holders → ℕ → Holder

@@ -3,10 +3,9 @@ use Rattle.std.specs.Prelude.{ℕ, Option}
 use Rattle.std.specs.Borrow.{Lends, MutBor, Fml}
 use Rattle.std.specs.Option.Follows.{option_follows_value}
 use Rattle.std.specs.contracts.option.Option.{the_row as option_row}
-use Rattle.usb_device.specs.Tree.{Ports, Plugged}
+use Rattle.usb_device.specs.{Ports, Plugged, with_device}
 use Rattle.usb_function.specs.contracts.ports.Ports.{the_row as ports_row}
 use Rattle.usb_function.specs.contracts.device.Device.{the_row as device_row}
-use Rattle.usb_device.specs.Loans.{with_device}
 
 -- the ports end with what was last written behind r
 abbrev pub LendsPlace : MutBor Ports → ℕ → MutBor (Option Plugged) → Fml

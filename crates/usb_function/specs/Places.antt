@@ -3,10 +3,8 @@ use Rattle.std.specs.Prelude.{ℕ, ◌+◌, ◌≤◌, max, List, [], ◌∷◌,
 use Rattle.std.proofs.Common.{arith}
 use denote.Param.Weighed.{most}
 use Rattle.usb_port.specs.{PortState}
-use Rattle.usb_device.specs.Tree.{Ports, ended, Plugged, Place, before}
-use Rattle.usb_device.specs.TreeCodes.{weight, plugged_weight}
+use Rattle.usb_device.specs.{Ports, ended, Plugged, Place, before, weight, plugged_weight, standing}
 use Rattle.usb_function.specs.declared.ports.Place.{Place as Kept}
-use Rattle.usb_device.specs.Places.{standing}
 
 abbrev pub stood : Kept → Place
 stood p = standing p.port p.device

@@ -2,9 +2,7 @@
 use Rattle.std.specs.Prelude.{◌≡◌, ◌==◌, true, false, length, is_some}
 use Rattle.usb_descriptor.specs.{IsTableOf}
 use Rattle.usb_function.specs.declared.bulk.ServedEndpoints.{ServedEndpoints}
-use Rattle.usb_device.specs.declared.request.Registers.{Registers}
-use Rattle.usb_device.specs.DeviceSpecs.{Spec}
-use Rattle.usb_device.specs.Bulk.{bulk_at, served_at, status_number}
+use Rattle.usb_device.specs.{Registers, Spec, bulk_at, served_at, status_number}
 
 -- they are those that the text of the configuration describes; where the device has a source the
 -- first bulk IN endpoint is known, and of a hub the number of the status endpoint

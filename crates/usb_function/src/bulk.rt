@@ -9,11 +9,11 @@ ghost use Rattle.usb_device.specs.Bulk.{turned, halted, count_down, is_last, tex
 ghost use Rattle.usb_function.specs.ServedBulk.{AreServed};
 
 use crate::request::has_value;
-use usb_scene::DeviceSpec;
 use usb_descriptor::{ConfigView, Settings, UsableEndpoints, read_config};
 use usb_device::{Bytes, EndpointNumber, EndpointState, Registers, ServedEndpoint};
 use usb_packet::Toggle;
 use usb_request::endpoint_address::DIRECTION_IN;
+use usb_scene::DeviceSpec;
 
 /// An endpoint as a configuration leaves it (9.4.7).
 pub const RESTED: EndpointState = EndpointState {

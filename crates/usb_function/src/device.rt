@@ -11,13 +11,13 @@ ghost use Rattle.usb_device.specs.ReceivedBytes.{AnswersPacket, GrowsBy, receive
 use crate::answer::spelled;
 use crate::own::FunctionState;
 use crate::ports::Ports;
-use usb_scene::DeviceSpec;
 use arrayvec::ArrayVec;
 use std::alloc::{AllocError, Global};
 use std::marker::Model;
 use std::rc::Rc;
 use usb_device::{AnswerPid, Effect, EndpointNumber};
 use usb_packet::{Packet, decode};
+use usb_scene::DeviceSpec;
 
 /// A plugged device, with the devices on its ports: it takes one packet after the other, and
 /// answers some of them (8.5).

@@ -7,12 +7,12 @@ ghost use Rattle.usb_device.specs.Ends.{begun_if, no_out, no_in, rested_in, with
 ghost use Rattle.usb_device.specs.OutRows.{head_of, joined, plugged_head, rested_head, taken_head};
 
 use crate::bulk::{RESTED, counted_down, is_last, turned};
-use usb_scene::DeviceSpec;
 use std::alloc::{AllocError, Global};
 use std::marker::Model;
 use usb_descriptor::{UsableEndpoint, UsableEndpoints};
 use usb_device::{EndpointNumber, EndpointSpec, EndpointState, InEnd, OutHead, Pace};
 use usb_request::endpoint_address::DIRECTION_IN;
+use usb_scene::DeviceSpec;
 
 /// How many endpoints a direction has room for, endpoint 0 included (9.6.6).
 const ENDPOINTS: usize = 16;

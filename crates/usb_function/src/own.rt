@@ -25,7 +25,6 @@ use crate::bulk::{
 use crate::ends::{InEnds, OutEnds, given_on};
 use crate::ports::Ports;
 use crate::request::{at_reset, react};
-use usb_scene::DeviceSpec;
 use crate::transfer::{fill, has_packet, put_packet, toggle_at};
 use crate::write::ControlWrite;
 use arrayvec::ArrayVec;
@@ -40,6 +39,7 @@ use usb_device::{
 use usb_packet::{Packet, Toggle, TokenKind};
 use usb_request::Setup;
 use usb_request::endpoint_address::DIRECTION_IN;
+use usb_scene::DeviceSpec;
 
 /// A plugged device, without its ports: it takes one packet after the other, and answers some of
 /// them (8.5). It has endpoint 0, each endpoint of its configuration that a pipe can use, and a

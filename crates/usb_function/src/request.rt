@@ -10,7 +10,6 @@ ghost use Rattle.usb_device.specs.OwnRequests.{bytes_given, own_bytes};
 ghost use Rattle.usb_device.specs.Code.{meaning_of};
 
 use crate::bulk::{config_at, served};
-use usb_scene::DeviceSpec;
 use usb_descriptor::Settings;
 use usb_device::{Bytes, OwnAnswer, OwnRequest, Reaction, Registers, ServedEndpoint, Source};
 use usb_port::PortCall;
@@ -25,6 +24,7 @@ use usb_request::request_type::{
     PORT_OUT,
 };
 use usb_request::{Setup, descriptor_type};
+use usb_scene::DeviceSpec;
 
 /// The registers of a device that was just plugged or reset.
 pub fn at_reset() -> Registers
