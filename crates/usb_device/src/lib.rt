@@ -1,12 +1,15 @@
-//! A simulated device: how a plan describes it, and what it does with each packet.
+//! What a device on a bus is, and what it does with each packet: plain data, definitions, lemmas.
 //!
 //! # What is proved
 //!
-//! - `Device::receive` is exactly the *packet table* and the *request table* (`specs/Rows.antt`,
-//!   `specs/Request.antt`). Refused memory changes nothing.
-//! - `Ports::deliver` takes a packet through a tree of devices. If memory is refused, only the
-//!   devices before the one that was to take the data had the packet.
-//! - `Holders` is the index of who holds each address, and whether one is held twice (`IsIndexOf`).
+//! - A control transfer and the data of an endpoint go on packet by packet, whatever is lost: no byte
+//!   twice, none left out (`control_read`, `control_write`, `source_on` of `proofs/progress`).
+//! - The packets of an answer, end to end, are its bytes, as many as the host wants
+//!   (`packets_joined-whole`).
+//! - Of whom the index names as the one holder of an address, it is so (`one_is_held`).
+//!
+//! The *packet table* is `specs/Rows.antt`, the *request table* `specs/Request.antt`. `usb_function`
+//! does what they say.
 #![tactic(auto)]
 
 mod alone;

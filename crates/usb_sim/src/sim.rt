@@ -31,11 +31,11 @@ use std::collections::VecDeque;
 use std::io::Write;
 use usb_bus::Watched;
 use usb_device::{AnswerPid, EndpointNumber, HeardPid};
+use usb_exchange::ExchangeRoom;
 use usb_function::{Holders, Ports};
 use usb_port::PortPath;
-use usb_world::{BusFault, Losses};
-use usb_exchange::ExchangeRoom;
 use usb_scene::event_copies;
+use usb_world::{BusFault, Losses};
 
 /// A bus that a plan describes. Each attempt, plug and unplug is a line of the trace, which goes to a writer at once
 /// where the bus is `Tracer`.

@@ -5,9 +5,9 @@ ghost use Rattle.usb_bus.specs.Trace.{attempt_line, pre_text, mark_text, host_te
 
 use arrayvec::ArrayString;
 use usb_device::{AnswerPid, HeardPid};
+use usb_exchange::{ExchangeRoom, OutgoingRoom};
 use usb_function::Hearing;
 use usb_packet::{push_decimal, push_packet, push_payload};
-use usb_exchange::{ExchangeRoom, OutgoingRoom};
 use usb_world::{Mark, Outgoing};
 
 /// Room for the longest line of an attempt.

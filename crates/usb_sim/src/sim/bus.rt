@@ -17,10 +17,10 @@ use crate::Trace;
 use arrayvec::ArrayVec;
 use usb_bus::{Bus, OutcomeKind};
 use usb_device::{AnswerPid, HeardPid, keeps_enable};
+use usb_exchange::{ExchangeRoom, damage_of, make_exchange_by};
 use usb_function::{Holders, Ports};
 use usb_port::PortCall;
 use usb_world::{Attempt, BusFault, Outcome};
-use usb_exchange::{ExchangeRoom, damage_of, make_exchange_by};
 
 impl<T: Trace> Bus for SimBus<T> {
     ghost use Rattle.usb_sim.specs.Parts.{LeavesAttempt};

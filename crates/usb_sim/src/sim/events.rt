@@ -19,8 +19,8 @@ use std::alloc::{AllocError, Global};
 use std::rc::Rc;
 use usb_bus::WriteFailed;
 use usb_function::{Device, Holders, Ports};
-use usb_scene::DeviceSpec;
 use usb_port::PortPath;
+use usb_scene::DeviceSpec;
 use usb_world::BusFault;
 
 impl<T: Trace> SimBus<T> {
