@@ -2,14 +2,14 @@
 //!
 //! # What is proved
 //!
-//! - A control transfer and the data of an endpoint go on packet by packet, whatever is lost: no byte
-//!   twice, none left out (`control_read`, `control_write`, `source_on` of `proofs/progress`).
+//! - A control transfer, and the data of an endpoint, go on packet by packet, whatever is lost: no
+//!   byte twice, none left out (`control_read`, `control_write`, `source_on` in `proofs/progress`).
 //! - The packets of an answer, end to end, are its bytes, as many as the host wants
 //!   (`packets_joined-whole`).
-//! - Of whom the index names as the one holder of an address, it is so (`one_is_held`).
+//! - A device at the path of an address's one holder has that address (`one_is_held`).
 //!
-//! The *packet table* is `specs/Rows.antt`, the *request table* `specs/Request.antt`. `usb_function`
-//! does what they say.
+//! The *packet table* is `specs/Rows.antt`, the *request table* `specs/Request.antt`. What does as
+//! they say is `usb_function`.
 #![tactic(auto)]
 
 mod alone;

@@ -1,15 +1,14 @@
-//! The world of a bus, as plain data (`specs/Worlds.antt`): what is plugged, and what events and
-//! attempts do to it (`specs/Steps.antt`).
+//! How the simulated world takes an attempt with the damage to its packets, and the world's laws.
 //!
 //! # What is proved
 //!
-//! A law is a function of `src/laws.rt` that does nothing. Three of them:
-//!
+//! - `make_exchange_by` does to what is plugged just what `usb_world` says of an attempt
+//!   (*Exchanged*), and keeps the index of who holds each address.
 //! - What is plugged is what the events left (`plugged_is_what_the_events_left`).
 //! - A device becomes reachable only by PORT_RESET at its own port, which gives it address 0
 //!   (`reset_makes_reachable`).
-//! - If no address is held twice, at most one device answers an attempt
-//!   (`one_device_at_most_answers`).
+//!
+//! Each law is a function of `src/laws.rt` that does nothing.
 #![tactic(auto)]
 
 mod exchange;

@@ -1,12 +1,14 @@
-//! A simulated device: how a plan describes it, and what it does with each packet.
+//! Simulated devices: how one answers, packet by packet, and a tree of them.
 //!
 //! # What is proved
 //!
-//! - `Device::receive` is exactly the *packet table* and the *request table* (`specs/Rows.antt`,
-//!   `specs/Request.antt`). Refused memory changes nothing.
+//! - `Device::receive` is exactly the *packet table* and the *request table* of `usb_device`
+//!   (`specs/Rows.antt`, `specs/Request.antt`). Refused memory changes nothing.
 //! - `Ports::deliver` takes a packet through a tree of devices. If memory is refused, only the
 //!   devices before the one that was to take the data had the packet.
 //! - `Holders` is the index of who holds each address, and whether one is held twice (`IsIndexOf`).
+//!
+//! What one attempt does to a device is in `src/laws.rt`.
 #![tactic(auto)]
 
 mod alone;

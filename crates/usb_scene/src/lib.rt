@@ -1,13 +1,13 @@
-//! What a plan describes: its devices and hubs, as data, its events and its damages.
+//! What a plan describes, as data: its devices and hubs, its events and its damages.
 //!
 //! # What is proved
 //!
-//! - A `DeviceSpec` keeps the rules of a device, and `Devices` holds at most 127 of them, no two of one name
-//!   (`IsSpec`, `AreDevices` of `usb_device`, `specs/DeviceSpecs.antt`).
-//! - `HubSpec::usual` has the hub descriptor (11.23.2.1) of just its number of ports (`usual_hub`).
-//! - A `Plan` is one that a bus can follow (`IsPlan` of `usb_world`, `specs/Plans.antt`).
+//! - `DeviceSpec` keeps the rules of a device, and `Devices` has at most 127 of these, no two of one
+//!   name (*AreDevices*, `usb_device/specs/DeviceSpecs.antt`).
+//! - `HubSpec` and its hub descriptor (11.23.2.1) do not contradict each other about its ports.
+//! - `Plan` keeps the rules of a plan (*IsPlan*, `usb_world/specs/Plans.antt`).
 //!
-//! `usb_plan` reads one from a text, and `usb_sim` simulates it.
+//! `usb_plan` reads one from a text, and `usb_sim` makes a bus of it.
 #![tactic(auto)]
 
 mod damage;

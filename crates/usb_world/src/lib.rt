@@ -1,15 +1,14 @@
-//! The world of a bus, as plain data (`specs/Worlds.antt`): what is plugged, and what events and
-//! attempts do to it (`specs/Steps.antt`).
+//! The world of a bus as plain data (`specs/Worlds.antt`): what is plugged, and what attempts, root
+//! calls and events do to it (`specs/Steps.antt`).
 //!
 //! # What is proved
 //!
-//! A law is a function of `src/laws.rt` that does nothing. Three of them:
+//! - A device that is reachable and was not reset since is the same, and was reachable all along
+//!   (`same_device`).
+//! - A pending change stays until a call clears it (`pending_persists`).
+//! - If no address is held twice, at most one device answers an attempt (`one_answers`).
 //!
-//! - What is plugged is what the events left (`plugged_is_what_the_events_left`).
-//! - A device becomes reachable only by PORT_RESET at its own port, which gives it address 0
-//!   (`reset_makes_reachable`).
-//! - If no address is held twice, at most one device answers an attempt
-//!   (`one_device_at_most_answers`).
+//! `usb_exchange` makes attempts as these say, and lists the laws in one file.
 #![tactic(auto)]
 
 mod damage;
