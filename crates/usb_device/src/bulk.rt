@@ -1,5 +1,4 @@
-//! The endpoints of a device besides endpoint 0 (5.8, 11.12): which ones there are, their toggles
-//! and their halts.
+//! What an endpoint of a device besides endpoint 0 is for, its toggle and its halt (5.8, 11.12).
 ghost use Rattle.usb_device.specs.Bulk.{halted};
 
 use crate::ends::EndpointNumber;

@@ -1,5 +1,4 @@
-//! The endpoints of a device besides endpoint 0, from the plug on: one row of those that take data,
-//! and one of those that give them.
+//! An endpoint of a device besides endpoint 0: its number, and what is kept of it from the plug on.
 ghost use Rattle.std.specs.Prelude.{◌≡◌, ◌<◌};
 
 use crate::bulk::EndpointState;

@@ -1,4 +1,4 @@
-//! Which device holds which address, among those that packets reach.
+//! Who holds an address, among the devices that packets reach.
 ghost use Rattle.std.specs.Prelude.{◌≡◌, ◌<◌, None, Some, false};
 
 use arrayvec::ArrayVec;

@@ -1,4 +1,4 @@
-//! Names, bytes and texts of a device, with their bounds in their types.
+//! Bytes and texts of a device, with their bounds in their types.
 ghost use Rattle.std.specs.Prelude.{◌≡◌, IfOk};
 
 use crate::endpoint_spec::EndpointSpecs;

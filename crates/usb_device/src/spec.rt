@@ -1,4 +1,4 @@
-//! What a plan says of a device.
+//! Which requests a device refuses.
 ghost use Rattle.std.specs.Prelude.{◌≡◌};
 ghost use Rattle.usb_device.specs.DeviceSpecs.{no_stalls};
 

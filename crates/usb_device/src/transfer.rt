@@ -1,4 +1,4 @@
-//! How far a control transfer is, and the packets of an answer (8.5.3).
+//! How far a control transfer is, and what a device remembers of a packet (8.5.3).
 ghost use Rattle.std.specs.Prelude.{◌<◌};
 
 use crate::request::Source;

@@ -1,4 +1,4 @@
-//! A control write, packet by packet (8.5.3).
+//! What a data packet of a control write is to the device (8.5.3).
 ghost use Rattle.std.specs.Prelude.{◌≡◌};
 ghost use Rattle.usb_device.specs.Transfer.{is_next};
 

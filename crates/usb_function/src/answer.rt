@@ -1,4 +1,4 @@
-//! What a device answers.
+//! The bytes of an answer.
 ghost use Rattle.usb_device.specs.ReceivedBytes.{Answers};
 ghost use Rattle.usb_device.specs.AnswerPids.{answer_with};
 

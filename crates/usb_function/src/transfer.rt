@@ -1,4 +1,4 @@
-//! How far a control transfer is, and the packets of an answer (8.5.3).
+//! The packets of an answer (8.5.3).
 ghost use Rattle.std.specs.Prelude.{◌≡◌, ◌≤◌, ◌<◌, ℕ, List, length, is_some};
 ghost use Rattle.usb_device.specs.Transfer.{packet_count, packet_at, put_if, toggle_at};
 

@@ -1,4 +1,4 @@
-//! Damage to packets on their way.
+//! The damages of a plan.
 
 use std::alloc::{AllocError, Global};
 use std::marker::Model;

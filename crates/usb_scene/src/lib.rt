@@ -2,7 +2,7 @@
 //!
 //! # What is proved
 //!
-//! - `DeviceSpec` keeps the rules of a device, and `Devices` has at most 127 of these, no two of one
+//! - `DeviceSpec` keeps the rules of a device. `Devices` has at most 127 of these, no two of one
 //!   name (*AreDevices*, `usb_device/specs/DeviceSpecs.antt`).
 //! - `HubSpec` and its hub descriptor (11.23.2.1) do not contradict each other about its ports.
 //! - `Plan` keeps the rules of a plan (*IsPlan*, `usb_world/specs/Plans.antt`).

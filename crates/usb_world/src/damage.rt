@@ -1,4 +1,4 @@
-//! Damage to packets on their way.
+//! Damage to a packet on its way.
 
 /// What happens to a damaged packet.
 #[derive(Clone, Copy, Debug, PartialEq, Eq)]

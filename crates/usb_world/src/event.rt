@@ -1,4 +1,4 @@
-//! The events of a plan.
+//! An event of a plan: what is plugged or unplugged, or what is asked of the driver.
 ghost use Rattle.std.specs.Prelude.{◌≡◌, IfOk};
 ghost use Rattle.usb_world.specs.Steps.{waits, ask_of};
 

@@ -1,4 +1,4 @@
-//! One attempt: the host's packets go to the devices, and their answers come together.
+//! What an attempt was: the host's packets, and what came to them.
 ghost use Rattle.usb_world.specs.Exchanges.{answer_mark};
 
 use crate::wire::{Mark, Outgoing};

@@ -1,4 +1,4 @@
-//! Packets on their way, and what damage does to them.
+//! A packet of the host on its way, with what damage did to it.
 ghost use Rattle.std.specs.Prelude.{◌≡◌};
 ghost use Rattle.usb_world.specs.Wire.{is_read};
 
