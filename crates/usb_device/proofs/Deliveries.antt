@@ -1,27 +1,25 @@
 -- A packet at a row of ports that begins with a place.
 use Rattle.std.proofs.Common.{◌≡◌, Bool, true, false, if◌then◌else◌, List, [], ◌∷◌, ◌++◌, Option}
-use Rattle.std.proofs.Common.{None, Some, length, refl, ap, sym, ◌∙◌, arith}
+use Rattle.std.proofs.Common.{None, Some, refl, ap, sym, ◌∙◌}
 use Rattle.usb_port.specs.{PortState}
-use Rattle.usb_device.specs.{Answer, Sent, Heard, ports_kept, State, unread, concerns, Ports, taken}
-use Rattle.usb_device.specs.{Plugged, empty, full, before, row_of, Content, answer_of, after_packet}
+use Rattle.usb_device.specs.{Answer, Sent, Heard, State, unread, concerns, Ports, taken}
+use Rattle.usb_device.specs.{Plugged, empty, full, before, row_of, Content, answer_of}
+use Rattle.usb_device.specs.{after_packet}
 use Rattle.usb_device.specs.{listed, heard_from, heard_of, both, heard_joined, with_answer}
 use Rattle.usb_device.specs.{taken_content, delivered, delivered_device, delivered_place, Place}
 use Rattle.usb_device.specs.{answers}
 use Rattle.usb_device.specs.declared.delivery.Heard.TheVariants.{NoAnswer, One}
-use Rattle.usb_device.specs.declared.ports.Place.{Place as Kept}
 use Rattle.usb_device.proofs.packets.Rows.{row_of-after}
 use Rattle.usb_device.proofs.packets.Strays.{reply-unread, asks-stray}
 
 -- ---- a packet leaves the ports of a device as they are until the device itself asks something of
 -- them
-
 pub answer_of-after : (q : Sent) (deep : Bool) (s : State) (a : Ports) (below : Bool)
     → answer_of q deep s (after_packet q below a) ≡ answer_of q deep s a
 unfolding answer_of
 answer_of-after q deep s a below = rw (row_of-after q below a) refl
 
 -- ---- two parts of the tree
-
 pub both-none : (h : Heard) → both h NoAnswer ≡ h
 both-none NoAnswer = refl
 both-none h = refl
@@ -51,7 +49,6 @@ heard-listed None xs = refl
 heard-listed (Some x) xs = heard-more x xs
 
 -- ---- a packet at a device that it is not for
-
 pub with_answer-none : {A : Type 0} (h : Heard) (x : A) → with_answer h (None, x) ≡ (h, x)
 with_answer-none h x = ap (λ g. (g, x)) (both-none h)
 
@@ -60,7 +57,6 @@ pub taken-stray : (c : Content) (t : Plugged) → concerns c t.own ≡ false
 taken-stray c t h = rw (reply-unread c t.own (row_of t.ports) h, asks-stray c t.own h) refl
 
 -- ---- a place, and those behind it
-
 abbrev heard_ports : Heard → Ports → Heard × Ports
 heard_ports h k = (h, k)
 
@@ -104,7 +100,6 @@ delivered-before q deep (empty b) k = refl
 delivered-before q deep (full b s a) k = if_enabled-first q deep b s a k b.enable
 
 -- ---- what was heard before
-
 -- at a device: what is heard below it comes before its own answer
 pub heard_joined-device : (h b : Heard) (x : Option Answer) → both (both h b) (heard_from x)
     ≡ both h (both (heard_from x) b)
@@ -122,19 +117,5 @@ heard_joined-before q deep h p k =
     ap (heard_joined h) (delivered-before q deep p k)
     ∙ ap (λ x. (x, before (delivered_place q deep p).1 (delivered q deep k).1))
     (sym (both-joined h (delivered_place q deep p).0 (delivered q deep k).0))
-
-pub delivered-none : (q : Sent) (deep : Bool) (ps : List Kept) → length ps ≡ 0
-    → delivered q deep (ports_kept ps) ≡ (NoAnswer, ports_kept ps)
-unfolding after_packet answers
-delivered-none q deep [] h = refl
-delivered-none q deep (p ∷ ps) h = absurd (omega (arith, h))
-
-pub ruleset delivering = (
-  heard_joined-before,
-  heard_joined-device,
-  both-none,
-  delivered-none,
-  answer_of-after,
-)
 
 pub ruleset strays = (with_answer-none, taken-stray, asks-stray)

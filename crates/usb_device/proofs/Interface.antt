@@ -25,9 +25,7 @@ pub use Rattle.usb_device.proofs.places.FirstPlaces.{changed_at-same, changed_at
 pub use Rattle.usb_device.proofs.places.FirstPlaces.{changed_at-zero}
 pub use Rattle.usb_device.proofs.packets.Rows.{row_of-after, row_of-forgotten}
 pub use Rattle.usb_device.proofs.packets.Strays.{or-joined}
-pub use Rattle.usb_device.proofs.places.HolderIndexes.{way_addresses, held-reached, same_index}
+pub use Rattle.usb_device.proofs.places.HolderIndexes.{way_addresses, held-reached}
 pub use Rattle.usb_device.proofs.places.HolderPaths.{one_is_held, nat_eq-true_sym}
-pub use Rattle.usb_device.proofs.places.ReachedPlaces.{index_around, index_called, index_plugged}
 pub use Rattle.usb_device.proofs.places.ReachedPlaces.{reached-acted, reached-both}
 pub use Rattle.usb_device.proofs.packets.StoppedPackets.{stopped_on_err}
-pub use Rattle.usb_device.proofs.Names.{bytes_eq-sym}

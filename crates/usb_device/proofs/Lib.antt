@@ -1,8 +1,6 @@
 pub mod Interface
-pub mod Names
 pub mod Answers
 pub mod OwnOutcomes
-pub mod Hubs
 pub mod ToldChanges
 pub mod Endpoints
 pub mod RowsOfEnds

@@ -5,12 +5,10 @@ use Rattle.std.proofs.Common.{slice_index_or, refl, ap, ap₂, sym, ◌∙◌, a
 use Rattle.std.proofs.lemmas.Bool.{eqb-true, or_parts}
 use Rattle.std.proofs.lemmas.Bool.Decides.{nat_tests}
 use Rattle.usb_port.specs.{PortState}
-use Rattle.usb_device.specs.declared.ports.Place.{Place as Kept}
-use Rattle.usb_device.specs.{Ports, Plugged, before, standing, ports_kept, held_addresses, held_in}
+use Rattle.usb_device.specs.{Ports, Plugged, before, standing, held_addresses, held_in}
 use Rattle.usb_device.specs.{has, repeats, AreBytes}
 
 -- ---- marks along a list
-
 abbrev pub meets : List ℕ → List Bool → Bool
 meets [] marks = false
 meets (n ∷ ns) marks = slice_index_or marks n false || meets ns (slice_set marks n true)
@@ -20,7 +18,6 @@ length-set (x ∷ m) (suc i) b = ap suc (length-set m i b)
 length-set m i b = refl
 
 -- ---- the addresses of a row of ports that begins with a place
-
 address_if_enabled : (x : ℕ) (a k : List ℕ) (e : Bool) → (if e then x ∷ (a ++ k) else k)
     ≡ (if e then x ∷ a else []) ++ k
 address_if_enabled x a k true = refl
@@ -41,13 +38,7 @@ pub bytes-before : (b : PortState) (d : Option Plugged) (k : Ports) → AreBytes
     → AreBytes (held_addresses k) → AreBytes (held_addresses (before (standing b d) k))
 bytes-before b d k h g = rw (held-before b d k) (all_append (held_in b d) (held_addresses k) h g)
 
-pub bytes-none : (ps : List Kept) → length ps ≡ 0 → AreBytes (held_addresses (ports_kept ps))
-unfolding held_addresses
-bytes-none [] h = tt
-bytes-none (p ∷ ps) h = absurd (omega (arith, h))
-
 -- ---- what the marks tell
-
 pub or_assoc : (a b c : Bool) → ((a || b) || c) ≡ (a || (b || c))
 or_assoc a b c = search rules
 
@@ -120,7 +111,6 @@ met_none_of xs m len small none =
     meets-is xs [] m len small (λ n below. none n) ∙ ap (λ b. b || repeats xs) (share-none xs)
 
 -- ---- a list with another one in its middle
-
 pub has-append : (n : ℕ) (xs ys : List ℕ) → has n (xs ++ ys) ≡ (has n xs || has n ys)
 has-append n [] ys = refl
 has-append n (x ∷ xs) ys =

@@ -5,7 +5,6 @@ pub mod EndpointSpecs
 pub mod Bulk
 pub mod Ends
 pub mod OutRows
-pub mod ServedBulk
 pub mod Request
 pub mod Transfer
 pub mod Rows
@@ -28,7 +27,6 @@ pub mod Progress
 pub mod StoppedPackets
 pub mod Route
 pub mod Holders
-pub mod HolderIndex
 pub mod AloneAttempts
 -- the words of this crate, wherever one stands
 pub use DeviceSpecs.{AreDevices, Hub, IsHub, IsSpec, Spec, agrees, function, has_hub_class}
@@ -46,14 +44,14 @@ pub use Ends.{plugged_in_end, plugged_out, renewed, rested_in, rested_out, stead
 unfoldable pub use Ends.{numbered_from, with_at}
 pub use OutRows.{head_of, no_head, plugged_head, rested_head, taken_head, with_sink}
 unfoldable pub use OutRows.{joined}
-pub use ServedBulk.{AreServed}
 pub use OwnRequests.{bytes_given, fits, goes_so, is_or_any, is_to_host, own_bytes, own_place}
 pub use OwnRequests.{row_bytes}
 pub use Request.{answers_taken, asked_at, asked_by_answer, asked_by_row, asked_own, takes}
 pub use Request.{Is, Outcome, address_at_end, asked_address, asked_configuration, asked_descriptor}
 pub use Request.{asked_endpoint_status, asked_hub_descriptor, asked_interface}
 pub use Request.{asked_interface_status, asked_port_status, asked_setting, asked_status, called_at}
-pub use Request.{calls_port, endpoint_of, flag_bytes, halts, is_endpoint_0, items_at, items_in_text}
+pub use Request.{calls_port, endpoint_of, flag_bytes, halts, is_endpoint_0, items_at}
+pub use Request.{items_in_text}
 pub use Request.{takes_setting, tells_halt, told_halt}
 pub use Request.{is_value, on_endpoint, port_feature, port_named}
 pub use Request.{registers_at_setup, stalled, status_bytes, takes_address, takes_configuration}
@@ -63,7 +61,8 @@ pub use Transfer.{Write, ends_if, first_write, has_all, is_done, is_next, judged
 pub use Transfer.{writes, writing, written_on}
 pub use Transfer.{Stage, ending, idle, max_packet, packet_at, packet_count}
 pub use Transfer.{packets_joined, put_if, read, reading, reads, reads_port, refused, toggle_at}
-pub use Rows.{Reply, State, accepted, ack_row, acknowledged, after_memory, answered, awaits_control}
+pub use Rows.{Reply, State, accepted, ack_row, acknowledged, after_memory, answered}
+pub use Rows.{awaits_control}
 pub use Rows.{at_reset, first_stage, ins_set, outs_set, set_to, told_bytes}
 pub use Rows.{begun, begun_again, bulk_of, changes_row, configured, data_by, data_row, end_sinks}
 pub use Rows.{given_row, in_data, in_hesitates, next_packet, next_place, out_halts, out_hesitates}
@@ -78,7 +77,8 @@ pub use Rows.{write_status_row, wrote}
 unfoldable pub use Rows.{awaits_address, fresh, received, reset_state, unread}
 pub use Effects.{asked_by_data, asked_by_packet, asked_by_setup, effect_of_request}
 unfoldable pub use Effects.{asks}
-pub use Tree.{Location, Place, Plugged, Ports, acted, before, called, changed, changed_in, child_of}
+pub use Tree.{Location, Place, Plugged, Ports, acted, before, called, changed, changed_in}
+pub use Tree.{child_of}
 pub use Tree.{device_of, device_there, empty, ended, first_ports, full, new_device, numbered}
 pub use Tree.{path_to, place, place_on, plugged_in, port_of, put, reach, reach_on, replaced}
 pub use Tree.{reset_where, reset_whole, state_on, taken, vacant, with_child, without_child}
@@ -86,10 +86,11 @@ unfoldable pub use Tree.{all_off, changed_at, new_ports, place_at, plugged_at, p
 unfoldable pub use Tree.{row_of, state_at}
 pub use TreeCodes.{plugged_code, plugged_weight, ports_code, read_back-spelled, weight}
 pub use LentPackets.{broken, content_of, whole}
-pub use Places.{falls, ports_kept, standing, stood}
+pub use Places.{standing}
 pub use Delivery.{Carries, asked_by, asks_clearing, both, clears_in, clears_whole, delivered}
 pub use Delivery.{delivered_device, delivered_place, figure_in, figure_of, forgotten_whole, has}
-pub use Delivery.{has_loss_in, heard_from, heard_joined, heard_of, hears, held_in, is_heard, listed}
+pub use Delivery.{has_loss_in, heard_from, heard_joined, heard_of, hears, held_in, is_heard}
+pub use Delivery.{listed}
 pub use Delivery.{on_port, reply_to, taken_content, taken_sent, with_answer}
 unfoldable pub use Delivery.{after_packet, all_forgotten, answer_of, answers, clears_change}
 unfoldable pub use Delivery.{effect_of, figure, has_loss, held_addresses, repeats}
@@ -105,7 +106,7 @@ pub use Attempt.{new_changes_law, out_exchange, out_law, sends, setup_exchange, 
 pub use Attempt.{source_law, through, write_status_law}
 pub use PacketFrames.{Keeps, is_ack, is_data}
 pub use View.{forgotten_place, port_there, state_there}
-pub use Loans.{LendsInner, LendsPlace, holding, with_device, with_device_on}
+pub use Loans.{holding, with_device, with_device_on}
 pub use StrayPackets.{awaits_ack, awaits_data, concerns, is_for, is_token}
 unfoldable pub use StrayPackets.{concerns_some}
 pub use Progress.{IsPacketOf, OnlyWrite, WriteAt, WriteEnded, WriteOn, WriteStatusOn, WritingAt}
@@ -123,7 +124,6 @@ pub use Holders.{holder_among, holder_of, is_known, joined_holder, keeps_enable,
 pub use Holders.{meets_again, noted, path_below, path_further, paths_at, reach_in, reached_at_path}
 pub use Holders.{reached_below, reached_from, reached_in, reached_there, reached_whole, released}
 unfoldable pub use Holders.{reached}
-pub use HolderIndex.{IsIndexOf, IsIndexWithout, holder_in}
 pub use AloneAttempts.{RefusedAt, RefusedFrom, ack_sent, acknowledges, after_ack, after_data}
 pub use AloneAttempts.{after_packet_at, after_token, answer_from, asked_from, cut_in, forgot}
 pub use AloneAttempts.{heard_at, heard_pid, left_in, no_side, side_at, takes_data, token_sent}

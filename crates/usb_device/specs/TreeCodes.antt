@@ -4,7 +4,6 @@ use Rattle.std.proofs.Common.{ap, ◌∙◌}
 use Rattle.std.specs.Coded.{Coded, code_by, coded×, coded_list, coded_option}
 use Rattle.usb_port.specs.{PortState}
 use Rattle.usb_port.specs.contracts.port.Port.{the_row as port_row}
-use Rattle.usb_device.specs.contracts.own.FunctionState.{the_row as own_row}
 use Rattle.usb_device.specs.Rows.{State}
 use Rattle.usb_device.specs.Tree.{Ports, ended, vacant, taken, Plugged}
 
@@ -12,8 +11,9 @@ use Rattle.usb_device.specs.Tree.{Ports, ended, vacant, taken, Plugged}
 abbrev Mark : Type 0
 Mark = Option (PortState × Option State)
 
-abbrev mark_code : Coded Mark
-mark_code = coded_option (coded× port_row.coded (coded_option own_row.coded))
+-- given the code of a device's state
+abbrev mark_code : Coded State → Coded Mark
+mark_code c = coded_option (coded× port_row.coded (coded_option c))
 
 -- a row of marks that spells the ports, before the marks `after`
 abbrev spelled : Ports → List Mark → List Mark
@@ -54,12 +54,12 @@ read_back-spelled (taken b s a k) after =
     ap (taken_top b s) (read_back-spelled a (spelled k after)
     ∙ ap (λ ks. a ∷ ks) (read_back-spelled k after))
 
-abbrev pub ports_code : Coded Ports
-ports_code = code_by (List Mark) (coded_list mark_code) (λ k. spelled k [])
+abbrev pub ports_code : Coded State → Coded Ports
+ports_code c = code_by (List Mark) (coded_list (mark_code c)) (λ k. spelled k [])
     (λ ms. top (read_back ms)) (λ k. ap top (read_back-spelled k []))
 
-abbrev pub plugged_code : Coded Plugged
-plugged_code = code_by (State × Ports) (coded× own_row.coded ports_code) (λ t. (t.own, t.ports))
+abbrev pub plugged_code : Coded State → Coded Plugged
+plugged_code c = code_by (State × Ports) (coded× c (ports_code c)) (λ t. (t.own, t.ports))
     (λ p. record { own = p.0; ports = p.1 }) (λ _. refl)
 
 -- a device counts one more than its row of ports

@@ -1,10 +1,10 @@
 //! What a device answers.
 ghost use Rattle.std.specs.Prelude.{◌≡◌};
-ghost use Rattle.usb_device.specs.ReceivedBytes.{Answers, packet_of};
-ghost use Rattle.usb_device.specs.AnswerPids.{answer_from_pid, answer_with};
+ghost use Rattle.usb_device.specs.ReceivedBytes.{packet_of};
+ghost use Rattle.usb_device.specs.AnswerPids.{answer_from_pid};
 
 use arrayvec::ArrayVec;
-use usb_packet::{Packet, Toggle, encode};
+use usb_packet::{Packet, Toggle};
 
 /// The packets that a device sends.
 #[derive(Debug, Drop)]
@@ -75,11 +75,4 @@ impl AnswerPid {
             AnswerPid::Data(toggle) => Packet::Payload { toggle, bytes },
         }
     }
-}
-
-/// The bytes of an answer.
-pub fn spelled(pid: Option<AnswerPid>, bytes: ArrayVec<u8, 64>) -> Option<ArrayVec<u8, 67>>
-    ensures { Answers result (answer_with pid bytes) }
-{
-    Some(encode(&pid?.into_packet(bytes)))
 }

@@ -1,59 +1,45 @@
-//! A simulated device: how a plan describes it, and what it does with each packet.
+//! What a device on a bus is, and what it does with each packet: plain data, definitions, lemmas.
 //!
 //! # What is proved
 //!
-//! - `Device::receive` is exactly the *packet table* and the *request table* (`specs/Rows.antt`,
-//!   `specs/Request.antt`). Refused memory changes nothing.
-//! - `Ports::deliver` takes a packet through a tree of devices. If memory is refused, only the
-//!   devices before the one that was to take the data had the packet.
-//! - `Holders` is the index of who holds each address, and whether one is held twice (`IsIndexOf`).
+//! - A control transfer, and the data of an endpoint, go on packet by packet, whatever is lost: no
+//!   byte twice, none left out (`control_read`, `control_write`, `source_on` in `proofs/progress`).
+//! - The packets of an answer, end to end, are its bytes, as many as the host wants
+//!   (`packets_joined-whole`).
+//! - A device at the path of an address's one holder has that address (`one_is_held`).
+//!
+//! The *packet table* is `specs/Rows.antt`, the *request table* `specs/Request.antt`. What does as
+//! they say is `usb_function`.
 #![tactic(auto)]
 
 mod alone;
 mod answer;
-mod between;
 mod bulk;
-mod children;
-mod clearing;
 mod delivery;
-mod device;
-mod devices;
 mod effect;
 mod endpoint_spec;
 mod ends;
 mod hearing;
 mod holders;
-mod hub_spec;
-mod laws;
-mod lent_packet;
 mod lists;
-mod own;
 mod own_request;
-mod ports;
 mod request;
-mod route;
 mod spec;
 mod transfer;
 mod write;
 
 pub use alone::{DeviceSide, HostSide};
 pub use answer::{Answer, AnswerPid};
-pub use children::Parent;
+pub use bulk::{EndpointState, ServedEndpoint};
 pub use delivery::{Content, Heard, Sent};
-pub use device::Device;
-pub use devices::Devices;
 pub use effect::{Effect, keeps_enable};
 pub use endpoint_spec::{EndpointData, EndpointSpec, EndpointSpecs};
-pub use ends::{EndpointNumber, InEnd, Pace};
-pub use hearing::{HeardPid, Hearing};
-pub use holders::{Holder, Holders};
-pub use hub_spec::{HubSpec, has_hub_class};
-pub use laws::{
-    answer_laws, attempt_laws, control_read_goes_on, control_write_goes_on, sink_goes_on,
-    source_goes_on, source_is_cut, stray_laws,
-};
-pub use lent_packet::LentPacket;
-pub use lists::{Bytes, ConfigTexts, Name, Packets, StringTexts, Texts};
+pub use ends::{EndpointNumber, InEnd, OutHead, Pace};
+pub use hearing::HeardPid;
+pub use holders::{Holder, path_copy};
+pub use lists::{Bytes, ConfigTexts, Packets, StringTexts, Texts};
 pub use own_request::{OwnAnswer, OwnRequest, OwnRequests};
-pub use ports::Ports;
-pub use spec::{DeviceSpec, Stalls};
+pub use request::{Reaction, Registers, Source};
+pub use spec::Stalls;
+pub use transfer::{InEndpoint, Progress, RememberedPacket};
+pub use write::WriteData;

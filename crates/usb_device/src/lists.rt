@@ -1,4 +1,4 @@
-//! Names, bytes and texts of a device, with their bounds in their types.
+//! Bytes and texts of a device, with their bounds in their types.
 ghost use Rattle.std.specs.Prelude.{◌≡◌, IfOk};
 
 use crate::endpoint_spec::EndpointSpecs;
@@ -51,55 +51,6 @@ impl<const MAX: usize> Bytes<MAX> {
     {
         Ok(Bytes {
             bytes: self.bytes.as_slice().to_vec(alloc)?,
-        })
-    }
-}
-
-/// A text that is not empty.
-#[derive(Debug, Drop)]
-pub struct Name {
-    text: String,
-}
-
-impl Model for Name {
-    ghost use Rattle.std.specs.Prelude.{List, ℕ, ◌<◌, length, string_bytes};
-
-    ghost Value = { List ℕ };
-
-    ghost view = { λ n. string_bytes n.text };
-
-    ghost invariant = { λ n. 0 < length (string_bytes n.text) };
-}
-
-impl Name {
-    ghost use Rattle.std.specs.Prelude.{◌<◌, length, string_bytes};
-
-    /// The text itself.
-    pub fn new(text: String) -> Self
-        requires { 0 < length (string_bytes text) }
-        ensures { result ≡ string_bytes text }
-    {
-        Name { text }
-    }
-
-    /// The text.
-    pub fn as_str(&self) -> &str
-        ensures value { result.now ≡ self.now }
-        ensures not_empty { 0 < length self.now }
-    {
-        self.text.as_str()
-    }
-
-    /// The same text in memory of its own.
-    ///
-    /// # Errors
-    ///
-    /// Memory was refused.
-    pub fn try_clone(&self, alloc: Global) -> Result<Self, AllocError>
-        ensures { IfOk result (λ n. n ≡ self.now) }
-    {
-        Ok(Name {
-            text: String::from_str(alloc, self.text.as_str())?,
         })
     }
 }
@@ -170,7 +121,7 @@ impl<const COUNT: usize, const MAX: usize> Texts<COUNT, MAX> {
     }
 
     /// No texts, by the allocator of other ones.
-    pub(crate) fn none_beside<const OTHERS: usize, const LONGEST: usize>(
+    pub fn none_beside<const OTHERS: usize, const LONGEST: usize>(
         other: &Texts<OTHERS, LONGEST>,
     ) -> Self
         ensures { result ≡ [] }
@@ -179,21 +130,21 @@ impl<const COUNT: usize, const MAX: usize> Texts<COUNT, MAX> {
     }
 
     /// No bytes, by the allocator of the texts.
-    pub(crate) fn no_bytes_beside<const LONGEST: usize>(&self) -> Bytes<LONGEST>
+    pub fn no_bytes_beside<const LONGEST: usize>(&self) -> Bytes<LONGEST>
         ensures { result ≡ [] }
     {
         Bytes::new(Vec::new(*self.texts.allocator()))
     }
 
     /// No requests of a device's own, by the allocator of the texts.
-    pub(crate) fn no_requests_beside(&self) -> OwnRequests
+    pub fn no_requests_beside(&self) -> OwnRequests
         ensures { result ≡ [] }
     {
         OwnRequests::new(*self.texts.allocator())
     }
 
     /// No endpoints that a plan describes, by the allocator of the texts.
-    pub(crate) fn no_endpoints_beside(&self) -> EndpointSpecs
+    pub fn no_endpoints_beside(&self) -> EndpointSpecs
         ensures { result ≡ [] }
     {
         EndpointSpecs::new(*self.texts.allocator())

@@ -25,7 +25,7 @@ pub enum OwnAnswer {
 
 impl OwnAnswer {
     /// The bytes that it gives, if they are fixed.
-    pub(crate) fn bytes_given(&self) -> &[u8]
+    pub fn bytes_given(&self) -> &[u8]
         ensures { result.now ≡ bytes_given self.now }
     {
         match self {
@@ -194,7 +194,7 @@ impl OwnRequests {
     }
 
     /// The place of the first row that a request fits.
-    pub(crate) fn place_of(&self, setup: &Setup) -> Option<usize>
+    pub fn place_of(&self, setup: &Setup) -> Option<usize>
         ensures { result ≡ own_place self.now setup.now }
     {
         self.rows.iter().position(|row| row.fits(setup))

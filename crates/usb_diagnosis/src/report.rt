@@ -8,9 +8,9 @@ ghost use Rattle.usb_diagnosis.specs.Report.{count_line, fault_name, fault_text,
 use crate::place::{Spot, push_spot};
 use crate::shown::{push_number, push_shown};
 use std::alloc::{AllocError, Global};
-use usb_device::DeviceSpec;
 use usb_plan::{Place, Plan, PlanFault, bound};
 use usb_remarks::{Remark, push_remark, remark_of};
+use usb_scene::DeviceSpec;
 
 /// Adds a word, a number and the end of the line.
 fn push_count(alloc: Global, out: &mut String, word: &str, number: u64) -> Result<(), AllocError>

@@ -5,10 +5,10 @@ ghost use Rattle.usb_serve.specs.{tree_after};
 ghost use Rattle.usb_drawing.specs.Rules.{index_after, is_bad_configuration, is_cause_of, rule_if, rule_of, rule_text};
 
 use std::alloc::{AllocError, Global};
-use usb_device::DeviceSpec;
 use usb_enum::{Cause, Finding, Request};
 use usb_port::PortPath;
 use usb_remarks::{Remark, push_remark, remark_of};
+use usb_scene::DeviceSpec;
 use usb_sim::Plan;
 use usb_world::{Action, Change, Event};
 

@@ -19,13 +19,13 @@ use arrayvec::ArrayVec;
 use std::alloc::{AllocError, Global};
 use std::io::Write;
 use usb_bus::{Attempt, Bus, Watched};
+use usb_exchange::damage_of;
 use usb_port::PortCall;
 use usb_request::feature::{
     C_PORT_CONNECTION, C_PORT_ENABLE, C_PORT_RESET, PORT_ENABLE, PORT_POWER, PORT_RESET,
 };
 use usb_sim::{FollowFault, Plan, SimBus, Trace, Tracer, Untraced};
 use usb_wire::{Answer, Endpoint, Question};
-use usb_world::damage_of;
 
 /// The statuses of root ports, port 1 first.
 pub type Statuses = ArrayVec<[u8; 4], 7>;

@@ -60,7 +60,7 @@ impl<B: Bus> Model for Host<B> {
     ghost use Rattle.usb_host.specs.Agreement.{Agrees};
     ghost use Rattle.usb_host.specs.HostStates.{HostState, counts_of};
 
-    ghost coded = { Prim.hlevel (codes, ports_code, set.code {R = nat_cmp} coded_ℕ) };
+    ghost coded = { Prim.hlevel (codes, ports_code (Prim.hlevel codes), set.code {R = nat_cmp} coded_ℕ) };
 
     ghost Value = { HostState };
 

@@ -14,7 +14,7 @@ use Rattle.toml.specs.View.{members_view, view}
 use Rattle.toml.specs.declared.value.Value.{Value}
 use Rattle.usb_places.specs.{without}
 use Rattle.usb_device.specs.{Spec, is_named, names_differ}
-use Rattle.usb_device.proofs.Interface.{bytes_eq-sym}
+use Rattle.usb_scene.proofs.Interface.{bytes_eq-sym}
 
 any_apart : (p : Spec → Bool) (xs : List Spec) (i : ℕ) (d : Spec) → list_any p xs ≡ false
     → i < length xs → p (get_or xs i d) ≡ false

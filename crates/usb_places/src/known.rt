@@ -7,8 +7,8 @@ ghost use Rattle.usb_places.specs.Known.{after_of, damage_found, damages_known, 
 
 use crate::sought::{AllSought, Sought, Whose};
 use std::alloc::{AllocError, Global};
-use usb_device::{DeviceSpec, Devices};
-use usb_world::{Damage, Damages, Event, Events, Plan, event_copies};
+use usb_scene::{Damages, DeviceSpec, Devices, Events, Plan, event_copies};
+use usb_world::{Damage, Event};
 
 /// The most damages of a plan.
 const MOST_DAMAGES: usize = 10_000;

@@ -15,7 +15,7 @@ use Rattle.toml.specs.Data.{Data, Members, no_members, member, get_member}
 use Rattle.toml.specs.View.{view, members_view}
 use Rattle.toml.proofs.Views.{Entry}
 use Rattle.usb_plan.specs.{only_named, EventValues, event_values, with_value, all_event_keys}
-use Rattle.usb_device.proofs.Interface.{bytes_eq-sym}
+use Rattle.usb_scene.proofs.Interface.{bytes_eq-sym}
 
 abbrev pub no_values : EventValues
 no_values = record {

@@ -15,7 +15,7 @@ use Rattle.usb_plan.specs.{event_in, no_when}
 use Rattle.usb_plan.specs.declared.verb.Verb.{Verb}
 use Rattle.usb_plan.specs.declared.action.OtherKeys.TheVariants.{Path}
 use Rattle.usb_plan.proofs.EventWalks.{same_text, at_first, at_later}
-use Rattle.usb_device.proofs.Interface.{bytes_eq-sym}
+use Rattle.usb_scene.proofs.Interface.{bytes_eq-sym}
 
 any_without : (front back : List (List ℕ)) (k l : List ℕ) → bytes_eq l k ≡ false
     → list_any (bytes_eq l) (front ++ back) ≡ list_any (bytes_eq l) (front ++ k ∷ back)

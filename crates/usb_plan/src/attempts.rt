@@ -6,8 +6,8 @@ ghost use Rattle.usb_device.specs.SaidLengths.{said_length, said_lengths};
 ghost use Rattle.usb_plan.specs.Attempts.{plugged_total, greatest_total, moved, is_look, looks_in, bound_of};
 
 use usb_descriptor::config_head;
-use usb_device::DeviceSpec;
-use usb_world::{Action, Ask, Change, Event, Plan};
+use usb_scene::{DeviceSpec, Plan};
+use usb_world::{Action, Ask, Change, Event};
 
 /// The first 9 bytes, or all that there are.
 fn head(text: &[u8]) -> &[u8]

@@ -13,7 +13,8 @@ use crate::keys::{LAST_ATTEMPT, LAST_BIT, LAST_PACKET, MOST_DAMAGES, keys_at, no
 use crate::value::{number_at, read_text, value_at};
 use std::alloc::Global;
 use toml::{Table, Value};
-use usb_world::{Damage, Damages, Harm};
+use usb_scene::Damages;
+use usb_world::{Damage, Harm};
 
 /// The key `attempt`: after the last one.
 #[tactic(auto, unfolding(crate::specs::Damage::attempt_at))]

@@ -22,9 +22,8 @@ use crate::texts::texts_in;
 use crate::value::{hex_in, read_text, value_at};
 use std::alloc::Global;
 use toml::{Table, Value};
-use usb_device::{
-    Bytes, ConfigTexts, DeviceSpec, Devices, EndpointSpecs, HubSpec, Name, OwnRequests, StringTexts,
-};
+use usb_device::{Bytes, ConfigTexts, EndpointSpecs, OwnRequests, StringTexts};
+use usb_scene::{DeviceSpec, Devices, HubSpec, Name};
 
 /// A name that is not empty and that no earlier device has.
 #[tactic(auto, unfolding(crate::specs::Device::name_in))]

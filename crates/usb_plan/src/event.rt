@@ -22,8 +22,8 @@ use crate::value::{number_or, value_at};
 use crate::verb::{Verb, action_of, other_keys, verb_at};
 use std::alloc::Global;
 use toml::{Table, Value};
-use usb_device::DeviceSpec;
-use usb_world::{Action, Event, Events};
+use usb_scene::{DeviceSpec, Events};
+use usb_world::{Action, Event};
 
 /// The key `after`: attempts since the last event.
 #[tactic(auto, unfolding(crate::specs::Event::after_at))]

@@ -14,8 +14,9 @@ use crate::value::{hex_in, number_in};
 use std::alloc::Global;
 use toml::Value;
 use usb_descriptor::read_hub;
-use usb_device::{Bytes, HubSpec, has_hub_class};
+use usb_device::Bytes;
 use usb_request::descriptor_length::HUB_LENGTH;
+use usb_scene::{HubSpec, has_hub_class};
 
 /// The most ports that a hub may have: 7, and 15 with wide hubs (11.23.2.1).
 pub fn most_ports(wide: bool) -> u8

@@ -43,4 +43,4 @@ pub use keys::{
     MOST_PACKETS, MOST_PORTS, MOST_REQUESTS, MOST_ROOTS, MOST_WIDE_PORTS, only_named,
 };
 pub use plan::{entries_of, plan_of_entries, plan_of_table, read_plan};
-pub use usb_world::Plan;
+pub use usb_scene::Plan;

@@ -18,7 +18,7 @@ use crate::quirks::flag_at;
 use crate::value::{are_tables, number_at, read_items, value_at};
 use std::alloc::Global;
 use toml::{Table, Value};
-use usb_world::Plan;
+use usb_scene::Plan;
 
 /// The key `limit`.
 #[tactic(auto, unfolding(crate::specs::Plan::limit_at))]

@@ -13,8 +13,8 @@ use crate::value::{number_or, value_at};
 use std::alloc::{AllocError, Global};
 use std::marker::Model;
 use toml::Value;
-use usb_device::DeviceSpec;
 use usb_port::PortPath;
+use usb_scene::DeviceSpec;
 use usb_world::Action;
 
 /// The root ports, whether hubs may be wide, the devices of the plan, how many ports its table says of each, and which

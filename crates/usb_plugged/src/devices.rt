@@ -8,7 +8,7 @@ ghost use Rattle.usb_plugged.specs.Once.{ListsOnce};
 
 use crate::seen::device_on;
 use std::alloc::{AllocError, Global};
-use usb_device::Ports;
+use usb_function::Ports;
 use usb_judge::PluggedDevice;
 use usb_port::PortPath;
 use usb_sim::{SimBus, Trace};

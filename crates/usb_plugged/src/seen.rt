@@ -8,10 +8,12 @@ ghost use Rattle.usb_judge.specs.Scenes.{device_seen};
 ghost use Rattle.usb_judge.specs.Worlds.{configuration_in, given_below, scene_on, state_seen};
 
 use crate::way::is_reached;
-use usb_device::{Bytes, Device, DeviceSpec, Ports};
+use usb_device::Bytes;
+use usb_function::{Device, Ports};
 use usb_judge::PluggedDevice;
 use usb_port::PortPath;
 use usb_resources::supply;
+use usb_scene::DeviceSpec;
 
 /// The device at a path; None if none is plugged there.
 pub(crate) fn device_on<'a>(roots: &'a Ports, path: &PortPath) -> Option<PluggedDevice<'a>>

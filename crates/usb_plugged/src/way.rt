@@ -3,7 +3,7 @@ ghost use Rattle.std.specs.Prelude.{◌≡◌, ◌∷◌, []};
 ghost use Rattle.usb_device.specs.Tree.{numbered, reach, row_of};
 ghost use Rattle.usb_plugged.specs.Ways.{is_enabled, reach_from};
 
-use usb_device::{Device, Ports};
+use usb_function::{Device, Ports};
 
 /// Whether a device is at a path, and each port on its way is enabled.
 #[tactic(auto, using(crate::proofs::Ways::reach_step))]

@@ -10,9 +10,10 @@ ghost use Rattle.usb_remarks.specs.Remarks.{config_remark, configs_remark, has_s
 
 use crate::text::{TextRemark, text_read, text_remark, value_of};
 use usb_descriptor::{DescriptorFault, read_config, read_device, read_hub};
-use usb_device::{Bytes, DeviceSpec, HubSpec};
+use usb_device::Bytes;
 use usb_request::class_code::HUB_CLASS;
 use usb_request::descriptor_length::{DEVICE_LENGTH, HUB_LENGTH};
+use usb_scene::{DeviceSpec, HubSpec};
 
 /// Why a host refuses a device for its bytes alone.
 #[derive(Clone, Copy, Debug, PartialEq, Eq)]

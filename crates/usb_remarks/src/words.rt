@@ -8,9 +8,10 @@ use crate::remark::Remark;
 use crate::text::{TextRemark, byte_at, first_endpoint, text_read};
 use std::alloc::{AllocError, Global};
 use usb_descriptor::DescriptorFault;
-use usb_device::{Bytes, DeviceSpec};
+use usb_device::Bytes;
 use usb_request::descriptor_type::{ENDPOINT, INTERFACE};
 use usb_request::endpoint_address::STATUS_ENDPOINT;
+use usb_scene::DeviceSpec;
 
 const DEVICE_SHORT: &str = " bytes, a device descriptor has 18";
 

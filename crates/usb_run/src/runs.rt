@@ -1,6 +1,7 @@
 //! Runs of a plan.
 ghost use Rattle.std.specs.Prelude.{◌≡◌, ◌≢◌, ◌+◌, ◌≤◌, ◌<◌, [], ◌∷◌, ◌++◌, map, false, true, None, Ok, Err, OnOk, OnErr, IfOk, IfErr, IsSome};
 ghost use Rattle.std.proofs.Props.{props};
+ghost use Rattle.std.specs.Coded.{codes};
 ghost use Rattle.usb_device.specs.TreeCodes.{ports_code};
 ghost use Rattle.usb_world.specs.Wire.{AtMostTwoRunning};
 ghost use Rattle.usb_world.specs.Worlds.{root_row, to_come, changes};
@@ -177,7 +178,7 @@ pub struct Runner<T: Trace> {
     /// Nothing more is made.
     over: bool,
     ghost running: { over ≡ false → host.stopped ≡ false },
-    ghost owning: { HostMapHolds host } by { Prim.hlevel (props, ports_code) },
+    ghost owning: { HostMapHolds host } by { Prim.hlevel (props, ports_code (Prim.hlevel codes)) },
     ghost few_events: { host.world.taken + to_come host.world ≤ 10000 },
 }
 

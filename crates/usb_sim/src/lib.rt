@@ -24,7 +24,6 @@ pub use sim::{FollowFault, SimBus};
 pub use trace::{Line, push_attempt};
 pub use tracer::{Trace, Tracer, Untraced};
 pub use usb_device::EndpointNumber;
-pub use usb_world::{
-    Action, Ask, Change, Damage, Damages, Event, Events, ExchangeRoom, Harm, Plan, SentBytes,
-    WriteRequest,
-};
+pub use usb_exchange::ExchangeRoom;
+pub use usb_scene::{Damages, Events, Plan};
+pub use usb_world::{Action, Ask, Change, Damage, Event, Harm, SentBytes, WriteRequest};

@@ -6,8 +6,8 @@ ghost use Rattle.usb_bus.specs.Shown.{ends_line, is_escaped, escaped, shown_char
 
 use std::alloc::{AllocError, Global};
 use std::marker::Model;
-use usb_device::DeviceSpec;
 use usb_packet::hex_digits;
+use usb_scene::DeviceSpec;
 
 /// A device's name as it is in a line of the trace.
 #[derive(Debug, Drop)]

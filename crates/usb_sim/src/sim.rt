@@ -6,7 +6,7 @@ ghost use Rattle.usb_world.specs.PlanLimits.{attempt_most, damage_most, event_mo
 ghost use Rattle.usb_device.specs.DeviceSpecs.{IsSpec};
 ghost use Rattle.usb_device.specs.Rows.{out_end};
 ghost use Rattle.usb_device.specs.Tree.{new_ports, row_of};
-ghost use Rattle.usb_device.specs.HolderIndex.{IsIndexOf};
+ghost use Rattle.usb_function.specs.HolderIndex.{IsIndexOf};
 ghost use Rattle.usb_world.specs.Losses.{AreOfDamages};
 ghost use Rattle.usb_tree.specs.AttemptPackets.{IsSettled};
 ghost use Rattle.usb_world.specs.SanePorts.{Consistent};
@@ -30,9 +30,12 @@ use std::alloc::{AllocError, Global};
 use std::collections::VecDeque;
 use std::io::Write;
 use usb_bus::Watched;
-use usb_device::{AnswerPid, EndpointNumber, HeardPid, Holders, Ports};
+use usb_device::{AnswerPid, EndpointNumber, HeardPid};
+use usb_exchange::ExchangeRoom;
+use usb_function::{Holders, Ports};
 use usb_port::PortPath;
-use usb_world::{BusFault, ExchangeRoom, Losses, event_copies};
+use usb_scene::event_copies;
+use usb_world::{BusFault, Losses};
 
 /// A bus that a plan describes. Each attempt, plug and unplug is a line of the trace, which goes to a writer at once
 /// where the bus is `Tracer`.

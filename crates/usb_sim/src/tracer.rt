@@ -6,7 +6,7 @@ ghost use Rattle.usb_bus.specs.Watch.{has_failed, known_text, PutsText};
 use crate::trace::{Line, push_attempt};
 use std::io::Write;
 use usb_bus::{Watched, WriteFailed, put_piece, put_pieces};
-use usb_world::ExchangeRoom;
+use usb_exchange::ExchangeRoom;
 
 /// What a simulated bus hands the lines of its trace to.
 pub trait Trace {

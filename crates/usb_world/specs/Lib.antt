@@ -39,7 +39,8 @@ pub use PlanLimits.{after_most, attempt_most, damage_most, event_most}
 pub use Wire.{AtMostTwoRunning}
 unfoldable pub use Wire.{bit_count, damage_of, damages_until, harm_to, has_its_bit, is_read}
 unfoldable pub use Wire.{mark_of, marked, marked_some}
-pub use Exchanges.{ack_if, answered_in, blank, cleared_in, clears_at, ended_in, goes_out, heard_all}
+pub use Exchanges.{ack_if, answered_in, blank, cleared_in, clears_at, ended_in, goes_out}
+pub use Exchanges.{heard_all}
 pub use Exchanges.{heard_in, is_lost, mark_in, outcome_heard, payload_in, payload_out}
 pub use Exchanges.{place_of_answer, readable, reply_in, reply_out, sent_as, token_out}
 unfoldable pub use Exchanges.{answer_mark, answer_place, exchange_in, lost_in, outcome_of}
@@ -60,13 +61,14 @@ unfoldable pub use SanePorts.{Consistent, ConsistentPlace}
 pub use SaneProofs.{Consistent-prop, IsSpec-prop, all_prop}
 pub use CutPackets.{IsStopped}
 pub use ExchangeEffects.{Exchanged, MadeAlong, PacketWent, PacketsWent, SentAlong, StaysPlugged}
-pub use Route.{holder_path, way_in}
+pub use Route.{holder_path}
 pub use Courses.{HoldsMapped, Injective, KeepsPendingAt, NoReset, NoneNames, QuietStep, Reached}
 pub use Courses.{Undisturbed, UndisturbedOrPends, address_at, at_path, is_harmless, is_made}
 pub use Courses.{is_quiet, made_keeps_pending, made_resets, quiet_data, root_keeps_pending}
 pub use Courses.{root_resets}
 unfoldable pub use Courses.{resets, step_keeps_pending}
-pub use OneHolder.{AttemptAnswerer, HolderIn, IsIn, IsMade, IsOut, IsSetup, answer_way, content_way}
+pub use OneHolder.{AttemptAnswerer, HolderIn, IsIn, IsMade, IsOut, IsSetup, answer_way}
+pub use OneHolder.{content_way}
 pub use OneHolder.{got, hears_attempt, in_alone, out_alone, payload_way, reply_way, setup_asked}
 pub use OneHolder.{token_way, way_back, way_to}
 pub use Addresses.{GivesNoAddress, MovesData, NoneTakes, after_reset, after_taking, ends_status}

@@ -1,8 +1,7 @@
 -- The way of an attempt to the device that holds its address.
 use Rattle.std.specs.Prelude.{ℕ, Bool, true, false, List, []}
-use Rattle.usb_device.specs.{Holder, holder_in}
+use Rattle.usb_device.specs.{Holder}
 use Rattle.usb_device.specs.declared.holders.Holder.TheVariants.{Nobody, One, Several}
-use Rattle.usb_device.specs.declared.holders.Holders.{Holders}
 
 -- the path of the one holder, or the whole tree's: where two devices hold one address, also for the
 -- others
@@ -11,6 +10,3 @@ holder_path true x = []
 holder_path false Nobody = []
 holder_path false (One path) = path.items
 holder_path false Several = []
-
-abbrev pub way_in : Holders → ℕ → List ℕ
-way_in h n = holder_path h.shared (holder_in h n)

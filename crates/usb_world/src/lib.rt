@@ -1,38 +1,26 @@
-//! The world of a bus, as plain data (`specs/Worlds.antt`): what is plugged, and what events and
-//! attempts do to it (`specs/Steps.antt`).
+//! The world of a bus as plain data (`specs/Worlds.antt`): what is plugged, and what attempts, root
+//! calls and events do to it (`specs/Steps.antt`).
 //!
 //! # What is proved
 //!
-//! A law is a function of `src/laws.rt` that does nothing. Three of them:
+//! - A device that is reachable and was not reset since is the same, and was reachable all along
+//!   (`same_device`).
+//! - A pending change stays until a call clears it (`pending_persists`).
+//! - If no address is held twice, at most one device answers an attempt (`one_answers`).
 //!
-//! - What is plugged is what the events left (`plugged_is_what_the_events_left`).
-//! - A device becomes reachable only by PORT_RESET at its own port, which gives it address 0
-//!   (`reset_makes_reachable`).
-//! - If no address is held twice, at most one device answers an attempt
-//!   (`one_device_at_most_answers`).
+//! `usb_exchange` makes attempts as these say, and lists the laws in one file.
 #![tactic(auto)]
 
 mod damage;
 mod event;
 mod exchange;
-mod laws;
 mod losses;
-mod plan;
-mod route;
 mod types;
 mod wire;
 
-pub use damage::{Damage, Damages, Harm};
-pub use event::{Action, Ask, Change, Event, Events, SentBytes, WriteRequest, event_copies};
-pub use exchange::{Exchange, ExchangeAnswer, ExchangeRoom};
-pub use laws::{
-    a_port_rests_or_is_pending, control_courses_keep_addresses, devices_have_their_ports,
-    events_are_pending, one_device_at_most_answers, pending_stays, plugged_is_what_the_events_left,
-    reachable_is_the_same, reset_makes_reachable, undisturbed_keeps_what_is_plugged,
-    what_an_attempt_does_to_a_device,
-};
+pub use damage::{Damage, Harm};
+pub use event::{Action, Ask, Change, Event, SentBytes, WriteRequest};
+pub use exchange::{Exchange, ExchangeAnswer};
 pub use losses::Losses;
-pub use plan::Plan;
-pub use route::make_exchange_by;
 pub use types::{Attempt, BusFault, Destination, Outcome};
-pub use wire::{Mark, Outgoing, OutgoingRoom, damage_of};
+pub use wire::{Mark, Outgoing};

@@ -1,10 +1,10 @@
 -- What devices forget or lose, for a row of ports that begins with a place.
-use Rattle.std.proofs.Common.{◌≡◌, ◌||◌, Bool, false, List, [], ◌∷◌, Option, None, Some, length}
-use Rattle.std.proofs.Common.{refl, arith}
+use Rattle.std.proofs.Common.{◌≡◌, ◌||◌, Bool, Option, None, Some}
+use Rattle.std.proofs.Common.{refl}
 use Rattle.usb_port.specs.{PortState}
-use Rattle.usb_device.specs.declared.ports.Place.{Place as Kept}
-use Rattle.usb_device.specs.{Ports, Plugged, before, Sent, all_forgotten, forgotten_whole, has_loss}
-use Rattle.usb_device.specs.{has_loss_in, clears_change, clears_in, standing, ports_kept}
+use Rattle.usb_device.specs.{Ports, Plugged, before, Sent, all_forgotten, forgotten_whole}
+use Rattle.usb_device.specs.{has_loss}
+use Rattle.usb_device.specs.{has_loss_in, clears_change, clears_in, standing}
 
 pub forgotten-vacant : (b : PortState) (k : Ports) → all_forgotten (before (standing b None) k)
     ≡ before (standing b None) (all_forgotten k)
@@ -17,22 +17,11 @@ pub forgotten-taken : (b : PortState) (t : Plugged) (k : Ports)
 unfolding all_forgotten
 forgotten-taken b t k = refl
 
-pub forgotten-none : (ps : List Kept) → length ps ≡ 0 → all_forgotten (ports_kept ps)
-    ≡ ports_kept ps
-unfolding all_forgotten
-forgotten-none [] h = refl
-forgotten-none (p ∷ ps) h = absurd (omega (arith, h))
-
 pub loss-before : (b : PortState) (d : Option Plugged) (k : Ports)
     → has_loss (before (standing b d) k) ≡ (has_loss_in d || has_loss k)
 unfolding has_loss
 loss-before b None k = refl
 loss-before b (Some t) k = refl
-
-pub loss-none : (ps : List Kept) → length ps ≡ 0 → has_loss (ports_kept ps) ≡ false
-unfolding has_loss
-loss-none [] h = refl
-loss-none (p ∷ ps) h = absurd (omega (arith, h))
 
 pub clears-before : (q : Sent) (deep : Bool) (b : PortState) (d : Option Plugged) (k : Ports)
     → clears_change q deep (before (standing b d) k)
@@ -40,19 +29,3 @@ pub clears-before : (q : Sent) (deep : Bool) (b : PortState) (d : Option Plugged
 unfolding clears_change
 clears-before q deep b None k = refl
 clears-before q deep b (Some t) k = refl
-
-pub clears-none : (q : Sent) (deep : Bool) (ps : List Kept) → length ps ≡ 0
-    → clears_change q deep (ports_kept ps) ≡ false
-unfolding clears_change
-clears-none q deep [] h = refl
-clears-none q deep (p ∷ ps) h = absurd (omega (arith, h))
-
-pub ruleset betweens = (
-  forgotten-vacant,
-  forgotten-taken,
-  forgotten-none,
-  loss-before,
-  loss-none,
-  clears-before,
-  clears-none,
-)

@@ -1,20 +1,17 @@
 -- A row of ports that begins with a place.
 use Rattle.std.proofs.Common.{◌≡◌, ℕ, zero, suc, ◌+◌, ◌-◌, List, [], ◌∷◌, ◌++◌, Option, None, Some}
-use Rattle.std.proofs.Common.{length, slice_get, refl, ap, sym, ◌∙◌, add-one, arith}
+use Rattle.std.proofs.Common.{slice_get, refl, ap, ◌∙◌, arith}
 use Rattle.usb_port.specs.{PortState, off, powered_off}
 use Rattle.usb_device.specs.{Ports, ended, vacant, taken, Plugged, empty, full, before, new_ports}
 use Rattle.usb_device.specs.{all_off, row_of, changed_at, changed_in, changed, plugged_at}
-use Rattle.usb_device.specs.{plugged_in, device_there, standing, stood, ports_kept, Place}
-use Rattle.usb_device.specs.declared.ports.Place.{Place as Kept}
+use Rattle.usb_device.specs.{plugged_in, device_there, standing, Place}
 use Rattle.usb_device.proofs.packets.Rows.{row_of-before}
 
 -- ---- a number that is not 0
-
 pub one_less : (i : ℕ) → (i ≡ 0 → ⊥) → i ≡ suc (i - 1)
 one_less i h = omega (arith, h)
 
 -- ---- the place at the head, and those behind it
-
 pub changed_at-head : (f : Place → Place) (q : Place) (k : Ports) (p : List ℕ)
     → changed_at f (before q k) 0 p ≡ before (changed_in f q p) k
 unfolding changed_at
@@ -36,12 +33,6 @@ pub changed_at-later : (f : Place → Place) (q : Place) (k : Ports) (i : ℕ) (
     → (i ≡ 0 → ⊥) → changed_at f (before q k) i p ≡ before q (changed_at f k (i - 1) p)
 changed_at-later f q k i p h = ap (λ n. changed_at f (before q k) n p) (one_less i h)
     ∙ changed_at-tail f q k (i - 1) p
-
-pub changed_at-none : (f : Place → Place) (ps : List Kept) (i : ℕ) (p : List ℕ) → length ps ≡ 0
-    → changed_at f (ports_kept ps) i p ≡ ports_kept ps
-unfolding changed_at
-changed_at-none f [] i p h = refl
-changed_at-none f (q ∷ ps) i p h = absurd (omega (arith, h))
 
 pub changed_at-same : (k : Ports) (j : ℕ) (p : List ℕ) → changed_at (λ x. x) k j p ≡ k
 unfolding changed_at
@@ -106,14 +97,7 @@ pub plugged_at-later : (q : Place) (k : Ports) (i : ℕ) (p : List ℕ) → (i �
 plugged_at-later q k i p h = ap (λ n. plugged_at (before q k) n p) (one_less i h)
     ∙ plugged_at-tail q k (i - 1) p
 
-pub plugged_at-none : (ps : List Kept) (i : ℕ) (p : List ℕ) → length ps ≡ 0
-    → plugged_at (ports_kept ps) i p ≡ None
-unfolding plugged_at
-plugged_at-none [] i p h = refl
-plugged_at-none (q ∷ ps) i p h = absurd (omega (arith, h))
-
 -- ---- the ports without what is on them
-
 pub port-first : (b : PortState) (d : Option Plugged) (k : Ports) (i : ℕ) → i ≡ 0
     → slice_get (row_of (before (standing b d) k)) i ≡ Some b
 port-first b d k i h = rw (row_of-before b d k, h) refl
@@ -123,48 +107,14 @@ pub port-later : (b : PortState) (d : Option Plugged) (k : Ports) (i : ℕ) → 
 port-later b d k i h = rw (row_of-before b d k)
     (ap (λ n. slice_get (b ∷ row_of k) n) (one_less i h))
 
-pub port-none : (ps : List Kept) (i : ℕ) → length ps ≡ 0 → slice_get (row_of (ports_kept ps)) i
-    ≡ None
-unfolding row_of
-port-none [] i h = refl
-port-none (q ∷ ps) i h = absurd (omega (arith, h))
-
-pub length-row : (ps : List Kept) → length (row_of (ports_kept ps)) ≡ length ps
-unfolding row_of
-length-row [] = refl
-length-row (p ∷ ps) = ap length (row_of-before p.port p.device (ports_kept ps))
-    ∙ ap suc (length-row ps)
-
 -- ---- no power
-
 pub all_off-before : (b : PortState) (d : Option Plugged) (k : Ports)
     → all_off (before (standing b d) k) ≡ before (standing (powered_off b) d) (all_off k)
 unfolding all_off
 all_off-before b None k = refl
 all_off-before b (Some t) k = refl
 
-pub all_off-none : (ps : List Kept) → length ps ≡ 0 → all_off (ports_kept ps) ≡ ports_kept ps
-unfolding all_off
-all_off-none [] h = refl
-all_off-none (q ∷ ps) h = absurd (omega (arith, h))
-
-pub ruleset placing = (
-  changed_at-first,
-  changed_at-later,
-  changed_at-none,
-  plugged_at-first,
-  plugged_at-later,
-  plugged_at-none,
-  port-first,
-  port-later,
-  port-none,
-  length-row,
-  all_off-before,
-  all_off-none,
-)
-
 -- ---- paths
-
 pub changed-path : (f : Place → Place) (k : Ports) (n : ℕ) (p : List ℕ) → (n ≡ 0 → ⊥)
     → changed f k (n ∷ p) ≡ changed_at f k (n - 1) p
 changed-path f k n p h = ap (λ m. changed f k (m ∷ p)) (one_less n h)
@@ -183,36 +133,20 @@ device-none k n p h = rw h refl
 pub ruleset paths = (changed-path, changed-none, device-path, device-none)
 
 -- ---- a row of empty ports
-
-abbrev one_port_more : Ports → Ports
+abbrev pub one_port_more : Ports → Ports
 one_port_more ended = vacant off ended
 one_port_more (vacant b k) = vacant b (one_port_more k)
 one_port_more (taken b s a k) = taken b s a (one_port_more k)
 
-most_more-before : (q : Place) (k : Ports) → one_port_more (before q k) ≡ before q (one_port_more k)
+pub most_more-before : (q : Place) (k : Ports) → one_port_more (before q k) ≡ before q (one_port_more k)
 most_more-before (empty b) k = refl
 most_more-before (full b s a) k = refl
 
-abbrev empty_place : Kept
-empty_place = record { port = off; device = None }
-
-ports_kept-pushed : (ps : List Kept) → ports_kept (ps ++ empty_place ∷ [])
-    ≡ one_port_more (ports_kept ps)
-ports_kept-pushed [] = refl
-ports_kept-pushed (p ∷ ps) = ap (before (stood p)) (ports_kept-pushed ps)
-    ∙ sym (most_more-before (stood p) (ports_kept ps))
-
-most_more-new : (n : ℕ) → one_port_more (new_ports n) ≡ new_ports (suc n)
+pub most_more-new : (n : ℕ) → one_port_more (new_ports n) ≡ new_ports (suc n)
 unfolding new_ports
 most_more-new zero = refl
 most_more-new (suc n) = ap (vacant off) (most_more-new n)
 
-pub empty_pushed : (ps : List Kept) (n : ℕ) → ports_kept ps ≡ new_ports n
-    → ports_kept (ps ++ empty_place ∷ []) ≡ new_ports (n + 1)
-empty_pushed ps n h = rw add-one (ports_kept-pushed ps ∙ ap one_port_more h ∙ most_more-new n)
-
 pub new_ports-none : new_ports 0 ≡ ended
 unfolding new_ports
 new_ports-none = refl
-
-pub ruleset emptied = (empty_pushed, new_ports-none)

@@ -6,25 +6,20 @@ use Rattle.std.proofs.lemmas.Bool.{eqb-true}
 use Rattle.std.proofs.lemmas.Bool.Decides.{nat_tests}
 use Rattle.arrayvec.specs.ArrayVec.{ArrayVec}
 use Rattle.usb_port.specs.{PortState}
-use Rattle.usb_device.specs.declared.ports.Place.{Place as Kept}
 use Rattle.usb_device.specs.{Holder, Ports, ended, vacant, taken, Plugged, before, standing}
-use Rattle.usb_device.specs.{ports_kept, held_addresses, held_in, repeats, AreBytes, path_below}
+use Rattle.usb_device.specs.{held_addresses, held_in, repeats, AreBytes, path_below}
 use Rattle.usb_device.specs.{reached, reached_in, all_reached, paths_at, holder_among, IsIndex}
 use Rattle.usb_device.specs.{AreNobody, is_known, joined_holder, noted, meets_again, released}
-use Rattle.usb_device.specs.{IsIndexOf}
 use Rattle.usb_device.specs.declared.holders.Holder.TheVariants.{Nobody, Several}
-use Rattle.usb_device.specs.declared.holders.Holders.{Holders}
 use Rattle.usb_device.proofs.MarkedAddresses.{or_assoc, held-before, meets, met_none_of}
-use Rattle.usb_device.proofs.MarkedAddresses.{bytes-before, bytes-none}
 
-abbrev IndexWay : Type 0
+abbrev pub IndexWay : Type 0
 IndexWay = Option (ArrayVec ℕ)
 
 abbrev NumberedWays : Type 0
 NumberedWays = List (ℕ × IndexWay)
 
 -- ---- along a list
-
 -- the places with one device more
 abbrev with_one : ℕ × IndexWay → List Holder → List Holder
 with_one x h = slice_set h x.0 (joined_holder (slice_index_or h x.0 Nobody) x.1)
@@ -51,7 +46,6 @@ length-noted (x ∷ xs) h = length-noted xs (with_one x h)
     ∙ length-put h x.0 (joined_holder (slice_index_or h x.0 Nobody) x.1)
 
 -- ---- a row of ports that begins with a place
-
 way_if_enabled : (x : ℕ × IndexWay) (a k : NumberedWays) (e : Bool)
     → (if e then x ∷ (a ++ k) else k) ≡ (if e then x ∷ a else []) ++ k
 way_if_enabled x a k true = refl
@@ -77,30 +71,7 @@ pub met-before : (w : IndexWay) (n : ℕ) (b : PortState) (d : Option Plugged) (
 met-before w n b d k h = ap (λ xs. meets_again xs h) (reached-before w n b d k)
     ∙ met-append (reached_in w n b d) (reached w (n + 1) k) h
 
-pub noted-none : (w : IndexWay) (n : ℕ) (ps : List Kept) (h : List Holder) → length ps ≡ 0
-    → noted (reached w n (ports_kept ps)) h ≡ h
-unfolding reached
-noted-none w n [] h e = refl
-noted-none w n (p ∷ ps) h e = absurd (omega (arith, e))
-
-pub met-none : (w : IndexWay) (n : ℕ) (ps : List Kept) (h : List Holder) → length ps ≡ 0
-    → meets_again (reached w n (ports_kept ps)) h ≡ false
-unfolding reached
-met-none w n [] h e = refl
-met-none w n (p ∷ ps) h e = absurd (omega (arith, e))
-
-pub ruleset noting = (
-  length-noted,
-  noted-before,
-  met-before,
-  noted-none,
-  met-none,
-  bytes-before,
-  bytes-none,
-)
-
 -- ---- the same, taken out
-
 pub length-released : (ns : List ℕ) (h : List Holder) → length (released ns h) ≡ length h
 length-released [] h = refl
 length-released (n ∷ ns) h = length-released ns (slice_set h n Nobody) ∙ length-put h n Nobody
@@ -117,16 +88,7 @@ released-before b d k h =
     ap (λ ns. released ns h) (held-before b d k)
     ∙ released-append (held_in b d) (held_addresses k) h
 
-pub released-none : (ps : List Kept) (h : List Holder) → length ps ≡ 0
-    → released (held_addresses (ports_kept ps)) h ≡ h
-unfolding held_addresses
-released-none [] h e = refl
-released-none (p ∷ ps) h e = absurd (omega (arith, e))
-
-pub ruleset releasing = (length-released, released-before, released-none)
-
 -- ---- what stands at one address
-
 abbrev pub all_joined : Holder → List IndexWay → Holder
 all_joined x [] = x
 all_joined x (w ∷ ws) = all_joined (joined_holder x w) ws
@@ -171,7 +133,6 @@ all_among (Some p ∷ v ∷ ws) = several_stay ws
 all_among ws = refl
 
 -- ---- the addresses
-
 abbrev pub way_addresses : NumberedWays → List ℕ
 way_addresses [] = []
 way_addresses (x ∷ xs) = x.0 ∷ way_addresses xs
@@ -203,7 +164,6 @@ held-reached w n (taken b s a k) = split b.enable (held-reached (path_below w n)
     split false below behind = behind
 
 -- ---- which address is met again
-
 abbrev pub marks_of : List Holder → List Bool
 marks_of h = map is_known h
 
@@ -237,7 +197,6 @@ length-marks [] = refl
 length-marks (x ∷ h) = ap suc (length-marks h)
 
 -- ---- the whole index
-
 module _ (k : Ports) (h : List Holder) (all : length h ≡ 256) (none : AreNobody h)
     (bytes : AreBytes (held_addresses k)) where
   pub index_is : (m : List Holder) → m ≡ noted (all_reached k) h → IsIndex m k
@@ -256,14 +215,5 @@ module _ (k : Ports) (h : List Holder) (all : length h ≡ 256) (none : AreNobod
 
 pub ruleset indexing = (length-noted, index_is, shared_is)
 
--- where the same devices are reached, with the same addresses
-pub same_index : (h : Holders) (k m : Ports) → all_reached m ≡ all_reached k → IsIndexOf h k
-    → IsIndexOf h m
-same_index h k m e x = (
-  λ n small. x.0 n small ∙ ap (λ l. holder_among (paths_at n l)) (sym e),
-  x.1 ∙ ap repeats (sym (held-reached _ 1 k) ∙ ap way_addresses (sym e) ∙ held-reached _ 1 m),
-)
-
 -- ---- places that are cleared, one after the other
-
 pub ruleset clearing = (slice_set-at)

@@ -8,12 +8,10 @@ use Rattle.usb_port.specs.{PortState, is_attached, powered_on, unplugged, PortCa
 use Rattle.usb_port.specs.{SetReset, ClearEnable, ClearPower}
 use Rattle.usb_device.specs.{Ports, ended, vacant, taken, Plugged, empty, full, port_of, before}
 use Rattle.usb_device.specs.{acted, called, put, changed, changed_at, place_at, Effect, Leaves}
-use Rattle.usb_device.specs.{Calls, PortsOff, IsIndexOf, IsIndexWithout, path_below, reached}
+use Rattle.usb_device.specs.{Calls, PortsOff, path_below, reached}
 use Rattle.usb_device.specs.{all_reached, ReachedSame, keeps_enable, keeps_others, Place}
-use Rattle.usb_device.specs.declared.holders.Holders.{Holders}
 use Rattle.usb_device.proofs.places.FirstPlaces.{changed_at-head, changed_at-tail, changed_at-same}
 use Rattle.usb_device.proofs.places.FirstPlaces.{changed_at-twice}
-use Rattle.usb_device.proofs.places.HolderIndexes.{same_index}
 
 place_if_enabled : (x : ℕ × Option (ArrayVec ℕ)) (a k : List (ℕ × Option (ArrayVec ℕ))) (e : Bool)
     → (if e then x ∷ (a ++ k) else k) ≡ (if e then x ∷ (a ++ []) else []) ++ k
@@ -58,7 +56,6 @@ reached-changed f w n k j p h =
     reached-both f (λ x. x) w n k j p h ∙ ap (reached w n) (changed_at-same k j p)
 
 -- ---- calls at ports that leave each port enabled or not, and reset none
-
 pub power_enable : (b : PortState) → (powered_on b).enable ≡ b.enable
 power_enable b = split b.power
   where
@@ -164,16 +161,8 @@ pub reached-called : (c : PortCall) (k : Ports) (port : ℕ) → keeps_enable c 
 reached-called c k zero h = refl
 reached-called c k (suc i) h = reached-changed (called c) _ 1 k i [] (λ q at. called-same c q h)
 
--- ---- the index then
-
-pub index_called : (h : Holders) (c : PortCall) (k m : Ports) (port : ℕ) → keeps_enable c ≡ true
-    → m ≡ changed (called c) k (port ∷ []) → IsIndexOf h k → IsIndexOf h m
-index_called h c k m port e is x = same_index h k m (ap all_reached is ∙ reached-called c k port e)
-    x
-
 -- ---- the index without what stands at a path
-
-without-changed : (f : Place → Place) (k : Ports) (p : List ℕ)
+pub without-changed : (f : Place → Place) (k : Ports) (p : List ℕ)
     → all_reached (changed (put None) (changed f k p) p) ≡ all_reached (changed (put None) k p)
 unfolding reached
 without-changed f k (suc i ∷ p) =
@@ -181,21 +170,8 @@ without-changed f k (suc i ∷ p) =
     ∙ reached-both (λ x. put None (f x)) (put None) _ 1 k i p (λ q at w n. refl)
 without-changed f k p = refl
 
--- is that of the tree with whatever stands there then
-pub index_around : (h : Holders) (f : Place → Place) (k m : Ports) (p : List ℕ) → m ≡ changed f k p
-    → IsIndexWithout h k p → IsIndexWithout h m p
-index_around h f k m p e is =
-    same_index h (changed (put None) k p) (changed (put None) m p)
-    (ap (λ x. all_reached (changed (put None) x p)) e ∙ without-changed f k p) is
-
-plugged-same : (t : Plugged) (k : Ports) (p : List ℕ)
+pub plugged-same : (t : Plugged) (k : Ports) (p : List ℕ)
     → all_reached (changed (put (Some t)) k p) ≡ all_reached (changed (put None) k p)
 unfolding reached
 plugged-same t k (suc i ∷ p) = reached-both (put (Some t)) (put None) _ 1 k i p (λ q at w n. refl)
 plugged-same t k p = refl
-
--- where a device is plugged, its port is not enabled
-pub index_plugged : (h : Holders) (t : Plugged) (k m : Ports) (p : List ℕ)
-    → m ≡ changed (put (Some t)) k p → IsIndexWithout h k p → IsIndexOf h m
-index_plugged h t k m p e is =
-    same_index h (changed (put None) k p) m (ap all_reached e ∙ plugged-same t k p) is

@@ -1,7 +1,7 @@
 //! The simulated bus as the host sees it.
 ghost use Rattle.std.specs.Prelude.{◌≡◌, ◌+◌, ◌-◌, ◌<◌, ◌≤◌, ◌∷◌, [], length, slice_index_or, true, false, None, Some, IfOk, IfErr, OnOk, refl};
 ghost use Rattle.usb_port.specs.PortStates.{off, status_of};
-ghost use Rattle.usb_device.specs.HolderIndex.{IsIndexOf};
+ghost use Rattle.usb_function.specs.HolderIndex.{IsIndexOf};
 ghost use Rattle.usb_device.specs.Tree.{row_of, changed, called};
 ghost use Rattle.usb_port.specs.Calls.{IsSetFeature, IsClearFeature};
 ghost use Rattle.usb_world.specs.Exchanges.{outcome_of};
@@ -16,9 +16,11 @@ use super::SimBus;
 use crate::Trace;
 use arrayvec::ArrayVec;
 use usb_bus::{Bus, OutcomeKind};
-use usb_device::{AnswerPid, HeardPid, Holders, Ports, keeps_enable};
+use usb_device::{AnswerPid, HeardPid, keeps_enable};
+use usb_exchange::{ExchangeRoom, damage_of, make_exchange_by};
+use usb_function::{Holders, Ports};
 use usb_port::PortCall;
-use usb_world::{Attempt, BusFault, ExchangeRoom, Outcome, damage_of, make_exchange_by};
+use usb_world::{Attempt, BusFault, Outcome};
 
 impl<T: Trace> Bus for SimBus<T> {
     ghost use Rattle.usb_sim.specs.Parts.{LeavesAttempt};

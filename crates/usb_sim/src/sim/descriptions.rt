@@ -3,7 +3,7 @@
 use std::alloc::{AllocError, Global};
 use std::marker::Model;
 use std::rc::Rc;
-use usb_device::DeviceSpec;
+use usb_scene::DeviceSpec;
 
 /// The descriptions in the plan's order.
 #[derive(Debug, Drop)]

@@ -1,6 +1,6 @@
 //! The events of a plan as they come.
 ghost use Rattle.std.specs.Prelude.{◌≡◌, ◌+◌, ◌<◌, ◌≤◌, [], ◌∷◌, ◌++◌, length, true, Ok, Some, None, OnOk, OnErr, IsTrue, IsSome};
-ghost use Rattle.usb_device.specs.HolderIndex.{IsIndexOf};
+ghost use Rattle.usb_function.specs.HolderIndex.{IsIndexOf};
 ghost use Rattle.usb_device.specs.Tree.{row_of, changed, replaced};
 ghost use Rattle.usb_world.specs.Worlds.{changes, to_come};
 ghost use Rattle.usb_world.specs.Steps.{after, event, after_change, has_due};
@@ -18,8 +18,9 @@ use crate::{Action, Ask, Change, Trace};
 use std::alloc::{AllocError, Global};
 use std::rc::Rc;
 use usb_bus::WriteFailed;
-use usb_device::{Device, DeviceSpec, Holders, Ports};
+use usb_function::{Device, Holders, Ports};
 use usb_port::PortPath;
+use usb_scene::DeviceSpec;
 use usb_world::BusFault;
 
 impl<T: Trace> SimBus<T> {

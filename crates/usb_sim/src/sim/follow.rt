@@ -8,7 +8,7 @@ use super::SimBus;
 use crate::{Damage, Event, Plan, Trace};
 use std::alloc::{AllocError, Global};
 use std::collections::VecDeque;
-use usb_world::event_copies;
+use usb_scene::event_copies;
 
 /// Why a bus does not follow a plan.
 #[derive(Clone, Copy, Debug, PartialEq, Eq)]

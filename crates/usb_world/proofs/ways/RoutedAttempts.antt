@@ -1,7 +1,9 @@
 -- An attempt that goes straight to the one device that it is for.
-use Rattle.usb_world.proofs.holders.OneDevice.{IsFull, reach-full, full_state, step_in, sent_to_one}
+use Rattle.usb_world.proofs.holders.OneDevice.{IsFull, reach-full, full_state, step_in}
+use Rattle.usb_world.proofs.holders.OneDevice.{sent_to_one}
 use Rattle.usb_world.proofs.holders.OneDevice.{sent_place, end_is, all_is, others_rest}
-use Rattle.usb_world.proofs.holders.OneDevice.{others_forget, alone_sent, second_alone, third_alone}
+use Rattle.usb_world.proofs.holders.OneDevice.{others_forget, alone_sent, second_alone}
+use Rattle.usb_world.proofs.holders.OneDevice.{third_alone}
 use Rattle.usb_world.proofs.holders.OneDevice.{last_alone}
 use Rattle.std.proofs.Common.{arith, ◌≡◌, ℕ, zero, suc, Bool, true, false, List, [], ◌∷◌, ◌++◌}
 use Rattle.std.proofs.Common.{Option, None, Some, is_some, option_map, IsSome, nat_eq, refl, ap}
@@ -13,15 +15,14 @@ use Rattle.usb_port.specs.{PortState}
 use Rattle.usb_device.specs.{Sent, Leaves, State, Ports, full, acted, put, changed, changed_at}
 use Rattle.usb_device.specs.{changed_in, device_there, plugged_at, place_at, Location, state_at}
 use Rattle.usb_device.specs.{answer_of, all_forgotten, reached, all_reached, ReachedSame}
-use Rattle.usb_device.specs.{keeps_others, IsIndexOf, IsIndexWithout, forgotten_in, address_by}
+use Rattle.usb_device.specs.{keeps_others, forgotten_in, address_by}
 use Rattle.usb_device.specs.{Place, HostSide, DeviceSide, Heard, Plugged, taken_sent, heard_of}
 use Rattle.usb_device.specs.{heard_from, both, has_loss, asks_clearing, RefusedBy, token_sent}
 use Rattle.usb_device.specs.{ack_sent, after_packet_at, answer_from, asked_from, RefusedFrom}
 use Rattle.usb_device.specs.{takes_data, after_token, after_data, heard_of_both, acknowledges}
 use Rattle.usb_device.specs.{after_reply, side_of, heard_at, side_at, RefusedAt, left_in, cut_in}
-use Rattle.usb_device.specs.declared.holders.Holders.{Holders}
-use Rattle.usb_device.proofs.Interface.{changed_at-port, changed_at-twice, changed_at-zero}
-use Rattle.usb_device.proofs.Interface.{index_around, reached-acted, reached-both, same_index}
+use Rattle.usb_device.proofs.Interface.{changed_at-port, changed_at-twice}
+use Rattle.usb_device.proofs.Interface.{reached-acted, reached-both}
 use Rattle.usb_device.proofs.Interface.{heard_of-append}
 use Rattle.usb_world.specs.{Attempt, Damage, token_out, payload_out, reply_out, ended_in, ports_in}
 use Rattle.usb_world.specs.{Exchange, Whole, Outgoing, harm_to, mark_of, is_read, marked}
@@ -30,7 +31,7 @@ use Rattle.usb_world.specs.{goes_out, heard_in, place_of_answer, mark_in, reply_
 use Rattle.usb_world.specs.{is_lost, lost_in, clears_at, cleared_in, exchange_in, StaysPlugged}
 use Rattle.usb_world.specs.{Exchanged, IsStopped, heard_above, host_side, keeps_address, IsCut}
 use Rattle.usb_tree.specs.{address_of, after_sent, deep_at, IsSettled, Alone, is_whole_tree}
-use Rattle.usb_tree.specs.{IsWayTo, without_port, IsQuiet, KeptAt, answers_to, AloneAt, is_deep}
+use Rattle.usb_tree.specs.{without_port, IsQuiet, KeptAt, answers_to, AloneAt, is_deep}
 use Rattle.usb_tree.proofs.Interface.{false_true, equal_same, both as both_true}
 use Rattle.usb_world.proofs.packets.Packets.{calm_token as token_calm, calm_ack as ack_calm}
 use Rattle.usb_world.proofs.holders.HolderPorts.{calm_asked}
@@ -44,7 +45,6 @@ use Rattle.usb_world.proofs.attempts.Exchanges.{over_plugged, over_settled}
 use Rattle.usb_world.proofs.holders.OneHolderAttempts.{sound_answer}
 
 -- An attempt that goes straight to one device: whose addresses stay.
-
 -- a device with another state of the same address, and ports below which the same devices are
 -- reached, without what is on one of them
 same_there : (port : ℕ) (b : PortState) (s sent_token : State) (a c : Ports)
@@ -57,7 +57,6 @@ unfolding reached
 same_there port b s sent_token a c e h = grind arith
 
 -- ---- one packet
-
 abbrev own_after : Option Sent → Bool → State → Ports → State
 own_after None deep_here s a = s
 own_after (Some sent_data) deep_here s a = (answer_of sent_data deep_here s a).1
@@ -80,7 +79,6 @@ quiet_keeps_others port (Some sent_data) k j p b s a h e =
     grind (arith, plugged_place k j p)
 
 -- ---- an attempt
-
 module _ (a : Attempt) (d : Option Damage) (k : Ports) (j : ℕ) (p : List ℕ)
     (one : Alone (token_out a d) k (record { row = j; rest = p })) where
   abbrev deep_here : Bool
@@ -105,7 +103,7 @@ module _ (a : Attempt) (d : Option Damage) (k : Ports) (j : ℕ) (p : List ℕ)
   pub here : IsFull (place_at k j p)
   here = reach-full k j p one.on
 
-  left_is : ports_in a d k ≡ changed_at (λ y. forgotten_in (till_end y)) k j p
+  pub left_is : ports_in a d k ≡ changed_at (λ y. forgotten_in (till_end y)) k j p
   unfolding ports_in
   left_is = all_is a.addr sent_token sent_data sent_reply (goes a d k) k x one
 
@@ -194,39 +192,9 @@ pub kept_at : (port : ℕ) (a : Attempt) (d : Option Damage) (k m n : Ports) (p 
 unfolding ports_in
 kept_at port a d k m n p left same asks e over at = grind (arith, equal_same, held_still)
 
--- the index of the tree then
-pub index_kept : (n : ℕ) (h : Holders) (k m : Ports) (p : List ℕ) → IsSettled k → IsWayTo n k p
-    → KeptAt n 0 k m p → IsIndexOf h k → IsIndexOf h m
-index_kept n h k m (suc j ∷ p) s w kept is =
-    same_index h k m
-    (ap all_reached (sym (changed_at-zero (put None) m j p)) ∙ kept s w
-    ∙ ap all_reached (changed_at-zero (put None) k j p)) is
-index_kept n h k m p s w kept is = absurd kept
-
--- the index without what is on a port of the device
-pub index_port : (n port : ℕ) (h : Holders) (k m : Ports) (p l : List ℕ) → l ≡ p ++ port ∷ []
-    → IsSettled k → IsWayTo n k p → KeptAt n port k m p → IsIndexWithout h k l
-    → IsIndexWithout h m l
-index_port n port h k m (suc j ∷ p) l e s w kept is =
-    subst (λ x. IsIndexWithout h m x) (sym e)
-    (same_index h _ _ (kept s w)
-    (subst (λ x. IsIndexWithout h k x) e is))
-index_port n port h k m p l e s w kept is = absurd kept
-
--- an attempt changes nothing but the device at its way, with what is below
-pub index_beside : (a : Attempt) (d : Option Damage) (h : Holders) (k m : Ports) (p : List ℕ)
-    → is_whole_tree p ≡ false → IsSettled k → IsWayTo a.addr k p → m ≡ ports_in a d k
-    → IsIndexWithout h k p → IsIndexWithout h m p
-index_beside a d h k m [] f s w e is = false_true (sym f)
-index_beside a d h k m (zero ∷ p) f s w e is = absurd w
-index_beside a d h k m (suc j ∷ p) f s w e is =
-    index_around h _ k m (suc j ∷ p) (e ∙ left_is a d k j p (alone_token a d k (suc j ∷ p) s w)) is
-
 -- An attempt of which nothing is damaged, at the one device that it is for and on one way down the
 -- tree, is the attempt in the whole tree.
-
 -- ---- one packet at the device
-
 abbrev pub place_plugged : PortState → Plugged → Place
 place_plugged b t = full b t.own t.ports
 
@@ -293,7 +261,6 @@ stopped_one (Some q) k j p b t alone at h =
     }
 
 -- ---- no damage
-
 reply_taken : (g : Heard) (max : ℕ) → reply_of (heard_above g) Whole max ≡ ack_if (takes_data max g)
 unfolding reply_of is_read
 reply_taken g max = grind arith
@@ -322,7 +289,6 @@ sent_to-ack : (y : HostSide) (deep : Bool) (t : Plugged) (w : Bool)
 sent_to-ack y deep t w = grind arith
 
 -- ---- the attempt
-
 module _ (a : Attempt) (k : Ports) (j : ℕ) (p : List ℕ)
     (one : Alone (token_out a None) k (record { row = j; rest = p })) where
   abbrev deep_there : Bool
@@ -361,7 +327,7 @@ module _ (a : Attempt) (k : Ports) (j : ℕ) (p : List ℕ)
   abbrev pub n : ℕ
   n = place_of_answer a None + 1
 
-  abbrev w : Bool
+  abbrev pub w : Bool
   w = acknowledges y q deep_there device
 
   stands : place_at k j p ≡ Some (place_plugged b device)
@@ -471,7 +437,6 @@ module _ (a : Attempt) (k : Ports) (j : ℕ) (p : List ℕ)
       first_at h
 
 -- ---- as the code makes it, by paths
-
 -- what the code makes of a path's device
 pub record Walked (a : Attempt) (k m : Ports) (p : List ℕ) (x : Exchange) (g : Heard)
     (side : DeviceSide) : Type 0 where
@@ -567,7 +532,6 @@ walked_kept port a k m (suc j ∷ p) x g side f h w kept =
     kept_there a k m j p x g side h w port is.0 is.1
 
 -- ---- memory that was refused
-
 -- what the code makes of it then
 pub record CutShort (a : Attempt) (k m : Ports) (p : List ℕ) (o : Option Outgoing) : Type 0 where
   pub payload : o ≡ marked_some None 2 a.pre (payload_of a)
@@ -626,7 +590,6 @@ walk_cut a k m (suc j ∷ p) o f h w =
     }
 
 -- ---- who stands there
-
 pub made_plugged : (a : Attempt) (k m : Ports) → m ≡ ports_in a None k → StaysPlugged k m
 made_plugged a k m e =
     let first = after_sent (token_out a None) k in

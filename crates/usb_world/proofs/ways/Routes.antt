@@ -1,8 +1,8 @@
 -- A packet that goes straight to the one device that it is for does what it does in the whole tree.
 use Rattle.usb_world.proofs.attempts.Exchanges.{after_sent-plugged, stays_plugged_refl}
 use Rattle.usb_world.specs.{SentAlong, StaysPlugged, Attempt, Damage, token_out, clears_at}
-use Rattle.usb_world.specs.{IsStopped, way_in}
-use Rattle.std.proofs.Common.{◌||◌, arith, ◌≡◌, ◌<◌, ℕ, zero, suc, ◌&&◌, Bool, true, false, List}
+use Rattle.usb_world.specs.{IsStopped}
+use Rattle.std.proofs.Common.{◌||◌, arith, ◌≡◌, ℕ, zero, suc, ◌&&◌, Bool, true, false, List}
 use Rattle.std.proofs.Common.{[], ◌∷◌, Option, None, Some, Result, Ok, Err, OnOk, OnErr, refl, ap}
 use Rattle.std.proofs.Common.{sym, subst, ◌∙◌}
 use Rattle.usb_port.specs.{PortState}
@@ -11,12 +11,12 @@ use Rattle.usb_device.specs.{below, here, Ports, vacant, taken, Plugged, empty, 
 use Rattle.usb_device.specs.{changed_at, changed, plugged_at, device_there, reach_at, state_at}
 use Rattle.usb_device.specs.{place_at, held_addresses, repeats, effect_of, after_packet}
 use Rattle.usb_device.specs.{delivered_place, heard_of, heard_from, both, all_forgotten, has_loss}
-use Rattle.usb_device.specs.{asks_clearing, clears_change, sent_in, answer_by, RefusedBy, effect_by}
-use Rattle.usb_device.specs.{forgotten_in, is_held_at, IsIndexOf, Place}
+use Rattle.usb_device.specs.{asks_clearing, clears_change, sent_in, answer_by, RefusedBy}
+use Rattle.usb_device.specs.{effect_by}
+use Rattle.usb_device.specs.{forgotten_in, is_held_at, Place}
 use Rattle.usb_device.specs.declared.transfer.RememberedPacket.TheVariants.{Nothing}
-use Rattle.usb_device.specs.declared.holders.Holders.{Holders}
-use Rattle.usb_device.proofs.Interface.{one_is_held}
-use Rattle.usb_tree.specs.{after_sent, answers_to, deep_at, IsSettled, OthersForgot, Alone, AloneAt}
+use Rattle.usb_tree.specs.{after_sent, answers_to, deep_at, IsSettled, OthersForgot, Alone}
+use Rattle.usb_tree.specs.{AloneAt}
 use Rattle.usb_tree.specs.{IsWayTo, is_whole_tree, is_deep}
 use Rattle.usb_tree.proofs.Interface.{false_true, or_nothing}
 use Rattle.usb_world.proofs.packets.Packets.{true_deep, rested_answer, clears_if}
@@ -27,14 +27,12 @@ use Rattle.usb_world.proofs.holders.OneDevice.{rested_effect, others_rest, other
 use Rattle.usb_world.proofs.holders.OneDevice.{sent_to_one, alone_holder, alone_sent, answer_at}
 
 -- ---- the tree after the packet
-
 others_packet : (q : Sent) (k : Ports) (j : ℕ) (p : List ℕ)
     → Alone (Some q) k (record { row = j; rest = p })
     → after_packet q false k ≡ changed_at (sent_in q (deep_at false p)) k j p
 others_packet q k j p h = (sent_to_one (Some q) k _ h).ports
 
 -- ---- its answer, and what it asks
-
 abbrev pub plugged_on : Option Place → Option Plugged
 plugged_on None = None
 plugged_on (Some (empty b)) = None
@@ -94,7 +92,6 @@ others_clear q = along_way {S = Forgot} {P = λ deep k j p. clears_change q deep
     past x y = grind arith
 
 -- ---- who awaits an ACK
-
 abbrev pub loss_by : Option Plugged → Bool
 loss_by None = false
 loss_by (Some t) = awaits_address t.own
@@ -117,7 +114,6 @@ others_loss = along_way {S = Forgot} {P = λ deep k j p. has_loss k ≡ loss_by 
     }) false
 
 -- ---- memory that was refused
-
 rested_place : (q : Sent) (deep : Bool) (b : PortState) (s : State) (a : Ports)
     → Resting q b.enable s → (b.enable ≡ true → after_packet q true a ≡ a)
     → (delivered_place q deep (full b s a)).1 ≡ full b s a
@@ -143,7 +139,6 @@ others_stop q = along_way {S = Resting q} {P = λ deep k j p. RefusedBy q (deep_
     })
 
 -- ---- by paths
-
 module _ (q : Sent) (k : Ports) where
   ports_of : (m : Ports) (p : List ℕ) → is_whole_tree p ≡ false → AloneAt (Some q) k p
       → m ≡ changed (sent_in q (is_deep p)) k p → m ≡ after_sent (Some q) k
@@ -217,7 +212,6 @@ pub route_over : (k m : Ports) (p : List ℕ) → is_whole_tree p ≡ false → 
 route_over k m p f h e = grind (arith, others_forget)
 
 -- ---- the packets of an attempt
-
 pub alone_token : (a : Attempt) (d : Option Damage) (k : Ports) (p : List ℕ) → IsSettled k
     → IsWayTo a.addr k p → AloneAt (token_out a d) k p
 alone_token a d k [] s o = tt
@@ -226,12 +220,6 @@ alone_token a d k (suc j ∷ p) s o =
     alone_holder a.addr (token_out a d) (goes a d k).token k (record { row = j; rest = p }) s o
 
 -- ---- who holds the address
-
-one_at : (n : ℕ) (k : Ports) (p : List ℕ) → repeats (held_addresses k) ≡ false
+pub one_at : (n : ℕ) (k : Ports) (p : List ℕ) → repeats (held_addresses k) ≡ false
     → is_held_at n k p ≡ true → IsWayTo n k p
 one_at n k p s h = grind arith
-
--- the way that is taken: to the one that the index names, or the whole tree's
-pub way_by_index : (n : ℕ) (k : Ports) (h : Holders) (p : List ℕ) → n < 256 → IsIndexOf h k
-    → p ≡ way_in h n → IsWayTo n k p
-way_by_index n k h p small is e = grind (arith, one_at, one_is_held)

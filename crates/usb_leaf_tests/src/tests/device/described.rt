@@ -6,9 +6,8 @@ use super::kinds::{
 };
 use std::alloc::{AllocError, Global};
 use std::test::Fail;
-use usb_device::{
-    Bytes, DeviceSpec, Devices, HubSpec, OwnAnswer, OwnRequest, Stalls, has_hub_class,
-};
+use usb_device::{Bytes, OwnAnswer, OwnRequest, Stalls};
+use usb_scene::{DeviceSpec, Devices, HubSpec, has_hub_class};
 
 /// Devices of which, one or the other, everything is said that can be said.
 const PLANS: &[Plan] = &[

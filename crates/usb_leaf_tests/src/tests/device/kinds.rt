@@ -1,10 +1,9 @@
 //! The devices of the tests.
 use std::alloc::{AllocError, Global};
 use std::rc::Rc;
-use usb_device::{
-    Bytes, Device, DeviceSpec, HubSpec, Name, OwnAnswer, OwnRequest, OwnRequests, Stalls, Texts,
-    has_hub_class,
-};
+use usb_device::{Bytes, OwnAnswer, OwnRequest, OwnRequests, Stalls, Texts};
+use usb_function::Device;
+use usb_scene::{DeviceSpec, HubSpec, Name, has_hub_class};
 
 /// A request that a device refuses.
 #[derive(Clone, Copy, Debug, PartialEq)]

@@ -3,7 +3,8 @@ ghost use Rattle.usb_packet.specs.Spelling.{HasFields};
 
 use arrayvec::ArrayVec;
 use std::alloc::AllocError;
-use usb_device::{Content, Device, Heard, Ports, Sent};
+use usb_device::{Content, Heard, Sent};
+use usb_function::{Device, Ports};
 use usb_packet::{Packet, Toggle, TokenKind, decode, encode, packet_text};
 
 /// A packet of the host. A token is for endpoint 0 of an address, or for the endpoint that it names.

@@ -4,7 +4,8 @@ use super::packets::{ADDRESSING, Exchange, Host, are_answered, is_answered};
 use super::{attempts, bulk, hubs, requests, writes};
 use std::alloc::{AllocError, Global};
 use std::test::Fail;
-use usb_device::{Device, EndpointNumber, Parent};
+use usb_device::EndpointNumber;
+use usb_function::{Device, Parent};
 
 #[derive(Clone, Copy)]
 pub(super) enum Step {

@@ -9,7 +9,8 @@ use TreeStep::{
 };
 use std::alloc::{AllocError, Global};
 use std::test::Fail;
-use usb_device::{Holder, Holders, LentPacket, Ports};
+use usb_device::Holder;
+use usb_function::{Holders, LentPacket, Ports};
 use usb_port::PortCall;
 
 #[derive(Clone, Copy)]

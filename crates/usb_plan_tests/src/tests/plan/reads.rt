@@ -1,8 +1,9 @@
 //! What is read of a text.
 use super::FUNCTION;
 use std::alloc::{AllocError, Global};
-use usb_device::{DeviceSpec, EndpointData, EndpointSpec, OwnAnswer, OwnRequest};
+use usb_device::{EndpointData, EndpointSpec, OwnAnswer, OwnRequest};
 use usb_plan::{bound, read_plan};
+use usb_scene::DeviceSpec;
 use usb_sim::{Action, Ask, Change, Plan};
 
 /// Adds the bytes, in decimal digits.

@@ -1,6 +1,6 @@
 use Rattle.std.proofs.Common.{[], ◌∷◌, refl, sym}
 use Rattle.usb_device.specs.{called}
-use Rattle.usb_device.proofs.Interface.{index_around, index_called}
+use Rattle.usb_function.proofs.Interface.{index_around, index_called}
 use Rattle.usb_sim.proofs.sim.bus.call_at.Goals as goal
 
 pub returns-then-keeps_enable-clause-index : goal.returns-then-keeps_enable-clause-index

@@ -1,6 +1,6 @@
 use Rattle.std.proofs.Common.{Some, refl, ap, ◌∙◌}
 use Rattle.usb_device.specs.{changed, put, replaced}
-use Rattle.usb_device.proofs.Interface.{index_plugged}
+use Rattle.usb_function.proofs.Interface.{index_plugged}
 use Rattle.usb_sim.proofs.sim.events.plug.Goals as goal
 
 pub returns-else-not-forgotten-clause-index : goal.returns-else-not-forgotten-clause-index

@@ -1,7 +1,0 @@
-use Rattle.std.proofs.Common.{sym}
-use Rattle.usb_device.proofs.JoinedRows.{head-joined}
-use Rattle.usb_device.proofs.ends.OutEnds.head.Goals as goal
-
-pub returns : goal.returns
-returns c = rw (c.place.ensures.value, ← c.self.view_is)
-    (sym (head-joined c.self.inside.heads c.self.inside.sinks.items c.args.number))

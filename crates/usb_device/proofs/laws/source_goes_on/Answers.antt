@@ -1,5 +1,0 @@
-use Rattle.usb_device.proofs.progress.BulkProgress.{source_only}
-use Rattle.usb_device.proofs.laws.source_goes_on.Goals as goal
-
-pub returns-clause-frame : goal.returns-clause-frame
-returns-clause-frame c = source_only

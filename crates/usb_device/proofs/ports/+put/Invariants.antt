@@ -1,8 +1,0 @@
-use Rattle.std.proofs.Common.{◌+◌, ◌*◌, length}
-use Rattle.usb_device.proofs.ports.+put.Given as goal
-
-abbrev pub decreases-Ports::put_at : goal.decreases-Ports::put_at
-decreases-Ports::put_at l = 2 * length l.path.now
-
-abbrev pub decreases-Place::put_below : goal.decreases-Place::put_below
-decreases-Place::put_below l = 2 * length l.path.now + 1

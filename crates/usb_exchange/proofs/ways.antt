@@ -1,0 +1,2 @@
+pub mod RoutedAttempts
+pub mod Routes

@@ -1,0 +1,2 @@
+pub mod Route
+pub use Route.{way_in}

@@ -1,0 +1,5 @@
+pub mod Interface
+pub mod Deliveries
+pub mod MarkedAddresses
+pub mod places
+pub mod packets

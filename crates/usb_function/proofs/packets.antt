@@ -1,0 +1,2 @@
+pub mod ForgottenPackets
+pub mod Loans

@@ -1,0 +1,4 @@
+pub mod FirstPlaces
+pub mod HolderIndexes
+pub mod NumberedPlaces
+pub mod ReachedPlaces
