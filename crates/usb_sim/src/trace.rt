@@ -1,14 +1,14 @@
 //! The lines of the trace.
 ghost use Rattle.std.specs.Prelude.{◌≡◌, ◌+◌, ◌≤◌, [], ◌∷◌, ◌++◌, length};
 ghost use Rattle.usb_world.specs.HeardAnswers.{heard_above};
-ghost use Rattle.usb_bus.specs.Trace.{attempt_line, pre_text, mark_text, host_text, next_text, answer_text};
+ghost use Rattle.usb_world.specs.Trace.{attempt_line, pre_text, mark_text, host_text, next_text, answer_text};
 
 use arrayvec::ArrayString;
 use usb_device::{AnswerPid, HeardPid};
 use usb_device_steps::Hearing;
 use usb_packet::{push_decimal, push_packet, push_payload};
-use usb_world_steps::{ExchangeRoom, OutgoingRoom};
 use usb_world::{Mark, Outgoing};
+use usb_world_steps::{ExchangeRoom, OutgoingRoom};
 
 /// Room for the longest line of an attempt.
 pub type Line = ArrayString<700>;

@@ -1,8 +1,8 @@
 //! What is read of a text.
 use super::FUNCTION;
 use std::alloc::{AllocError, Global};
-use usb_device_steps::DeviceSpec;
 use usb_device::{EndpointData, EndpointSpec, OwnAnswer, OwnRequest};
+use usb_device_steps::DeviceSpec;
 use usb_plan::{bound, read_plan};
 use usb_sim::{Action, Ask, Change, Plan};
 
