@@ -1,6 +1,6 @@
 -- The attempts of a row, one behind the other.
 use Rattle.std.proofs.Common.{◌≡◌, ℕ, ◌<◌, Option, Some, None, refl, sym, ◌∙◌}
-use Rattle.usb_lines.specs.{OutPipe}
+use Rattle.usb_watch.specs.{OutPipe}
 use Rattle.usb_wire.specs.{IsQuestion, Question}
 use Rattle.usb_far.specs.{Played}
 use Rattle.usb_far.proofs.Lines.{row_less, row_size}

@@ -1,7 +1,7 @@
 -- The host's lines, answered and judged, and why that ends.
 use Rattle.std.specs.Prelude.{◌≡◌, ◌⊎◌, ℕ, ◌+◌, ◌-◌, ◌^◌, ◌≤◌, List, [], Option, None, Some}
 use Rattle.std.specs.Prelude.{IsSome, Result, Ok, Err, min}
-use Rattle.usb_lines.specs.{FailsToFlush, Flushes, OutPipe}
+use Rattle.usb_watch.specs.{FailsToFlush, Flushes, OutPipe}
 use Rattle.usb_wire.specs.{Question}
 use Rattle.usb_wire.specs.declared.question.Question.TheVariants.{Wait}
 use Rattle.usb_far.specs.{HasNoReply, Misread, Played, Reading, ReadsEnd, ReadsQuestion, ReadsTold}

@@ -1,7 +1,7 @@
 //! The host's lines, answered and judged.
 ghost use Rattle.std.specs.Prelude.{◌≡◌, IfErr, IfOk, IfSome, OnOk};
 ghost use Rattle.usb_bench.specs.Attempts.{Judged};
-ghost use Rattle.usb_lines.specs.Pipes.{out_pipe_of};
+ghost use Rattle.usb_watch.specs.Pipes.{out_pipe_of};
 ghost use Rattle.usb_wire.specs.Questions.{IsQuestion};
 ghost use Rattle.usb_far.specs.FarEnd.{played_of};
 ghost use Rattle.usb_far.specs.Serving.{scene};
@@ -15,10 +15,9 @@ use crate::listing::{opened, take_line};
 use std::alloc::Global;
 use std::io::{Read, Write};
 use std::mem;
-use usb_bus::Watched;
 use usb_far::{Came, FarEnd, FarFault, HostLine};
-use usb_lines::put_lines;
 use usb_sim::Trace;
+use usb_watch::{Watched, put_lines};
 use usb_wire::Question;
 
 /// Answers the host's lines until its input ends, or until a fault, and judges the host from what is

@@ -1,6 +1,4 @@
 -- The lemmas that crates above cite. All others are for this crate alone.
-pub use Rattle.usb_bus.proofs.Fronts.{appends_front, front_after, front_after_first, puts_no_text}
-pub use Rattle.usb_bus.proofs.Fronts.{puts_unknown}
 pub use Rattle.usb_bus.proofs.LiftedTraces.{OverFaults, over_traced}
 pub use Rattle.usb_bus.proofs.Traces.{traced_cleared, traced_set, traced_then, went_none, went_then}
 pub use Rattle.usb_bus.proofs.Traces.{went_wider}

@@ -2,10 +2,10 @@
 use Rattle.std.specs.Prelude.{ℕ, ◌+◌, ◌-◌, ◌==◌, if◌then◌else◌, List, [], ◌∷◌, ◌++◌, take, flat_map}
 use Rattle.std.specs.Prelude.{map, slice_get, Option, Some, None}
 use Rattle.usb_world.specs.{Spec, Action, Plug, Unplug, Attempt, World, at_attempt, made_in, ask_of}
+use Rattle.usb_world.specs.{plug_line, unplug_line, attempt_line}
 use Rattle.usb_world.specs.declared.event.Action.TheVariants.{Change, Ask}
 use Rattle.usb_world.specs.declared.event.Ask.{Ask as Asked}
-use Rattle.usb_bus.specs.Shown.{shown_name}
-use Rattle.usb_bus.specs.Trace.{plug_line, unplug_line, attempt_line}
+use Rattle.usb_watch.specs.{shown_name}
 
 -- the names of devices, as they are shown
 abbrev pub shown_names : List Spec → List (List ℕ)

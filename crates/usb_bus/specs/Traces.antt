@@ -7,7 +7,7 @@ use Rattle.usb_world.specs.{IsAttempt, Attempted, AttemptsWithin, AttemptFails, 
 use Rattle.usb_world.specs.{attempt, event, outcome_in, root_call}
 use Rattle.usb_world.specs.declared.event.Ask.{Ask}
 use Rattle.usb_bus.specs.Lines.{lines_between, next_due, step_lines}
-use Rattle.usb_bus.specs.Watch.{WritesText}
+use Rattle.usb_bus.specs.Written.{WritesText}
 
 -- an attempt was made, or the bus gave it up: what is so of the world then, what the host got, and
 -- what was written

@@ -12,11 +12,9 @@
 mod bus;
 mod outcome_kind;
 mod rows;
-mod watched;
 
 pub use bus::Bus;
 pub use outcome_kind::OutcomeKind;
 pub use rows::{ROW_PACKETS, ROW_ROOM, RowDone, RowEnd};
 pub use usb_packet::{Speed, Toggle};
 pub use usb_world::{Attempt, BusFault, Destination, Outcome};
-pub use watched::{Watched, WriteFailed, put_piece, put_pieces};

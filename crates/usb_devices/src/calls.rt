@@ -4,8 +4,8 @@ ghost use Rattle.usb_linked.specs.Linked.{IsUnopened, Opens, devices_state};
 ghost use Rattle.usb_devices.specs.Exports.{ask_number, far_number, open_number};
 
 use std::alloc::Global;
-use usb_bus::BusFault;
 use usb_linked::{Devices, FarFault, OpenFault};
+use usb_world::BusFault;
 
 /// The call is done.
 pub(crate) const DONE: u8 = 0;

@@ -3,7 +3,7 @@ use Rattle.std.specs.Prelude.{◌≡◌, ◌≢◌, ⊤, ℕ, List, Option, None
 use Rattle.std.specs.Io.KnownBytes.{Appends}
 use Rattle.toml.specs.Data.{Members}
 use Rattle.toml.specs.Parse.{parse_document}
-use Rattle.usb_bus.specs.{AppendsFront}
+use Rattle.usb_watch.specs.{AppendsFront}
 use Rattle.usb_plan.specs.{spelled_plan, PlanFault}
 use Rattle.usb_plan.specs.declared.fault.PlanFault.TheVariants as plan
 use Rattle.usb_world.specs.{PlanData}

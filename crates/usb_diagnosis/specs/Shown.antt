@@ -1,7 +1,7 @@
 -- Texts of a plan, made fit for one line.
 use Rattle.std.specs.Prelude.{ℕ, nat_lt, codes, List, [], ◌++◌, length, take, flat_map, encode_utf8}
 use Rattle.std.specs.Prelude.{if◌then◌else◌}
-use Rattle.usb_bus.specs.{ends_line, escaped}
+use Rattle.usb_watch.specs.{ends_line, escaped}
 
 -- what may end a line as \u and four digits, any other character as it is
 abbrev pub char_shown : ℕ → List ℕ

@@ -4,7 +4,7 @@ ghost use Rattle.std.specs.Prelude.{◌≡◌, ◌≢◌, ◌≤◌, Err, IfOk, 
 ghost use Rattle.std.specs.Str.{valid_up_to};
 ghost use Rattle.toml.specs.Parse.{parse_document};
 ghost use Rattle.toml.specs.View.{table_view};
-ghost use Rattle.usb_bus.specs.Watch.{inner_of, has_failed};
+ghost use Rattle.usb_watch.specs.Watch.{inner_of, has_failed};
 ghost use Rattle.usb_plan.specs.declared.fault.PlanFault.TheVariants as plan;
 ghost use Rattle.usb_diagnosis.specs.Checking.{BeginsAt, ListsIn, TellsVerdict, WritesVerdict};
 ghost use Rattle.usb_diagnosis.specs.Listing.{BeginsWith, IsLed, ListsFaults};
@@ -25,8 +25,8 @@ use std::str;
 use std::str::Utf8Error;
 use thiserror::Error;
 use toml::Table;
-use usb_bus::{Watched, WriteFailed, put_piece};
 use usb_plan::{Place, PlanFault, read_plan};
+use usb_watch::{Watched, WriteFailed, put_piece};
 
 /// What a text is.
 #[derive(Clone, Copy, Debug, PartialEq, Eq)]

@@ -1,16 +1,16 @@
 //! A plan's text in, the drawings of its run out.
 ghost use Rattle.std.specs.Prelude.{◌≡◌, ◌≢◌, ◌+◌, ◌≤◌, ◌<◌, Ok, Err, true, length, IsErrOf, IfErr, IfOk, IfSome};
-ghost use Rattle.usb_bus.specs.Watch.{inner_of, has_failed, calls_of};
+ghost use Rattle.usb_watch.specs.Watch.{inner_of, has_failed, calls_of};
 ghost use Rattle.usb_drawing.specs.DrawnRuns.{IsDrawn, MarksDrawing, drawn_lines};
 
 use crate::art::Style;
 use crate::listing::drawing_lines;
 use std::alloc::{AllocError, Global};
 use std::io::{Read, Write};
-use usb_bus::Watched;
 use usb_serve::{Item, ItemLines, ServeFault, item_lines, plan_of, write_items};
 use usb_sim::Plan;
 use usb_text::Lines;
+use usb_watch::Watched;
 
 /// Reads a plan, runs it, and writes each listing as a tree when it is made, and the line of each transfer between
 /// them.

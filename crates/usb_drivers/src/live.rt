@@ -9,9 +9,10 @@ use crate::settle;
 use anyhow::Result;
 use std::alloc::Global;
 use std::io::{self, BufReader, Read, Write};
-use usb_bus::{Bus, Watched};
+use usb_bus::Bus;
 use usb_host::{Host, News, PortPath};
 use usb_stream::StreamBus;
+use usb_watch::Watched;
 use usb_wire::Answer;
 
 /// The most news between two turns: each address left, and each arrived.

@@ -3,7 +3,7 @@ use Rattle.std.specs.Prelude.{◌≡◌, ◌≢◌, ◌⊎◌, ◌++◌, ℕ, Li
 use Rattle.std.specs.Prelude.{Err, length}
 use Rattle.std.specs.List.{AllByRecursion}
 use Rattle.std.specs.Io.KnownBytes.{Appends}
-use Rattle.usb_bus.specs.{AppendsFront}
+use Rattle.usb_watch.specs.{AppendsFront}
 use Rattle.usb_entry.specs.declared.fault.EntryFault.{EntryFault}
 use Rattle.usb_entry.specs.declared.fault.EntryFault.TheVariants.{NoName, Write}
 use Rattle.usb_entry.specs.declared.source.Source.{Source}

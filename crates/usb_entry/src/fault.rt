@@ -1,7 +1,7 @@
 use std::alloc::{AllocError, AllocFailed};
 use thiserror::Error;
-use usb_bus::WriteFailed;
 use usb_descriptor::DescriptorFault;
+use usb_watch::WriteFailed;
 
 /// Why bytes give no entry of a plan, in the order in which the reasons are told. Offsets are in bytes, from 0.
 #[derive(Clone, Copy, Debug, PartialEq, Eq, Error)]

@@ -1,13 +1,13 @@
 //! The bytes of devices in, the entries of a plan out.
 ghost use Rattle.std.specs.Prelude.{◌≡◌, true, IfErr};
-ghost use Rattle.usb_bus.specs.Watch.{inner_of, has_failed};
+ghost use Rattle.usb_watch.specs.Watch.{inner_of, has_failed};
 ghost use Rattle.usb_entry.specs.Writing.{MarksAtWrite, WritesEntries};
 
 use crate::fault::EntryFault;
 use crate::source::{Source, tables_of};
 use std::alloc::Global;
 use std::io::Write;
-use usb_bus::{Watched, put_piece};
+use usb_watch::{Watched, put_piece};
 
 /// Writes the `[[device]]` tables of a plan for these devices, in order, each with this number of ports, 1 to 7, if it
 /// is a hub.

@@ -8,8 +8,8 @@ use Rattle.std.proofs.lemmas.List.Elements.{All-nil, All-push}
 use Rattle.std.proofs.lemmas.Bool.{eqb-true}
 use Rattle.std.proofs.KnownBytes.{Appends-nil, Appends-trans, Consumes-trans}
 use Rattle.std.specs.Io.KnownBytes.{Appends, Consumes, IsAtEnd}
-use Rattle.usb_bus.specs.{AppendsFront}
-use Rattle.usb_bus.proofs.Interface.{front_after_first}
+use Rattle.usb_watch.specs.{AppendsFront}
+use Rattle.usb_watch.proofs.Interface.{front_after_first}
 use Rattle.usb_pcap.specs.{IsAttemptLine, IsRunLine, IsTold, TracedAttempt, longest, next_number}
 use Rattle.usb_pcap.specs.{read_attempt}
 use Rattle.usb_explain.specs.{BeginsOtherwise, BegunLine, ExplainFault, ExplainedInPart}

@@ -3,8 +3,8 @@ use Rattle.std.proofs.Common.{◌≡◌, ℕ, Bool, true, List, ◌++◌, Option
 use Rattle.std.proofs.Common.{sym, ap, subst, ◌∙◌, append_assoc}
 use Rattle.std.proofs.KnownBytes.{Appends-trans}
 use Rattle.std.specs.Io.KnownBytes.{Appends}
-use Rattle.usb_bus.specs.{AppendsFront, PutsText}
-use Rattle.usb_bus.proofs.Interface.{front_after_first}
+use Rattle.usb_watch.specs.{AppendsFront, PutsText}
+use Rattle.usb_watch.proofs.Interface.{front_after_first}
 
 -- the first of two went out, and what came of the second
 pub puts_after : {T A E : Type 0} (text : T → Option (List ℕ)) (failed : T → Bool) (a b c : T)

@@ -8,7 +8,7 @@ use Rattle.usb_packet.specs.{Packet, Token, Sof, Payload, Ack, Nak, Stall, Pre}
 use Rattle.usb_port.specs.{path_text}
 use Rattle.usb_request.specs.{Setup}
 use Rattle.usb_world.specs.{Exchange, Outgoing}
-use Rattle.usb_bus.specs.{AppendsFront}
+use Rattle.usb_watch.specs.{AppendsFront}
 use Rattle.usb_pcap.specs.{IsRunLine, TracedAttempt, longest, next_number, read_attempt}
 use Rattle.usb_explain.specs.declared.explaining.BegunLine.{BegunLine}
 use Rattle.usb_explain.specs.declared.explaining.ExplainFault.{ExplainFault}

@@ -1,6 +1,6 @@
 //! A run's text in, the text with its requests in words out.
 ghost use Rattle.std.specs.Prelude.{◌≡◌, ◌≢◌, ◌≤◌, ℕ, List, Option, [], ◌∷◌, ◌++◌, length, true, Err, IfSome, IsErrOf};
-ghost use Rattle.usb_bus.specs.Watch.{inner_of, has_failed};
+ghost use Rattle.usb_watch.specs.Watch.{inner_of, has_failed};
 ghost use Rattle.usb_explain.specs.Explained.{ExplainsText, KeepsLine, Reaches, ReachesOr};
 ghost use Rattle.usb_explain.specs.Places.{nothing_known};
 ghost use Rattle.usb_pcap.specs.Capture.{longest};
@@ -11,8 +11,8 @@ use crate::words::put_kept;
 use arrayvec::ArrayVec;
 use std::io::{Read, Write};
 use thiserror::Error;
-use usb_bus::Watched;
 use usb_pcap::{is_told, read_attempt};
+use usb_watch::Watched;
 
 /// Why a text was not explained to its end.
 #[derive(Clone, Copy, Debug, PartialEq, Eq, Error)]

@@ -1,6 +1,6 @@
 //! Phrases: what the words of a request are made of.
 ghost use Rattle.std.specs.Prelude.{◌≡◌, flat_map, map, option_map};
-ghost use Rattle.usb_bus.specs.Watch.{PutsText, has_failed, known_text};
+ghost use Rattle.usb_watch.specs.Watch.{PutsText, has_failed, known_text};
 ghost use Rattle.usb_explain.specs.Words.{endpoint_text, fits_row, is_endpoint, names, phrase_fits, phrase_text, row_for, row_text, said_of, way_word, word_for};
 ghost use Rattle.std.specs.Prelude.{◌++◌, ◌∷◌, ◌/◌, ◌%◌, [], decimal};
 ghost use Rattle.hex.specs.Hex.{encode_upper};
@@ -8,9 +8,9 @@ ghost use Rattle.hex.specs.Hex.{encode_upper};
 use crate::field::{SetupField, field_value};
 use arrayvec::ArrayString;
 use std::io::Write;
-use usb_bus::{Watched, WriteFailed, put_pieces};
 use usb_packet::{hex_digits, push_decimal};
 use usb_request::Setup;
+use usb_watch::{Watched, WriteFailed, put_pieces};
 
 /// A value of a field, and its name.
 pub(crate) type Named = (u16, &'static str);

@@ -1,15 +1,15 @@
 //! The words of a line's request.
 ghost use Rattle.std.specs.Prelude.{◌++◌};
-ghost use Rattle.usb_bus.specs.Watch.{PutsText, has_failed, known_text};
+ghost use Rattle.usb_watch.specs.Watch.{PutsText, has_failed, known_text};
 ghost use Rattle.usb_explain.specs.Explained.{kept_text, path_end, request_words, words_behind};
 
 use crate::only::Kept;
 use crate::phrase::{put_bytes, put_row, row_for};
 use crate::table::ROWS;
 use std::io::Write;
-use usb_bus::{Watched, WriteFailed, put_pieces};
 use usb_port::PortPath;
 use usb_request::Setup;
+use usb_watch::{Watched, WriteFailed, put_pieces};
 
 /// Writes what is kept of a line.
 pub(crate) fn put_kept<W: Write>(

@@ -13,7 +13,8 @@ use Rattle.usb_world.specs.declared.event.Ask.{Ask}
 use Rattle.usb_world.specs.{Attempt, BusFault, Outcome, PutLine, World, roots_of, EventEnds, after}
 use Rattle.usb_world.specs.{attempt, event}
 use Rattle.usb_world.specs.{outcome_in, root_call}
-use Rattle.usb_bus.specs.{lines_between, next_due, step_lines, AppendsFront, Attempts, TakesEvent}
+use Rattle.usb_bus.specs.{lines_between, next_due, step_lines, Attempts, TakesEvent}
+use Rattle.usb_watch.specs.{AppendsFront}
 use Rattle.usb_wire.specs.{Answer, Answered, Asked, Done, RootsAndRows, Question}
 use Rattle.usb_wire.specs.{kind_asked}
 use Rattle.usb_wire.specs.declared.question.Question.TheVariants.{Hello}

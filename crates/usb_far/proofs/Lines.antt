@@ -12,9 +12,8 @@ use Rattle.std.proofs.lemmas.List.{take-append-le, take_all}
 use Rattle.std.proofs.lemmas.List.Elements.{All-append}
 use Rattle.std.specs.Io.KnownBytes.{Appends, Consumes}
 use Rattle.arrayvec.specs.ArrayVec.{ArrayVec}
-use Rattle.usb_bus.specs.{is_some_text}
-use Rattle.usb_lines.specs.{EndsLine, FailsToFlush, Flushes, IsNextLine, IsUnbroken, OutPipe, Pipe}
-use Rattle.usb_lines.specs.{LineFault, Read, Cut, Reads}
+use Rattle.usb_watch.specs.{is_some_text, EndsLine, FailsToFlush, Flushes, IsNextLine, IsUnbroken}
+use Rattle.usb_watch.specs.{OutPipe, Pipe, LineFault, Read, Cut, Reads}
 use Rattle.usb_wire.specs.{Answer, Answered, Asked, IsQuestion, kind_asked}
 use Rattle.usb_wire.specs.{said_line, Question}
 use Rattle.usb_wire.specs.declared.question.Asked.TheVariants as asked

@@ -16,9 +16,9 @@ use Rattle.usb_world.specs.{outcome_in, root_call}
 use Rattle.usb_world.specs.declared.types.Outcome.TheVariants as outcome
 use Rattle.usb_sim.specs.{Ghosts, answered_by, answered_in, followed, trace_of, tracer_of}
 use Rattle.usb_sim.specs.{world_of}
-use Rattle.usb_bus.specs.{lines_between, next_due, step_lines, AppendsFront, Attempts, TakesEvent}
-use Rattle.usb_lines.specs.{Pipe, LineFault}
-use Rattle.usb_lines.specs.declared.line.LineFault.TheVariants as line
+use Rattle.usb_bus.specs.{lines_between, next_due, step_lines, Attempts, TakesEvent}
+use Rattle.usb_watch.specs.{AppendsFront, Pipe, LineFault}
+use Rattle.usb_watch.specs.declared.line.LineFault.TheVariants as line
 use Rattle.usb_wire.specs.{said_line, kind_asked, Answer}
 use Rattle.usb_wire.specs.{RootsAndRows, Ack, Nak, Stall, Nothing, Data, Done}
 use Rattle.usb_wire.specs.{Said, Changed, Answered, Asked, DataPacket, Endpoint, Question}

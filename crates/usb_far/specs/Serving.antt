@@ -4,8 +4,8 @@ use Rattle.std.specs.Prelude.{List, [], ◌∷◌, ◌++◌, take}
 use Rattle.std.specs.Prelude.{Option, None, Some, Result, Ok, Err}
 use Rattle.std.specs.Io.KnownBytes.{Appends, Consumes, IsAtEnd}
 use Rattle.usb_sim.specs.{Ghosts}
-use Rattle.usb_bus.specs.{Watched, is_some_text}
-use Rattle.usb_lines.specs.{Flushes, IsUnbroken, OutPipe, Pipe, out_pipe_of, pipe_of}
+use Rattle.usb_watch.specs.{Watched, is_some_text, Flushes, IsUnbroken, OutPipe, Pipe, out_pipe_of}
+use Rattle.usb_watch.specs.{pipe_of}
 use Rattle.usb_wire.specs.{IsQuestion, IsQuestionLine, Question}
 use Rattle.usb_far.specs.declared.far_end.FarEnd.{FarEnd}
 use Rattle.usb_far.specs.declared.fault.FarFault.{FarFault}

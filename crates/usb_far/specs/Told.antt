@@ -6,8 +6,7 @@ use Rattle.std.specs.List.{starts_with}
 use Rattle.std.specs.Str.{bytes_eq}
 use Rattle.std.specs.Io.KnownBytes.{Consumes, IsAtEnd}
 use Rattle.usb_sim.specs.{Ghosts}
-use Rattle.usb_bus.specs.{Watched}
-use Rattle.usb_lines.specs.{IsUnbroken, Pipe, Reads, pipe_of}
+use Rattle.usb_watch.specs.{Watched, IsUnbroken, Pipe, Reads, pipe_of}
 use Rattle.usb_wire.specs.{IsQuestion, IsQuestionLine, all_printable, Question}
 use Rattle.usb_far.specs.declared.far_end.FarEnd.{FarEnd}
 use Rattle.usb_far.specs.declared.far_end.Phase.{Phase}

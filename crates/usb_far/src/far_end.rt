@@ -5,9 +5,9 @@ ghost use Rattle.usb_sim.specs.declared.sim.follow.FollowFault.TheVariants.{Unli
 ghost use Rattle.usb_world.specs.Steps.{after, opening, root_call};
 ghost use Rattle.usb_world.specs.PlainAttempts.{attempt_data};
 ghost use Rattle.usb_world.specs.Worlds.{IsAttempt, IsRootPort};
-ghost use Rattle.usb_bus.specs.Watch.{has_failed};
+ghost use Rattle.usb_watch.specs.Watch.{has_failed};
 ghost use Rattle.usb_sim.specs.Sim.{trace_of, tracer_of, world_of};
-ghost use Rattle.usb_lines.specs.Pipes.{pipe_of};
+ghost use Rattle.usb_watch.specs.Pipes.{pipe_of};
 ghost use Rattle.usb_wire.specs.Questions.{IsEndpoint, IsQuestion};
 ghost use Rattle.usb_far.specs.FarEnd.{IsEventGivenUp, IsGivenUp, HasNoPort, IsDone, IsUnanswered, SendsTooMuch, attempt_done, call_done, done, is_damaged, restart_done, statuses, unseen_in, wait_done};
 
@@ -18,13 +18,14 @@ use crate::wanted::{Sending, due_wanted, next_part};
 use arrayvec::ArrayVec;
 use std::alloc::{AllocError, Global};
 use std::io::Write;
-use usb_bus::{Attempt, Bus, Watched};
+use usb_bus::{Attempt, Bus};
 use usb_exchange::damage_of;
 use usb_port::PortCall;
 use usb_request::feature::{
     C_PORT_CONNECTION, C_PORT_ENABLE, C_PORT_RESET, PORT_ENABLE, PORT_POWER, PORT_RESET,
 };
 use usb_sim::{FollowFault, Plan, SimBus, Trace, Tracer, Untraced};
+use usb_watch::Watched;
 use usb_wire::{Answer, Endpoint, Question};
 
 /// The statuses of root ports, port 1 first.

@@ -4,7 +4,7 @@ ghost use Rattle.usb_far.specs.FarEnd.{reading_fault};
 
 use thiserror::Error;
 use usb_bus::BusFault;
-use usb_lines::LineFault;
+use usb_watch::LineFault;
 
 /// Why the controller side says no more.
 #[derive(Clone, Copy, Debug, PartialEq, Eq, Error)]

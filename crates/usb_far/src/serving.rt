@@ -1,6 +1,6 @@
 //! The host's lines in, the controller side's lines out.
 ghost use Rattle.std.specs.Prelude.{◌≡◌};
-ghost use Rattle.usb_lines.specs.Pipes.{out_pipe_of};
+ghost use Rattle.usb_watch.specs.Pipes.{out_pipe_of};
 ghost use Rattle.usb_far.specs.FarEnd.{played_of};
 ghost use Rattle.usb_wire.specs.Questions.{IsQuestion};
 ghost use Rattle.usb_far.specs.Serving.{RepliesAll, ServesHost, ServesNext, scene};
@@ -10,9 +10,8 @@ use crate::fault::FarFault;
 use crate::reply::Replied;
 use crate::told::HostLine;
 use std::io::{Read, Write};
-use usb_bus::Watched;
-use usb_lines::put_lines;
 use usb_sim::Trace;
+use usb_watch::{Watched, put_lines};
 use usb_wire::Question;
 
 /// Answers the host's lines until its input ends, or until a fault.

@@ -1,8 +1,8 @@
 //! The host's lines, one by one.
 ghost use Rattle.std.specs.Prelude.{◌≡◌, ◌≤◌, ◌∷◌, ◌++◌, [], ℕ, length, IfErr, IfOk};
 ghost use Rattle.std.specs.Io.KnownBytes.{Consumes};
-ghost use Rattle.usb_lines.specs.Lines.{IsUnbroken};
-ghost use Rattle.usb_lines.specs.Pipes.{Pipe as APipe, pipe_of};
+ghost use Rattle.usb_watch.specs.Lines.{IsUnbroken};
+ghost use Rattle.usb_watch.specs.Pipes.{Pipe as APipe, pipe_of};
 ghost use Rattle.usb_wire.specs.Words.{all_printable, is_printable};
 ghost use Rattle.usb_far.specs.FarEnd.{played_of};
 ghost use Rattle.usb_far.specs.Told.{HasNoQuestion, HasQuestion, TakesLine, begins_block, begins_with, is_report, is_told, phase_behind};
@@ -12,9 +12,8 @@ use crate::fault::FarFault;
 use crate::reply::may_ask;
 use arrayvec::ArrayVec;
 use std::io::Read;
-use usb_bus::Watched;
-use usb_lines::{Line, read_line, skip_line};
 use usb_sim::Trace;
+use usb_watch::{Line, Watched, read_line, skip_line};
 use usb_wire::{Question, read_question};
 
 /// What a line of the host is.

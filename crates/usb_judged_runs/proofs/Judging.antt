@@ -1,7 +1,7 @@
 -- A host that is judged, line after line, comes to the worlds of placed runs.
 use Rattle.std.proofs.Common.{◌≡◌, ◌∙◌, ap, refl, sym, subst, ℕ, true, List, [], Option, Some}
 use Rattle.std.proofs.Common.{option_map}
-use Rattle.usb_lines.specs.{OutPipe}
+use Rattle.usb_watch.specs.{OutPipe}
 use Rattle.usb_world.specs.{Step, World, damages_fit, opening}
 use Rattle.usb_following.specs.{run}
 use Rattle.usb_wire.specs.{Question}

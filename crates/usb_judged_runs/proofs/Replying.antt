@@ -3,7 +3,7 @@ use Rattle.std.proofs.Common.{◌≡◌, ◌∙◌, ap, sym, subst, ℕ, ◌+◌
 use Rattle.std.proofs.Common.{take, Option, None, option_map}
 use Rattle.std.proofs.KnownBytes.{Appends-nil, Appends-trans, Consumes-nil, Consumes-trans}
 use Rattle.std.specs.Io.KnownBytes.{Appends, Consumes}
-use Rattle.usb_lines.specs.{OutPipe}
+use Rattle.usb_watch.specs.{OutPipe}
 use Rattle.usb_wire.specs.{Question}
 use Rattle.usb_far.specs.{AllReplied, Far, GoesOn, IsReplied, LineReplied, Passed, Played}
 use Rattle.usb_far.specs.{Replied, RowReplied, Scene, and_then, done, is_told, passed, phase_behind}

@@ -7,9 +7,9 @@ use std::alloc::Global;
 use std::cmp::min;
 use std::io::{Sink, sink};
 use std::mem::replace;
-use usb_bus::Watched;
 use usb_far::{FarEnd, FarFault, serve};
 use usb_sim::Tracer;
+use usb_watch::Watched;
 
 /// The devices of a plan as the controller side of a host's lines, and the bytes that they have
 /// said and nobody has fetched.

@@ -12,7 +12,7 @@ use Rattle.usb_world.specs.declared.types.Attempt.TheVariants as attempt
 use Rattle.usb_wire.specs.{Answer, Question}
 use Rattle.usb_wire.specs.declared.answer.Answer.TheVariants as answer
 use Rattle.usb_wire.specs.declared.question.Question.TheVariants.{Hello, Wait, Port}
-use Rattle.usb_lines.specs.{OutPipe, Pipe}
+use Rattle.usb_watch.specs.{OutPipe, Pipe}
 use Rattle.usb_stream.specs.{AsksNoQuestion, AsksOnce, AttemptsByLine, AttemptsBy, Calls, Kept}
 use Rattle.usb_stream.specs.{Restarts, restart_of}
 use Rattle.usb_stream.specs.{SaysHello, WritesLines, bus_fault, greeted, kept_of, question_for}

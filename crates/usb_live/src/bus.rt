@@ -1,6 +1,6 @@
 //! A bus that knows its course.
 ghost use Rattle.std.specs.Prelude.{◌≡◌, ◌^◌, ◌<◌, ℕ, None, false, option_map};
-ghost use Rattle.usb_lines.specs.Pipes.{OutPipe as AnOutPipe, Pipe as APipe, out_pipe_of, pipe_of};
+ghost use Rattle.usb_watch.specs.Pipes.{OutPipe as AnOutPipe, Pipe as APipe, out_pipe_of, pipe_of};
 ghost use Rattle.usb_stream.specs.Stream.{SaysHello, kept_of, streams, unread_of, written_of};
 ghost use Rattle.usb_live.specs.Course.{CourseTo, LiveHost, live_host};
 
@@ -10,9 +10,10 @@ use crate::stage::{Stage, stage_behind, stage_of};
 use arrayvec::ArrayVec;
 use std::io::{Read, Write};
 use std::marker::{Brand, PhantomData};
-use usb_bus::{Attempt, Bus, BusFault, Destination, Outcome, ROW_ROOM, RowDone, Toggle, Watched};
+use usb_bus::{Attempt, Bus, BusFault, Destination, Outcome, ROW_ROOM, RowDone, Toggle};
 use usb_run::{Item, number_of};
 use usb_stream::{LiveFault, StreamBus};
+use usb_watch::Watched;
 use usb_wire::Answer;
 
 /// Where a course begins.

@@ -1,7 +1,7 @@
 //! The host, from the hello to the end.
 ghost use Rattle.std.specs.Prelude.{◌≡◌, IfOk, IfSome, OnOk, false};
 ghost use Rattle.usb_run.specs.{usual_options, written_lines};
-ghost use Rattle.usb_lines.specs.Pipes.{out_pipe_of, pipe_of};
+ghost use Rattle.usb_watch.specs.Pipes.{out_pipe_of, pipe_of};
 ghost use Rattle.usb_live.specs.Course.{IsShown, ListsEntries, Lives, goes_on, live_host, told_text};
 ghost use Rattle.usb_live.specs.Wanted.{IsOwed};
 
@@ -11,8 +11,8 @@ use crate::wanted::item_of;
 use std::alloc::{AllocError, Global};
 use std::io::{Read, Write};
 use std::marker::Brand;
-use usb_bus::Watched;
 use usb_run::{Host, HostFault, Item, Round, RunFault, item_lines};
+use usb_watch::Watched;
 use usb_wire::Answer;
 
 /// The number of rounds in a row that may work before the one after which the host asks what is

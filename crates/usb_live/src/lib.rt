@@ -25,6 +25,6 @@ mod wanted;
 
 pub use end::LiveEnd;
 pub use host::live;
-pub use usb_bus::Watched;
 pub use usb_stream::LiveFault;
+pub use usb_watch::Watched;
 pub use usb_wire::WireFault;

@@ -1,6 +1,6 @@
 //! A run's text in, its page out.
 ghost use Rattle.std.specs.Prelude.{◌≡◌, IfOk, IfErr};
-ghost use Rattle.usb_bus.specs.Watch.{has_failed, known_text, PutsText};
+ghost use Rattle.usb_watch.specs.Watch.{has_failed, known_text, PutsText};
 ghost use Rattle.usb_page.specs.Pages.{page_text};
 
 use crate::escape::escaped;
@@ -8,7 +8,7 @@ use crate::markup::{HEAD, MIDDLE};
 use crate::script::TAIL;
 use std::alloc::{AllocError, Global};
 use std::io::Write;
-use usb_bus::{Watched, WriteFailed, put_pieces};
+use usb_watch::{Watched, WriteFailed, put_pieces};
 
 /// Writes the page of a run's text. The name is its title.
 ///

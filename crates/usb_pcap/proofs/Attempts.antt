@@ -6,9 +6,9 @@ use Rattle.std.proofs.lemmas.Option.{option_and_then_some, same_Some}
 use Rattle.std.proofs.lemmas.Bool.{ltb-true}
 use Rattle.std.specs.Option.{option_and_then}
 use Rattle.usb_packet.specs.{Packet, text_of}
-use Rattle.usb_world.specs.{ExchangeAnswer, Mark, Whole, Outgoing}
+use Rattle.usb_world.specs.{ExchangeAnswer, Mark, Whole, Outgoing, answer_text, attempt_line}
+use Rattle.usb_world.specs.{host_text, mark_text, next_text, pre_text}
 use Rattle.usb_world.specs.declared.exchange.ExchangeAnswer.TheVariants.{Nothing, One, Collision}
-use Rattle.usb_bus.specs.{answer_text, attempt_line, host_text, mark_text, next_text, pre_text}
 use Rattle.usb_pcap.specs.{TracedAttempt, decimal_in, strip, packet_in, packet_mark_in}
 use Rattle.usb_pcap.specs.{IsAttemptLine, IsMarkedAnswer, IsSent, IsTraced, answer_in}
 use Rattle.usb_pcap.specs.{attempt_answered, attempt_begun, attempt_in, behind_pre, data_follow}

@@ -12,8 +12,8 @@ use Rattle.std.proofs.lemmas.Bool.{and_parts, eqb-true, lt-ltb, ltb-true}
 use Rattle.std.proofs.lemmas.Bool.Decides.{nat_tests}
 use Rattle.std.proofs.KnownBytes.{Appends-trans, Consumes-trans}
 use Rattle.std.specs.Io.KnownBytes.{Appends, Consumes, IsAtEnd}
-use Rattle.usb_bus.specs.{AppendsFront}
-use Rattle.usb_bus.proofs.Interface.{front_after_first}
+use Rattle.usb_watch.specs.{AppendsFront}
+use Rattle.usb_watch.proofs.Interface.{front_after_first}
 use Rattle.usb_pcap.specs.{OpenLine, PcapFault, Read, Line as BadLine, TooLong, Write}
 use Rattle.usb_pcap.specs.{TracedAttempt, IsAttemptLine, fits_form, IsReport, has_form, plug_form}
 use Rattle.usb_pcap.specs.{report_forms, AreRecords, attempt_packets, header, Captures, ComesOf}

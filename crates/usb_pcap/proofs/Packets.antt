@@ -9,8 +9,7 @@ use Rattle.hex.specs.Hex.{encode_upper, encode_with}
 use Rattle.usb_packet.specs.{TokenKind, OutTok, InTok, SetupTok, Toggle, Zero, One, Packet, Token}
 use Rattle.usb_packet.specs.{Payload, Ack, Nak, HasData, HasFields, IsBytes, data_name}
 use Rattle.usb_packet.specs.{text_of, token_name}
-use Rattle.usb_world.specs.{Mark, Whole, Lost, PreLost, Flipped}
-use Rattle.usb_bus.specs.{mark_text}
+use Rattle.usb_world.specs.{Mark, Whole, Lost, PreLost, Flipped, mark_text}
 use Rattle.usb_pcap.specs.{bytes_on, decimal_in, strip, bit_in, data_in, data_of, fitting_token}
 use Rattle.usb_pcap.specs.{handshake_in, packet_in, packet_mark_in, token_in}
 use Rattle.usb_pcap.proofs.Reading.{bytes_on-data, bytes_on-some, decimal_in-some, found_some}

@@ -10,9 +10,9 @@ use Rattle.usb_packet.specs.{TokenKind, OutTok, InTok, SetupTok, Toggle, Zero, O
 use Rattle.usb_packet.specs.{Sof, Payload, Ack, Nak, Stall, Pre, HasData, HasFields, IsBytes}
 use Rattle.usb_packet.specs.{data_name, hex_text, text_of, token_name}
 use Rattle.usb_world.specs.{ExchangeAnswer, Mark, Whole, Lost, PreLost, Flipped, Outgoing}
-use Rattle.usb_world.specs.{bit_count}
+use Rattle.usb_world.specs.{bit_count, answer_text, attempt_line, host_text, mark_text, next_text}
+use Rattle.usb_world.specs.{pre_text}
 use Rattle.usb_world.specs.declared.exchange.ExchangeAnswer.TheVariants as answer
-use Rattle.usb_bus.specs.{answer_text, attempt_line, host_text, mark_text, next_text, pre_text}
 use Rattle.usb_pcap.specs.{TracedAttempt, bytes_on, is_digit, strip, value_of, Piece, bit_in}
 use Rattle.usb_pcap.specs.{data_in, handshake_in, packet_in, packet_mark_in, token_in}
 use Rattle.usb_pcap.specs.{IsAttemptLine, IsMarkedAnswer, IsSent, IsTraced, answer_in}

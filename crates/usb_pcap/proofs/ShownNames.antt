@@ -13,7 +13,7 @@ use Rattle.std.proofs.lemmas.List.Elements.{All-tail}
 use Rattle.std.proofs.lemmas.Str.{encodes-IsAscii}
 use Rattle.std.proofs.lemmas.Str.{IsUtf8-encode, char_from_byte, cons_from_encodes, length-encode}
 use Rattle.std.specs.Char.{IsScalar, len_utf8}
-use Rattle.usb_bus.specs.{escaped, is_escaped, shown_char}
+use Rattle.usb_watch.specs.{escaped, is_escaped, shown_char}
 use Rattle.usb_pcap.specs.{Begins, IsPlainChar, IsShownChar, IsShownText, is_escape_of}
 use Rattle.usb_pcap.specs.{is_escaped_pair, pair_value}
 use Rattle.hex.specs.Hex.{encode_upper, encode_with, upper_digits}

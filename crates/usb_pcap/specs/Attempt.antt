@@ -4,9 +4,8 @@ use Rattle.std.specs.Prelude.{Some, None, is_some, codes, option_map, ifâ—Œthenâ
 use Rattle.std.specs.Option.{option_and_then}
 use Rattle.usb_packet.specs.{OutTok, InTok, SetupTok, Packet, Token, Sof, Payload, Ack, Nak, Stall}
 use Rattle.usb_packet.specs.{Pre, HasData, HasFields}
-use Rattle.usb_bus.specs.{attempt_line}
-use Rattle.usb_world.specs.{ExchangeAnswer, Mark, Whole, Lost, PreLost, Flipped, Outgoing}
-use Rattle.usb_world.specs.{bit_count}
+use Rattle.usb_world.specs.{attempt_line, ExchangeAnswer, Mark, Whole, Lost, PreLost, Flipped}
+use Rattle.usb_world.specs.{Outgoing, bit_count}
 use Rattle.usb_world.specs.declared.exchange.ExchangeAnswer.TheVariants.{Nothing, One, Collision}
 use Rattle.usb_pcap.specs.declared.attempt.TracedAttempt.{TracedAttempt}
 use Rattle.usb_pcap.specs.Text.{decimal_in, if_found, strip}

@@ -4,7 +4,7 @@ use Rattle.std.specs.Prelude.{◌∷◌, ◌++◌, length, take, All, Option, So
 use Rattle.std.specs.Prelude.{true, false}
 use Rattle.arrayvec.specs.ArrayVec.{ArrayVec}
 use Rattle.std.specs.Io.KnownBytes.{Appends}
-use Rattle.usb_bus.specs.{AppendsFront}
+use Rattle.usb_watch.specs.{AppendsFront}
 use Rattle.usb_pcap.specs.declared.attempt.TracedAttempt.{TracedAttempt}
 use Rattle.usb_pcap.specs.declared.capturing.OpenLine.{OpenLine}
 use Rattle.usb_pcap.specs.declared.capturing.PcapFault.{PcapFault}

@@ -3,7 +3,7 @@ use Rattle.std.specs.Prelude.{◌≡◌, ◌≢◌, ◌⊎◌, ℕ, ◌+◌, ◌
 use Rattle.std.specs.Prelude.{◌∷◌, ◌++◌, All, length, flat_map, encode_utf8, Option, Some, None}
 use Rattle.std.specs.Prelude.{if◌then◌else◌}
 use Rattle.std.specs.Char.{IsScalar}
-use Rattle.usb_bus.specs.{is_escaped, shown_char}
+use Rattle.usb_watch.specs.{is_escaped, shown_char}
 use Rattle.usb_pcap.specs.Text.{is_digit, value_of}
 
 -- a character as a run shows it: in UTF-8; one that may end a line, and the backslash, as \u and

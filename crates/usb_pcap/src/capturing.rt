@@ -1,6 +1,6 @@
 //! A run's text in, a pcap file out.
 ghost use Rattle.std.specs.Prelude.{◌≡◌, ◌≢◌, ℕ, List, Option, [], ◌∷◌, ◌++◌, length, nat_lt, take, true, false, not, ◌==◌, ◌&&◌, ◌||◌, Decides, Err, IfSome, IsErrOf};
-ghost use Rattle.usb_bus.specs.Watch.{inner_of, has_failed};
+ghost use Rattle.usb_watch.specs.Watch.{inner_of, has_failed};
 ghost use Rattle.usb_pcap.specs.Capture.{Captures, ComesOf, RecordsOf, StandsBehind, longest};
 ghost use Rattle.usb_pcap.specs.Grammar.{fits_form};
 ghost use Rattle.usb_pcap.specs.Report.{plug_form};
@@ -13,7 +13,7 @@ use crate::shown::{Begun, take_shown};
 use arrayvec::ArrayVec;
 use std::io::{Read, Write};
 use thiserror::Error;
-use usb_bus::{Watched, put_piece};
+use usb_watch::{Watched, put_piece};
 
 /// Why a text has no whole pcap file.
 #[derive(Clone, Copy, Debug, PartialEq, Eq, Error)]

@@ -1,6 +1,6 @@
 //! Names of devices, as a run shows them.
 ghost use Rattle.std.specs.Prelude.{◌≡◌, ◌<◌, ◌∷◌, ◌++◌, [], Decides, IfSome, IsTrue, List, ℕ, false};
-ghost use Rattle.usb_bus.specs.Shown.{is_escaped};
+ghost use Rattle.usb_watch.specs.Shown.{is_escaped};
 ghost use Rattle.usb_pcap.specs.Shown.{Begins, IsPlainChar, IsShownChar, is_escape_of, is_escaped_pair, pair_value};
 
 use crate::text::{is_digit, value_of};

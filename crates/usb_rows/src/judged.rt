@@ -4,9 +4,9 @@ use std::cell::RefCell;
 use std::io::{Error, ErrorKind, Write};
 use std::{io, str};
 use usb_bench::{Judge, judge_host};
-use usb_bus::Watched;
 use usb_far::FarEnd;
 use usb_sim::Plan;
+use usb_watch::Watched;
 
 /// The trace of a controller side.
 #[derive(Clone, Copy, Drop)]

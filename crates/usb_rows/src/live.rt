@@ -4,11 +4,11 @@ use std::cell::RefCell;
 use std::io;
 use std::io::{Error, ErrorKind, Read, Write};
 use usb_bench::{Judge, judge_host};
-use usb_bus::Watched;
 use usb_far::FarEnd;
 use usb_live::{LiveEnd, live};
 use usb_places::Places;
 use usb_sim::{Plan, Tracer};
+use usb_watch::Watched;
 
 /// The most questions.
 const LIMIT: u64 = 1_000_000;

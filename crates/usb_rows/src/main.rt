@@ -15,13 +15,13 @@ use live::course_of;
 use std::alloc::{AllocError, Global};
 use std::rt::Files;
 use std::{fs, io, str};
-use usb_bus::Watched;
 use usb_explain::{Only, explain};
 use usb_places::Places;
 use usb_run::Mode;
 use usb_serve::{ServeFault, plan_of, serve};
 use usb_sim::Plan;
 use usb_text::packet_line;
+use usb_watch::Watched;
 
 /// A line for each row of a plan: its NAME. The plan is NAME.toml; NAME.run.txt and NAME.tree.txt are what is written
 /// of it; NAME.status has the exit status and, on a second line, the fault that is reported.

@@ -4,7 +4,7 @@ use Rattle.std.specs.Prelude.{IsSome, Result, Ok, Err, OnOk, OnErr}
 use Rattle.std.specs.Io.KnownBytes.{Appends}
 use Rattle.usb_world.specs.declared.event.Ask.{Ask}
 use Rattle.usb_world.specs.{BusFault, PutLine}
-use Rattle.usb_bus.specs.{AppendsFront}
+use Rattle.usb_watch.specs.{AppendsFront}
 use Rattle.usb_host.specs.{HostState}
 use Rattle.usb_run.specs.declared.item.Item.{Item}
 use Rattle.usb_run.specs.declared.runs.RunFault.{RunFault}

@@ -7,7 +7,8 @@ ghost use Rattle.usb_world.specs.Wire.{AtMostTwoRunning};
 ghost use Rattle.usb_world.specs.Worlds.{root_row, to_come, changes};
 ghost use Rattle.usb_sim.specs.Sim.{world_of, trace_of};
 ghost use Rattle.std.specs.Io.KnownBytes.{Appends};
-ghost use Rattle.usb_bus.specs.Watch.{inner_of, has_failed, tells_failure, AppendsFront};
+ghost use Rattle.usb_watch.specs.Watch.{inner_of, has_failed, AppendsFront};
+ghost use Rattle.usb_bus.specs.Written.{tells_failure};
 ghost use Rattle.usb_world.specs.Steps.{PutLine, opening};
 ghost use Rattle.usb_enum.specs.Verdicts.{usual_options};
 ghost use Rattle.usb_host.specs.HostCalls.{NewTells};
@@ -29,12 +30,13 @@ use crate::item::Item;
 use std::alloc::{AllocError, AllocFailed, Global};
 use std::io::Write;
 use thiserror::Error;
-use usb_bus::{BusFault, Watched};
+use usb_bus::BusFault;
 use usb_enum::Finding;
 use usb_host::{Host, HostFault, Round};
 use usb_port::PortPath;
 use usb_sim::{Ask, Plan, SimBus, Trace, Tracer, Untraced, untraced_fault};
 use usb_text::Said;
+use usb_watch::Watched;
 
 /// Why a run ended early, in the order in which the reasons are reported.
 #[derive(Clone, Copy, Debug, PartialEq, Eq, Error)]

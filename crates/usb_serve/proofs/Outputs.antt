@@ -7,8 +7,8 @@ use Rattle.std.proofs.lemmas.Bool.Decides.{nat_tests}
 use lib.Seq.{take-add, take-take}
 use Rattle.std.specs.Io.KnownBytes.{Appends}
 use Rattle.std.proofs.KnownBytes.{Appends-trans}
-use Rattle.usb_bus.specs.{PutsText}
-use Rattle.usb_bus.proofs.Interface.{appends_front}
+use Rattle.usb_watch.specs.{PutsText}
+use Rattle.usb_watch.proofs.Interface.{appends_front}
 
 -- some of a text was taken, and then some more
 pub wrote_more : (a b c : Option (List ℕ)) (xs : List ℕ) (done n : ℕ) → n ≤ length xs - done

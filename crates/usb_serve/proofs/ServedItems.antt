@@ -6,8 +6,8 @@ use Rattle.std.specs.Global.{Vec}
 use Rattle.std.proofs.lemmas.List.Folds.{flat_map-map}
 use Rattle.std.specs.Io.KnownBytes.{Appends}
 use Rattle.std.proofs.KnownBytes.{Appends-nil, Appends-trans}
-use Rattle.usb_bus.specs.{AppendsFront, PutsText}
-use Rattle.usb_bus.proofs.Interface.{front_after_first}
+use Rattle.usb_watch.specs.{AppendsFront, PutsText}
+use Rattle.usb_watch.proofs.Interface.{front_after_first}
 use Rattle.usb_world.specs.{PlanData, to_come}
 use Rattle.usb_run.specs.{Answer, AppendsText, CutsText, HostState, Item, Knows, Listing, Mode}
 use Rattle.usb_run.specs.{Next, Opens, RunFault, RunsTo, StoppedRun, Tree, begun, behind}

@@ -2,7 +2,7 @@
 use Rattle.std.proofs.Common.{◌≡◌, ◌≢◌, ◌∙◌, refl, sym, ap, subst, ℕ, List, Option, Some, Result}
 use Rattle.std.proofs.Common.{Ok, Err, OnOk, OnErr, IfErr, IfSome, Bool, true, false, is_err}
 use Rattle.std.specs.Io.KnownBytes.{Keeps}
-use Rattle.usb_bus.specs.{WriteFailed}
+use Rattle.usb_watch.specs.{WriteFailed}
 use Rattle.usb_world.specs.{PlanData, World}
 use Rattle.usb_world.specs.declared.types.BusFault.TheVariants as bus
 use Rattle.usb_plan.specs.{spelled_plan}

@@ -1,7 +1,7 @@
 -- Text that goes out through a buffer.
 use Rattle.std.specs.Prelude.{◌≡◌, ⊤, ℕ, List, ◌++◌, Option, None, Some, Bool}
 use Rattle.std.specs.Io.KnownBytes.{append_known}
-use Rattle.usb_bus.specs.{Watched, inner_of, has_failed}
+use Rattle.usb_watch.specs.{Watched, inner_of, has_failed}
 use Rattle.usb_serve.specs.declared.output.Output.{Output}
 
 -- where the bytes go out

@@ -3,7 +3,7 @@ use Rattle.std.specs.Prelude.{◌≡◌, ◌≢◌, ◌<◌, ◌≤◌, ⊤, ◌
 use Rattle.std.specs.Prelude.{Bool, true, false, Result, Ok, Err, IsErrOf, IfErr, IfSome, IsUtf8}
 use Rattle.std.specs.Io.KnownBytes.{Appends}
 use Rattle.usb_world.specs.{PlanData}
-use Rattle.usb_bus.specs.{AppendsFront}
+use Rattle.usb_watch.specs.{AppendsFront}
 use Rattle.usb_run.specs.{HostState, Item, LimitReached, ListsRight, Mode, Opens, RunsTo, Tree}
 use Rattle.usb_run.specs.{item_lines, items_text, plug_events}
 use Rattle.usb_plan.specs.{PlanFault, bound_of, spelled_plan}

@@ -2,7 +2,7 @@
 use Rattle.std.specs.Prelude.{◌≡◌, ◌⊎◌, ℕ, List, Option, false, Result, Ok, Err, IfErr}
 use Rattle.std.specs.Io.KnownBytes.{Appends}
 use Rattle.usb_world.specs.{PlanData}
-use Rattle.usb_bus.specs.{AppendsFront}
+use Rattle.usb_watch.specs.{AppendsFront}
 use Rattle.usb_run.specs.{HostState}
 use Rattle.usb_run.specs.{Item, ListsRight, Memory, Opens, RunsTo, Tree, items_text, never}
 use Rattle.usb_serve.specs.declared.serving.ServeFault.{ServeFault}

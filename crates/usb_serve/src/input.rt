@@ -1,13 +1,13 @@
 //! The whole text of a reader, up to the limit.
 ghost use Rattle.std.specs.Prelude.{◌≡◌, ◌≢◌, ◌+◌, ◌≤◌, ◌<◌, Err, length, IfOk, IfSome, IsErrOf, true, false};
 ghost use Rattle.std.specs.Io.KnownBytes.{Consumes};
-ghost use Rattle.usb_bus.specs.Watch.{inner_of, has_failed, calls_of};
+ghost use Rattle.usb_watch.specs.Watch.{inner_of, has_failed, calls_of};
 ghost use Rattle.usb_serve.specs.declared.input.InputFault.TheVariants.{Memory};
 
 use std::alloc::{AllocError, Global};
 use std::io::Read;
 use thiserror::Error;
-use usb_bus::Watched;
+use usb_watch::Watched;
 
 /// The longest text, in bytes.
 pub const LIMIT: usize = 1_048_576;

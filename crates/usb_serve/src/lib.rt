@@ -21,9 +21,9 @@ pub use input::{InputFault, read_text};
 pub use items::ItemLines;
 pub use output::{Output, ROOM};
 pub use serving::{ServeFault, plan_of, serve, serve_through, write_items};
-pub use usb_bus::{Watched, WriteFailed};
 pub use usb_plan::PlanFault;
 pub use usb_run::{
     BusFault, Item, Mode, Plan, RunFault, Runner, Trace, Untraced, item_lines, number_of,
 };
 pub use usb_text::Lines;
+pub use usb_watch::{Watched, WriteFailed};

@@ -2,13 +2,13 @@
 ghost use Rattle.std.specs.Prelude.{◌≡◌, ◌≤◌, ◌⊎◌, [], true, false, is_err, length, take, drop, map, flat_map, IsOk, IfOk, OnOk, OnErr, codes};
 ghost use Rattle.std.specs.Io.{WritesAtMost};
 ghost use Rattle.std.specs.Io.KnownBytes.{Appends, Keeps, WriteAppends};
-ghost use Rattle.usb_bus.specs.Watch.{inner_of, has_failed, write_fails, PutsText};
+ghost use Rattle.usb_watch.specs.Watch.{inner_of, has_failed, write_fails, PutsText};
 ghost use Rattle.usb_serve.specs.ListingEnds.{IsListingEnd};
 
 use std::alloc::{AllocError, Global};
 use std::io;
 use std::io::{Error, ErrorKind, Write};
-use usb_bus::{Watched, WriteFailed, put_pieces};
+use usb_watch::{Watched, WriteFailed, put_pieces};
 
 /// Room for what waits, in bytes.
 pub const ROOM: usize = 65_536;

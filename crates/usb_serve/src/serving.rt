@@ -1,6 +1,6 @@
 //! A plan's text in, the text of its run out.
 ghost use Rattle.std.specs.Prelude.{◌≡◌, ◌≢◌, ◌+◌, ◌<◌, ◌≤◌, ◌++◌, IsSome, Ok, Err, true, false, IfErr, IfOk, IfSome, OnErr, OnOk, [], ◌∷◌};
-ghost use Rattle.usb_bus.specs.Watch.{inner_of, has_failed, calls_of, PutsText};
+ghost use Rattle.usb_watch.specs.Watch.{inner_of, has_failed, calls_of, PutsText};
 ghost use Rattle.usb_plan.specs.Plan.{spelled_plan};
 ghost use Rattle.usb_serve.specs.declared.serving.ServeFault.TheVariants as serve;
 ghost use Rattle.usb_serve.specs.Outputs.{held};
@@ -22,11 +22,12 @@ use std::alloc::{AllocError, Global};
 use std::io::{Read, Write};
 use std::str;
 use thiserror::Error;
-use usb_bus::{BusFault, Watched, WriteFailed};
 use usb_plan::{PlanFault, bound, read_plan};
 use usb_run::{Item, Mode, RunFault, Runner, item_lines, number_of};
 use usb_sim::{Plan, Trace, Tracer, Untraced, untraced_fault};
 use usb_text::bound_line;
+use usb_watch::{Watched, WriteFailed};
+use usb_world::BusFault;
 
 /// Why a plan was not served to its end, in the order in which the reasons are reported.
 #[derive(Clone, Copy, Debug, PartialEq, Eq, Error)]

@@ -1,12 +1,12 @@
 //! A trace that goes out through a buffer.
 ghost use Rattle.std.specs.Prelude.{◌≡◌, ◌++◌, ◌∷◌, []};
-ghost use Rattle.usb_bus.specs.Trace.{attempt_line};
-ghost use Rattle.usb_bus.specs.Watch.{PutsText};
+ghost use Rattle.usb_world.specs.Trace.{attempt_line};
+ghost use Rattle.usb_watch.specs.Watch.{PutsText};
 
 use crate::output::Output;
 use std::io::Write;
-use usb_bus::WriteFailed;
 use usb_sim::{ExchangeRoom, Line, Trace, push_attempt};
+use usb_watch::WriteFailed;
 
 /// An output that has the lines.
 #[derive(Debug, Drop)]

@@ -7,17 +7,17 @@ use Rattle.std.specs.Io.KnownBytes.{Appends}
 use Rattle.std.specs.Option.{option_to_list}
 use Rattle.std.proofs.KnownBytes.{Appends-trans, Appends-nil}
 use Rattle.usb_device.specs.{Ports, held_addresses, repeats}
-use Rattle.usb_world.specs.{Event, BusFault, Limit, Memory, Failed, Exchange, Attempt}
-use Rattle.usb_world.specs.{Damage, exchange_in, ports_in, counted, after_clearing, World, Coming}
+use Rattle.usb_world.specs.{Event, BusFault, Limit, Memory, Failed, Exchange, Attempt, Damage}
+use Rattle.usb_world.specs.{exchange_in, ports_in, counted, after_clearing, World, Coming}
 use Rattle.usb_world.specs.{AttemptsWithin, nothing_yet, next_came, after_change, is_due, has_due}
 use Rattle.usb_world.specs.{after_event, after_first_event, after_due_events, at_attempt, damage_in}
-use Rattle.usb_world.specs.{made_in, with_attempt, outcome_made, outcome_in, ask_of}
+use Rattle.usb_world.specs.{made_in, with_attempt, outcome_made, outcome_in, ask_of, attempt_line}
 use Rattle.usb_world.specs.declared.losses.Losses.{Losses}
 use Rattle.usb_world.specs.declared.event.Ask.{Ask}
-use Rattle.usb_bus.specs.{action_line, next_due, lines_between, made_line, step_lines, AppendsFront}
-use Rattle.usb_bus.specs.{WritesText, attempt_line}
+use Rattle.usb_bus.specs.{action_line, next_due, lines_between, made_line, step_lines, WritesText}
+use Rattle.usb_watch.specs.{AppendsFront}
 use Rattle.usb_sim.specs.{EventsCame, OneEventCame}
-use Rattle.usb_bus.proofs.Interface.{appends_front, front_after_first}
+use Rattle.usb_watch.proofs.Interface.{appends_front, front_after_first}
 use Rattle.std.proofs.lemmas.Bool.{eq-eqb}
 use Rattle.usb_world.proofs.Interface.{first_fault, spends_none, spends_then}
 use Rattle.usb_tree.proofs.Interface.{if-false, if-true, unequal}

@@ -9,7 +9,8 @@ use Rattle.std.proofs.lemmas.List.Folds.{list_all-append}
 use Rattle.std.proofs.lemmas.Str.{inside_one}
 use Rattle.hex.specs.Hex.{encode_with, upper_digits}
 use Rattle.usb_port.specs.{number_text, path_text}
-use Rattle.usb_bus.specs.{escaped, is_unbroken, is_escaped, shown_char, shown_name, plug_line}
+use Rattle.usb_watch.specs.{escaped, is_unbroken, is_escaped, shown_char, shown_name}
+use Rattle.usb_world.specs.{plug_line}
 
 abbrev HasNoNewline : List ℕ → Type 0
 HasNoNewline bytes = is_unbroken bytes ≡ true

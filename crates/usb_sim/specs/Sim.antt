@@ -3,7 +3,7 @@ use Rattle.std.specs.Prelude.{ℕ, List, Option}
 use Rattle.usb_sim.specs.declared.tracer.Trace.{Ghosts}
 use Rattle.usb_sim.specs.declared.tracer.Tracer.{Tracer}
 use Rattle.usb_device.specs.{Plugged, device_there}
-use Rattle.usb_bus.specs.{Watched}
+use Rattle.usb_watch.specs.{Watched}
 use Rattle.usb_sim.specs.declared.sim.SimBus.{SimBus}
 use Rattle.usb_sim.specs.Tracer.{writer_in}
 use Rattle.usb_world.specs.{World}

@@ -1,5 +1,5 @@
 -- The writer that the lines of a trace go to.
-use Rattle.usb_bus.specs.{Watched}
+use Rattle.usb_watch.specs.{Watched}
 use Rattle.usb_sim.specs.declared.tracer.Tracer.{Tracer}
 
 abbrev pub writer_in : {W : Type 0} → Tracer W → Watched W

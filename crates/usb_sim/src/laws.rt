@@ -2,10 +2,10 @@
 //!
 //! Each call does nothing; what it ensures is for a reader, and for proofs to cite.
 ghost use Rattle.std.specs.Prelude.{◌≡◌, ◌≢◌, ℕ, List, Some, true};
-ghost use Rattle.usb_bus.specs.Shown.{is_unbroken, shown_name};
+ghost use Rattle.usb_watch.specs.Shown.{is_unbroken, shown_name};
 ghost use Rattle.usb_sim.specs.Sim.{world_of, tracer_of};
-ghost use Rattle.usb_bus.specs.Trace.{plug_line};
-ghost use Rattle.usb_bus.specs.Watch.{tells_failure};
+ghost use Rattle.usb_world.specs.Trace.{plug_line};
+ghost use Rattle.usb_bus.specs.Written.{tells_failure};
 ghost use Rattle.usb_world.specs.declared.types.BusFault.TheVariants.{Failed};
 
 use crate::{SimBus, Trace, Untraced};

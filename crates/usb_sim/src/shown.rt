@@ -2,7 +2,7 @@
 ghost use Rattle.std.specs.Prelude.{◌≡◌, ◌++◌, ◌<◌, ◌^◌, flat_map, IsTrue, IfOk, OnOk};
 ghost use Rattle.std.specs.Str.{chars};
 ghost use Rattle.usb_bus.specs.Lines.{shown_names};
-ghost use Rattle.usb_bus.specs.Shown.{ends_line, is_escaped, escaped, shown_char, shown_name};
+ghost use Rattle.usb_watch.specs.Shown.{ends_line, is_escaped, escaped, shown_char, shown_name};
 
 use std::alloc::{AllocError, Global};
 use std::marker::Model;

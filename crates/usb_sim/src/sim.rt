@@ -13,7 +13,8 @@ ghost use Rattle.usb_world.specs.SanePorts.{Consistent};
 ghost use Rattle.usb_world.specs.SaneProofs.{Consistent-prop, IsSpec-prop, all_prop};
 ghost use Rattle.usb_world.specs.Steps.{opening};
 ghost use Rattle.usb_bus.specs.Lines.{shown_names};
-ghost use Rattle.usb_bus.specs.Watch.{has_failed, tells_failure};
+ghost use Rattle.usb_watch.specs.Watch.{has_failed};
+ghost use Rattle.usb_bus.specs.Written.{tells_failure};
 ghost use Rattle.usb_world.specs.declared.types.BusFault.TheVariants.{Limit};
 
 mod bus;
@@ -29,12 +30,12 @@ use crate::{Damage, Event, Plan, Trace, Tracer, Untraced};
 use std::alloc::{AllocError, Global};
 use std::collections::VecDeque;
 use std::io::Write;
-use usb_bus::Watched;
 use usb_device::{AnswerPid, EndpointNumber, HeardPid};
 use usb_exchange::ExchangeRoom;
 use usb_function::{Holders, Ports};
 use usb_port::PortPath;
 use usb_scene::event_copies;
+use usb_watch::Watched;
 use usb_world::{BusFault, Losses};
 
 /// A bus that a plan describes. Each attempt, plug and unplug is a line of the trace, which goes to a writer at once

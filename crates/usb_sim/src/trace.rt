@@ -1,11 +1,11 @@
 //! The lines of the trace.
 ghost use Rattle.std.specs.Prelude.{◌≡◌, ◌+◌, ◌≤◌, [], ◌∷◌, ◌++◌, length};
 ghost use Rattle.usb_world.specs.HeardAnswers.{heard_above};
-ghost use Rattle.usb_bus.specs.Trace.{attempt_line, pre_text, mark_text, host_text, next_text, answer_text};
+ghost use Rattle.usb_world.specs.Trace.{attempt_line, pre_text, mark_text, host_text, next_text, answer_text};
 
 use arrayvec::ArrayString;
 use usb_device::{AnswerPid, HeardPid};
-use usb_exchange::{ExchangeRoom, OutgoingRoom};
+use usb_exchange::{ExchangeRoom, ExchangeRoom, OutgoingRoom, OutgoingRoom};
 use usb_function::Hearing;
 use usb_packet::{push_decimal, push_packet, push_payload};
 use usb_world::{Mark, Outgoing};

@@ -1,12 +1,12 @@
 //! What becomes of the lines of a trace: a writer has them, or none is made.
 ghost use Rattle.std.specs.Prelude.{◌≡◌, ℕ, List, Option, Bool, [], ◌∷◌, ◌++◌, false, flat_map, None};
-ghost use Rattle.usb_bus.specs.Trace.{attempt_line};
-ghost use Rattle.usb_bus.specs.Watch.{has_failed, known_text, PutsText};
+ghost use Rattle.usb_world.specs.Trace.{attempt_line};
+ghost use Rattle.usb_watch.specs.Watch.{has_failed, known_text, PutsText};
 
 use crate::trace::{Line, push_attempt};
 use std::io::Write;
-use usb_bus::{Watched, WriteFailed, put_piece, put_pieces};
 use usb_exchange::ExchangeRoom;
+use usb_watch::{Watched, WriteFailed, put_piece, put_pieces};
 
 /// What a simulated bus hands the lines of its trace to.
 pub trait Trace {
@@ -120,7 +120,7 @@ impl Trace for Untraced {
 
     ghost failed = { λ _. false };
 
-    #[tactic(auto, using(usb_bus::proofs::Interface::puts_unknown))]
+    #[tactic(auto, using(usb_watch::proofs::Interface::puts_unknown))]
     fn put_attempt(
         &mut self,
         _number: u64,
@@ -130,7 +130,7 @@ impl Trace for Untraced {
         Ok(())
     }
 
-    #[tactic(auto, using(usb_bus::proofs::Interface::puts_unknown))]
+    #[tactic(auto, using(usb_watch::proofs::Interface::puts_unknown))]
     fn put_pieces(&mut self, _pieces: &[&[u8]]) -> Result<(), WriteFailed> {
         Ok(())
     }

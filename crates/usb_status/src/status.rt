@@ -4,7 +4,6 @@ ghost use Rattle.usb_status.specs.Statuses.{bench_status, device_status, exit_st
 
 use crate::fault::Fault;
 use usb_bench::BenchFault;
-use usb_bus::BusFault;
 use usb_entry::EntryFault;
 use usb_explain::ExplainFault;
 use usb_far::FarFault;
@@ -14,6 +13,7 @@ use usb_places::PlacesFault;
 use usb_plan::PlanFault;
 use usb_serve::{RunFault, ServeFault};
 use usb_text::LineFault;
+use usb_world::BusFault;
 
 /// All was done.
 const DONE: u8 = 0;

@@ -3,7 +3,7 @@ use Rattle.std.proofs.Common.{add-one, ◌≡◌, ◌≢◌, ◌∙◌, inl, inr
 use Rattle.std.proofs.Common.{◌++◌, Some, None, Result, Ok, Err, IfOk, IfErr, refl, sym, ap, subst}
 use Rattle.std.proofs.Common.{arith, length-append, slice_set}
 use Rattle.std.proofs.KnownBytes.{Consumes-nil, Consumes-trans}
-use Rattle.usb_lines.specs.{FailsToFlush, Flushes, OutPipe, Pipe, ReadLine, ReadLong, Reads}
+use Rattle.usb_watch.specs.{FailsToFlush, Flushes, OutPipe, Pipe, ReadLine, ReadLong, Reads}
 use Rattle.usb_wire.specs.{Answer, Changed, Answered, Asked, Hubs, kind_asked, line_fault, Question}
 use Rattle.usb_wire.specs.{LineTooLong, WireFault}
 use Rattle.usb_stream.specs.{AnswerLinesRead, AskedWell, AsksNoMore, BadLine, CauseOfHearing}

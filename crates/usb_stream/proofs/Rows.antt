@@ -4,7 +4,7 @@ use Rattle.std.proofs.Common.{Bool, true, false, List, [], ◌++◌, length, dro
 use Rattle.std.proofs.Common.{None, Ok, Err, arith}
 use Rattle.std.proofs.Common.{nat_eq, ◌≢◌}
 use Rattle.std.proofs.lemmas.Bool.{eq-eqb, eqb-false, eqb-true}
-use Rattle.usb_lines.specs.{OutPipe, Pipe}
+use Rattle.usb_watch.specs.{OutPipe, Pipe}
 use Rattle.usb_packet.specs.{Toggle, Zero, One, flips, other}
 use Rattle.std.proofs.Common.{add-one, length-append, length-drop, lt_of_mul-lt-mul_right, min}
 use Rattle.std.proofs.lemmas.Grind.{div_ceil_times}

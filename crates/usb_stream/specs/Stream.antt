@@ -7,8 +7,8 @@ use Rattle.std.specs.Int.{div_ceil}
 use Rattle.std.specs.Io.KnownBytes.{IsAtEnd}
 use Rattle.usb_request.specs.{setup_of}
 use Rattle.usb_port.specs.{PortCall}
-use Rattle.usb_lines.specs.{FailsToFlush, Flushes, IsUnbroken, OutPipe, Pipe, ReadPart, Reads}
-use Rattle.usb_lines.specs.{out_pipe_of, pipe_of}
+use Rattle.usb_watch.specs.{FailsToFlush, Flushes, IsUnbroken, OutPipe, Pipe, ReadPart, Reads}
+use Rattle.usb_watch.specs.{out_pipe_of, pipe_of}
 use Rattle.usb_wire.specs.{Hubs, IsSaidLine, MaySay, MaySayTo, kind_asked, line_fault}
 use Rattle.usb_wire.specs.{question_line, Answer, Said, LineTooLong, WireFault, Changed, Answered}
 use Rattle.usb_wire.specs.{Asked, DataPacket, Endpoint, Question, row_limit}

@@ -3,7 +3,7 @@ ghost use Rattle.std.specs.Prelude.{◌≡◌, ◌≢◌, ◌+◌, ◌-◌, ◌*
 ghost use Rattle.std.specs.Int.{div_ceil};
 ghost use Rattle.usb_bus.specs.Rows.{CountsRow, IsDestination, RowTold, row_attempts};
 ghost use Rattle.usb_bus.specs.Traces.{Spends};
-ghost use Rattle.usb_lines.specs.Pipes.{out_pipe_of, pipe_of};
+ghost use Rattle.usb_watch.specs.Pipes.{out_pipe_of, pipe_of};
 ghost use Rattle.usb_port.specs.Calls.{IsClearFeature, IsSetFeature, clear_call, set_call};
 ghost use Rattle.usb_world.specs.PlainAttempts.{attempt_data};
 ghost use Rattle.usb_world.specs.Worlds.{FitsMaximum, IsAttempt};
@@ -17,11 +17,9 @@ use crate::asked::{
 use crate::fault::{LiveFault, bus_fault};
 use arrayvec::ArrayVec;
 use std::io::{Read, Write};
-use usb_bus::{
-    Attempt, Bus, BusFault, Destination, Outcome, ROW_ROOM, RowDone, RowEnd, Toggle, Watched,
-};
-use usb_lines::{Line, LineFault, put_lines, read_line};
+use usb_bus::{Attempt, Bus, BusFault, Destination, Outcome, ROW_ROOM, RowDone, RowEnd, Toggle};
 use usb_port::PortCall;
+use usb_watch::{Line, LineFault, Watched, put_lines, read_line};
 use usb_wire::{
     Answer, Asked, Endpoint, Hubs, Question, Said, WireFault, question_line, read_said,
 };

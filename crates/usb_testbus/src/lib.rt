@@ -2,17 +2,18 @@
 #![tactic(auto)]
 
 ghost use Rattle.std.specs.Prelude.{◌≡◌, ◌++◌, codes, decimal, false, flat_map, string_bytes, IfOk, IsOk, Ok, OnOk};
-ghost use Rattle.usb_bus.specs.Watch.{inner_of, has_failed};
+ghost use Rattle.usb_watch.specs.Watch.{inner_of, has_failed};
 ghost use Rattle.usb_sim.specs.Sim.{writer_of};
 ghost use Rattle.usb_plan.specs.Plan.{spelled_plan};
 
 use std::alloc::{AllocError, Global};
 use std::io::Write;
 use thiserror::Error;
-use usb_bus::{Bus, BusFault, Watched};
+use usb_bus::{Bus, BusFault};
 use usb_plan::{PlanFault, read_plan};
 use usb_request::feature::{C_PORT_CONNECTION, C_PORT_RESET, PORT_POWER, PORT_RESET};
 use usb_sim::{Plan, SimBus, Tracer, Untraced};
+use usb_watch::Watched;
 
 /// Why there is no such bus.
 #[derive(Clone, Copy, Debug, PartialEq, Eq, Error)]

@@ -23,6 +23,7 @@ pub mod RestingPorts
 pub mod Silence
 pub mod WriteRequests
 pub mod HostSides
+pub mod Trace
 -- the words of this crate, wherever one stands
 pub use PlainAttempts.{Attempt, attempt_data, attempt_kind, attempt_payload, destination_of}
 pub use WriteRequests.{IsWrite, Write}
@@ -81,6 +82,8 @@ pub use PlanCourses.{AtPorts, FollowsPlan, PlugsAtPort, spec_of}
 pub use RestingPorts.{LeavesPortAlone, SameAt, SameDeviceOrPending, UnchangedOrPending}
 pub use Silence.{silent_exchange}
 pub use HostSides.{host_side, keeps_address}
+pub use Trace.{answer_text, attempt_line, host_text, mark_text, next_text, plug_line, pre_text}
+pub use Trace.{unplug_line}
 pub use declared.damage.Damage.{Damage}
 pub use declared.damage.Harm.{Harm}
 pub use declared.damage.Harm.TheVariants.{Flip, Lose, LosePre}

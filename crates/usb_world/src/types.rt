@@ -1,11 +1,12 @@
 //! What goes over the bus.
 ghost use Rattle.std.specs.Prelude.{◌≡◌};
-ghost use Rattle.usb_world.specs.declared.types.BusFault.TheVariants.{Memory as memory};
+ghost use Rattle.usb_world.specs.declared.types.BusFault.TheVariants.{Failed as trace_failed, Memory as memory};
 
 use arrayvec::ArrayVec;
 use std::alloc::AllocError;
 use thiserror::Error;
 use usb_packet::{Speed, Toggle, TokenKind};
+use usb_watch::WriteFailed;
 
 /// The endpoint that an attempt is for, and how it is reached.
 #[derive(Clone, Copy, Debug, PartialEq, Eq)]
@@ -105,5 +106,13 @@ impl From<AllocError> for BusFault {
 
     fn from(_error: AllocError) -> BusFault {
         BusFault::Memory
+    }
+}
+
+impl From<WriteFailed> for BusFault {
+    ghost from_gives = { λ _ fault. fault ≡ trace_failed };
+
+    fn from(_error: WriteFailed) -> BusFault {
+        BusFault::Failed
     }
 }

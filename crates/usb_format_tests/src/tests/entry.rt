@@ -6,8 +6,8 @@ mod tables;
 mod writers;
 
 use std::alloc::{AllocError, Global};
-use usb_bus::Watched;
 use usb_entry::{EntryFault, Notes, Source, write_entries};
+use usb_watch::Watched;
 
 /// The bytes that these digits spell, one text after the other; none if they are no digits.
 pub(crate) fn bytes_of(alloc: Global, digits: &[&str]) -> Result<Vec<u8>, AllocError> {

@@ -3,8 +3,8 @@ use std::alloc::{AllocError, Global};
 use std::io::{Error, ErrorKind, Read, Write};
 use std::test::Fail;
 use std::{io, str};
-use usb_bus::Watched;
 use usb_explain::{ExplainFault, Only, explain};
+use usb_watch::Watched;
 
 /// What is written of a text, and the fault.
 fn explained(alloc: Global, only: Only<'_>, text: &str) -> (Vec<u8>, Option<ExplainFault>) {

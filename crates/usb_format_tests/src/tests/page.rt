@@ -5,9 +5,9 @@ use std::alloc::{AllocError, Global};
 use std::io::{Read, Write};
 use std::str;
 use std::test::Fail;
-use usb_bus::Watched;
 use usb_page::{escaped, put_page};
 use usb_serve::{Mode, PlanFault, RunFault, ServeFault, serve};
+use usb_watch::Watched;
 
 /// Writes the page of a plan's run, also if that reaches its limit.
 fn page<R: Read, W: Write>(

@@ -1,8 +1,8 @@
 //! A test is a loop over rows: a text, and what is written of it.
 use super::broken::Broken;
 use std::test::Fail;
-use usb_bus::Watched;
 use usb_pcap::{PcapFault, capture, read_attempt};
+use usb_watch::Watched;
 
 /// The header of each file: little endian, version 2.4, link type 294.
 const HEADER: &str = "d4c3b2a1020004000000000000000000ffff000026010000";

@@ -1,7 +1,6 @@
 //! The line and the exit status of each fault of the program, as `docs/OUTPUT.md` and `docs/output/live.md` have them.
 use std::alloc::AllocError;
 use std::test::Fail;
-use usb_bus::BusFault;
 use usb_diagnosis::{CheckFault, Verdict};
 use usb_entry::EntryFault;
 use usb_explain::ExplainFault;
@@ -12,6 +11,7 @@ use usb_plan::{Place, PlanFault};
 use usb_serve::{RunFault, ServeFault};
 use usb_status::{Fault, checked, exit_status};
 use usb_text::{LineFault, PacketFault};
+use usb_world::BusFault;
 
 /// A fault, its line and its exit status.
 type Row = (Fault, &'static str, u8);

@@ -5,11 +5,11 @@ use std::cell::RefCell;
 use std::io::{Error, ErrorKind, Read, Write};
 use std::test::Fail;
 use std::{io, mem};
-use usb_bus::Watched;
 use usb_far::{FarEnd, serve};
 use usb_live::live;
 use usb_plan::read_plan;
 use usb_sim::Tracer;
+use usb_watch::Watched;
 
 /// One device, a listing, and a transfer.
 const PLAN: &[&str] = &[

@@ -2,8 +2,9 @@
 use std::alloc::Global;
 use std::io;
 use std::io::{Error, ErrorKind, Read, Write};
-use usb_bus::{Outcome, Watched};
+use usb_bus::Outcome;
 use usb_stream::{LiveFault, StreamBus};
+use usb_watch::Watched;
 use usb_wire::{Answer, DataPacket};
 
 /// A writer that fails after n writes.

@@ -6,10 +6,11 @@ use super::plans::{BULK, HUB, PLUG_BULK, PLUG_HUB, PLUG_THERMOMETER, THERMOMETER
 use std::alloc::{AllocError, Global};
 use std::io::Read;
 use std::test::Fail;
-use usb_bus::{BusFault, Watched};
+use usb_bus::BusFault;
 use usb_far::{Came, FarEnd, FarFault, HostLine, Phase, serve};
 use usb_plan::read_plan;
 use usb_sim::Untraced;
+use usb_watch::Watched;
 use usb_wire::Question;
 
 /// The digits of 150 bytes of a text over several lines.

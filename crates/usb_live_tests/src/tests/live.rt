@@ -3,8 +3,8 @@ use super::ends::{Frail, Torn};
 use std::alloc::{AllocError, Global};
 use std::io::Read;
 use std::test::Fail;
-use usb_bus::Watched;
 use usb_live::{LiveEnd, LiveFault, WireFault, live};
+use usb_watch::Watched;
 
 /// What a controller side with one device says up to its second `wait`: the course of docs/output/live.md.
 const FAR: &str = "roots 1\n\

@@ -5,8 +5,8 @@ use Rattle.std.proofs.Common.{append_assoc, flat_map, take, drop, get_or, length
 use Rattle.std.proofs.Common.{◌<◌}
 use Rattle.std.specs.Io.KnownBytes.{Appends}
 use Rattle.std.proofs.KnownBytes.{Appends-nil, Appends-trans}
-use Rattle.usb_bus.specs.{AppendsFront}
-use Rattle.usb_bus.proofs.Interface.{front_after}
+use Rattle.usb_watch.specs.{AppendsFront}
+use Rattle.usb_watch.proofs.Interface.{front_after}
 use Rattle.usb_world.specs.{World, BusFault}
 use Rattle.usb_host.specs.{HostState}
 use Rattle.usb_run.specs.{Item, RunFault, Mode, CutsText, Next, AppendsText, StoppedRun}

@@ -5,9 +5,9 @@ use super::writers::{fault_in_line, text_of};
 use std::alloc::{AllocError, Global};
 use std::io::Write;
 use std::test::Fail;
-use usb_bus::Watched;
 use usb_run::{Mode, RunFault};
 use usb_serve::{Output, ROOM, ServeFault, serve_through};
+use usb_watch::Watched;
 
 /// More than any text of these rows has.
 const WHOLE: usize = 65_536;

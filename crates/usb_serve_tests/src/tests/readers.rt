@@ -3,9 +3,9 @@ use super::frail::{Long, Torn};
 use super::rows::{ONE_FUNCTION, ROWS, Texts};
 use std::alloc::{AllocError, Global};
 use std::test::Fail;
-use usb_bus::Watched;
 use usb_run::Mode;
 use usb_serve::{ServeFault, serve};
+use usb_watch::Watched;
 
 /// The bytes that a reader is asked for at once.
 const PIECE: usize = 16_384;

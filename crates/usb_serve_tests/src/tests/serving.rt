@@ -2,10 +2,10 @@
 use super::rows::ONE_FUNCTION;
 use std::alloc::{AllocError, Global};
 use std::test::Fail;
-use usb_bus::Watched;
 use usb_plan::read_plan;
 use usb_run::{Mode, run};
 use usb_serve::{ServeFault, serve};
+use usb_watch::Watched;
 
 /// How what is written of a plan compares with what is expected.
 #[derive(Clone, Copy, Debug, PartialEq)]

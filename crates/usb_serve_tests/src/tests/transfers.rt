@@ -5,10 +5,10 @@ use std::alloc::{AllocError, Global};
 use std::process::Abort;
 use std::str;
 use std::test::Fail;
-use usb_bus::Watched;
 use usb_plan::read_plan;
 use usb_run::{EndpointAddress, EndpointChoice, Item, Mode, Task, TaskEnd, TransferFault, run};
 use usb_serve::serve;
+use usb_watch::Watched;
 
 /// The limit and the root ports of each plan.
 pub(super) const HEAD: &str = "limit = 10000\nroots = 2\n";

@@ -3,9 +3,9 @@ use super::frail::{Frail, Trouble};
 use super::rows::{ONE_FUNCTION, ROWS, Row, Texts};
 use std::alloc::{AllocError, Global};
 use std::test::Fail;
-use usb_bus::Watched;
 use usb_run::{Mode, RunFault};
 use usb_serve::{ServeFault, serve};
+use usb_watch::Watched;
 
 /// Room for every line.
 const WHOLE: usize = 4096;

@@ -6,9 +6,9 @@ ghost use Rattle.usb_world.specs.Worlds.{changes, to_come};
 ghost use Rattle.usb_world.specs.Steps.{after, event, after_change, has_due};
 ghost use Rattle.usb_world.specs.Plans.{can_be_done};
 ghost use Rattle.usb_bus.specs.Lines.{event_line};
-ghost use Rattle.usb_bus.specs.Trace.{plug_line, unplug_line};
+ghost use Rattle.usb_world.specs.Trace.{plug_line, unplug_line};
 ghost use Rattle.usb_bus.specs.Traces.{TakesEvent};
-ghost use Rattle.usb_bus.specs.Watch.{PutsText};
+ghost use Rattle.usb_watch.specs.Watch.{PutsText};
 ghost use Rattle.usb_world.specs.declared.types.BusFault.TheVariants.{Memory, Failed};
 
 use super::SimBus;
@@ -17,10 +17,10 @@ use crate::shown::ShownName;
 use crate::{Action, Ask, Change, Trace};
 use std::alloc::{AllocError, Global};
 use std::rc::Rc;
-use usb_bus::WriteFailed;
 use usb_function::{Device, Holders, Ports};
 use usb_port::PortPath;
 use usb_scene::DeviceSpec;
+use usb_watch::WriteFailed;
 use usb_world::BusFault;
 
 impl<T: Trace> SimBus<T> {
@@ -189,7 +189,7 @@ fn unplug(roots: &mut Ports, holders: &mut Holders, path: &PortPath)
 }
 
 /// The line of an event.
-#[tactic(auto, unfolding(usb_bus::specs::Lines::event_line), using(usb_bus::proofs::Interface::puts_no_text))]
+#[tactic(auto, unfolding(usb_bus::specs::Lines::event_line), using(usb_watch::proofs::Interface::puts_no_text))]
 fn put_action<T: Trace>(
     tracer: &mut T,
     names: &[ShownName],

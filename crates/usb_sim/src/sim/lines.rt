@@ -2,7 +2,7 @@
 ghost use Rattle.std.specs.Prelude.{◌≡◌, [], ◌∷◌, ◌++◌, true, IsSome, OnOk, OnErr};
 ghost use Rattle.std.specs.Io.KnownBytes.{Appends};
 ghost use Rattle.usb_world.specs.Steps.{PutLine};
-ghost use Rattle.usb_bus.specs.Watch.{AppendsFront};
+ghost use Rattle.usb_watch.specs.Watch.{AppendsFront};
 
 use super::SimBus;
 use crate::Trace;

@@ -4,7 +4,7 @@ use std::alloc::Global;
 use std::io;
 use std::io::{Error, ErrorKind, Read, Write};
 use std::test::Fail;
-use usb_bus::{Watched, WriteFailed, put_piece};
+use usb_watch::{Watched, WriteFailed, put_piece};
 
 /// A writer that takes a few bytes at a time, and fails at its Nth write.
 #[derive(Drop)]

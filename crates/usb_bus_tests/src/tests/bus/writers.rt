@@ -1,6 +1,6 @@
 //! Buses whose trace goes to a writer that takes one byte at a time, or fails.
 ghost use Rattle.std.specs.Prelude.{◌≡◌, false};
-ghost use Rattle.usb_bus.specs.Watch.{has_failed};
+ghost use Rattle.usb_watch.specs.Watch.{has_failed};
 
 use super::hubs::{TO_LOW_DEVICE, TO_LOW_DEVICE_TRACE};
 use super::plans::{HUB, ONE_FUNCTION};
@@ -11,10 +11,10 @@ use super::watched::Frail;
 use std::alloc::{AllocError, Global};
 use std::str;
 use std::test::Fail;
-use usb_bus::Watched;
 use usb_packet::Speed::Full;
 use usb_sim::{SimBus, Trace};
 use usb_testbus::{bus_on, untraced_of};
+use usb_watch::Watched;
 
 /// How many writes there may be, and what becomes of the enumeration of a function and its trace.
 #[derive(Clone, Copy)]

@@ -1,5 +1,5 @@
 use Rattle.std.proofs.Common.{refl}
-use Rattle.usb_bus.specs.{inner_of}
+use Rattle.usb_watch.specs.{inner_of}
 use Rattle.usb_serve.proofs.Interface.{at_fault}
 use Rattle.usb_drawing.specs.{IsDrawn, of_plan, unread}
 use Rattle.usb_drawing.proofs.drawing.draw.Goals as goal

@@ -1,7 +1,7 @@
 use Rattle.std.proofs.Common.{◌≡◌, [], ◌++◌, take, arith, length-append}
 use Rattle.std.proofs.lemmas.List.{length-take}
 use Rattle.std.proofs.KnownBytes.{Consumes-nil, Consumes-trans}
-use Rattle.usb_bus.specs.{inner_of}
+use Rattle.usb_watch.specs.{inner_of}
 use Rattle.usb_explain.proofs.Lines.{all_read, fault_of_front, not_read, nothing_read}
 use Rattle.usb_explain.proofs.Lines.{reaches_first, read_stopped, read_too_long}
 use Rattle.usb_explain.proofs.explaining.explain.Goals as goal

@@ -1,6 +1,6 @@
 use Rattle.std.proofs.Common.{ℕ, ◌≤◌, List, length}
 use Rattle.std.specs.Io.KnownBytes.{Consumes}
-use Rattle.usb_bus.specs.{inner_of}
+use Rattle.usb_watch.specs.{inner_of}
 use Rattle.usb_explain.specs.{Reaches}
 use Rattle.usb_explain.proofs.explaining.explain.Given as goal
 

@@ -1,5 +1,5 @@
 use Rattle.std.proofs.Common.{List, ap, map}
-use Rattle.usb_bus.specs.{has_failed, known_text}
+use Rattle.usb_watch.specs.{has_failed, known_text}
 use Rattle.usb_explain.specs.{Phrase, row_text, said_of}
 use Rattle.usb_explain.proofs.Pieces.{puts_after}
 use Rattle.usb_explain.proofs.phrase.+put_row.Goals as goal

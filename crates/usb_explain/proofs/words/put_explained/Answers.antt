@@ -1,5 +1,5 @@
 use Rattle.std.proofs.Common.{refl}
-use Rattle.usb_bus.specs.{has_failed, known_text}
+use Rattle.usb_watch.specs.{has_failed, known_text}
 use Rattle.usb_explain.specs.{words_behind}
 use Rattle.usb_explain.proofs.Pieces.{puts_after, puts_cut}
 use Rattle.usb_explain.proofs.words.put_explained.Goals as goal

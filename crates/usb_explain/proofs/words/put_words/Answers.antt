@@ -1,5 +1,5 @@
 use Rattle.std.proofs.Common.{List, subst}
-use Rattle.usb_bus.specs.{PutsText, has_failed, known_text}
+use Rattle.usb_watch.specs.{PutsText, has_failed, known_text}
 use Rattle.usb_explain.specs.{Said, row_text}
 use Rattle.usb_explain.proofs.words.put_words.Goals as goal
 

@@ -2,9 +2,9 @@
 use super::rows::{A_TREE_OF_HUBS, ROWS};
 use std::alloc::{AllocError, Global};
 use std::test::Fail;
-use usb_bus::Watched;
 use usb_drawing::{Style, draw};
 use usb_serve::ServeFault;
+use usb_watch::Watched;
 
 /// What is drawn of a plan, and how that ended.
 pub(super) fn drawn(alloc: Global, style: Style, plan: &str) -> (Vec<u8>, Result<(), ServeFault>) {

@@ -4,9 +4,9 @@ use std::alloc::Global;
 use std::io;
 use std::io::{Error, ErrorKind, Write};
 use std::test::Fail;
-use usb_bus::Watched;
 use usb_drawing::{Style, draw};
 use usb_serve::ServeFault;
+use usb_watch::Watched;
 
 /// A writer with room for n bytes, which fails where it is full.
 #[derive(Drop)]

@@ -3,8 +3,8 @@ use super::{bytes_of, plain};
 use std::alloc::AllocError;
 use std::io;
 use std::io::Write;
-use usb_bus::Watched;
 use usb_entry::{EntryFault, write_entries};
+use usb_watch::Watched;
 
 /// A writer that takes nothing.
 #[derive(Drop)]

@@ -1,4 +1,4 @@
-use Rattle.usb_lines.specs.{out_pipe_of, pipe_of}
+use Rattle.usb_watch.specs.{out_pipe_of, pipe_of}
 use Rattle.usb_live.specs.{live_host}
 use Rattle.usb_live.proofs.host.live.Given as goal
 

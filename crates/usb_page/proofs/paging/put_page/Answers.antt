@@ -1,5 +1,5 @@
 use Rattle.std.proofs.Common.{◌∙◌, ap, subst}
-use Rattle.usb_bus.specs.{PutsText, has_failed, known_text}
+use Rattle.usb_watch.specs.{PutsText, has_failed, known_text}
 use Rattle.usb_page.specs.{escaped}
 use Rattle.usb_page.proofs.PageTexts.{parts_joined}
 use Rattle.usb_page.proofs.paging.put_page.Goals as goal

@@ -1,7 +1,7 @@
 use Rattle.std.proofs.Common.{◌≡◌, [], ◌++◌, take, sym, ◌∙◌, arith, length-append}
 use Rattle.std.proofs.lemmas.List.{length-take}
 use Rattle.std.proofs.KnownBytes.{Consumes-nil, Consumes-trans}
-use Rattle.usb_bus.specs.{inner_of}
+use Rattle.usb_watch.specs.{inner_of}
 use Rattle.usb_pcap.proofs.Captures.{captures_all, comes_front, never_read, not_err, read_failed}
 use Rattle.usb_pcap.proofs.Captures.{read_none, read_on, stands_first, torn_header}
 use Rattle.usb_pcap.proofs.capturing.capture.Goals as goal

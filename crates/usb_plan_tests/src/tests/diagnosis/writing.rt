@@ -4,8 +4,8 @@ use std::alloc::{AllocError, Global};
 use std::io;
 use std::io::Write;
 use std::process::Abort;
-use usb_bus::Watched;
 use usb_diagnosis::{CheckFault, Verdict, check};
+use usb_watch::Watched;
 
 /// All that is reported of the plan.
 const TOLD: &str = "devices 1\nevents 0\ndamages 0\nbound 2\n";

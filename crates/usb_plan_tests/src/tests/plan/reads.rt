@@ -3,7 +3,7 @@ use super::FUNCTION;
 use std::alloc::{AllocError, Global};
 use usb_device::{EndpointData, EndpointSpec, OwnAnswer, OwnRequest};
 use usb_plan::{bound, read_plan};
-use usb_scene::DeviceSpec;
+use usb_scene::{DeviceSpec, DeviceSpec};
 use usb_sim::{Action, Ask, Change, Plan};
 
 /// Adds the bytes, in decimal digits.

@@ -1,6 +1,6 @@
 use Rattle.std.proofs.Common.{◌≡◌, ◌+◌, ◌-◌, ◌≤◌, length}
 use Rattle.std.specs.Io.KnownBytes.{Consumes}
-use Rattle.usb_bus.specs.{inner_of, has_failed, calls_of}
+use Rattle.usb_watch.specs.{inner_of, has_failed, calls_of}
 use Rattle.usb_serve.proofs.input.read_text.Given as goal
 
 abbrev pub invariant-pieces : goal.invariant-pieces

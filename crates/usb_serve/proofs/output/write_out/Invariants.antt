@@ -1,6 +1,6 @@
 use Rattle.std.proofs.Common.{◌≡◌, ◌≤◌, ◌-◌, length, take, false}
 use Rattle.std.specs.Io.KnownBytes.{Appends}
-use Rattle.usb_bus.specs.{inner_of, has_failed}
+use Rattle.usb_watch.specs.{inner_of, has_failed}
 use Rattle.usb_serve.proofs.output.write_out.Given as goal
 
 -- so many bytes are written, and no write has failed

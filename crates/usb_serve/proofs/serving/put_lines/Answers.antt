@@ -2,7 +2,7 @@ use Rattle.std.proofs.Common.{◌∙◌, ◌++◌, ◌∷◌, [], Err, List, ℕ
 use Rattle.std.proofs.Common.{take, drop, suc}
 use Rattle.std.specs.Global.{Vec}
 use Rattle.std.specs.Io.KnownBytes.{Appends}
-use Rattle.usb_bus.specs.{AppendsFront}
+use Rattle.usb_watch.specs.{AppendsFront}
 use Rattle.usb_serve.specs.{LinesPut}
 use Rattle.usb_serve.proofs.LineFaults.{line_calm, lines_fail}
 use Rattle.usb_run.proofs.Interface.{texts_split, flat_map-take, puts_line, cuts_line}

@@ -1,5 +1,5 @@
 use Rattle.std.proofs.Common.{◌∙◌, ap, sym, subst}
-use Rattle.usb_bus.specs.{Watched, has_failed, inner_of}
+use Rattle.usb_watch.specs.{Watched, has_failed, inner_of}
 use Rattle.usb_serve.specs.{Output, Serves, has_ended, held, output_in}
 use Rattle.usb_serve.proofs.ServedThrough.{failed_before, through}
 use Rattle.usb_serve.proofs.serving.serve_through.Goals as goal

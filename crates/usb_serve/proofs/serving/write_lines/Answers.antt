@@ -1,6 +1,6 @@
 use Rattle.std.proofs.Common.{ℕ, [], ◌∷◌, ◌++◌, flat_map, take, drop, suc, rules}
 use Rattle.std.specs.Global.{Vec}
-use Rattle.usb_bus.proofs.Interface.{front_after}
+use Rattle.usb_watch.proofs.Interface.{front_after}
 use Rattle.usb_run.proofs.Interface.{texts_split}
 use Rattle.usb_serve.proofs.serving.write_lines.Goals as goal
 

@@ -1,5 +1,5 @@
 use Rattle.std.proofs.Common.{◌≡◌, ◌++◌, flat_map, take}
-use Rattle.usb_bus.specs.{shown_char}
+use Rattle.usb_watch.specs.{shown_char}
 use Rattle.usb_sim.proofs.shown.push_letters.Given as goal
 
 -- the letters so far are written

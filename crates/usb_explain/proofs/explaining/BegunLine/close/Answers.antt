@@ -1,6 +1,6 @@
 use Rattle.std.proofs.Common.{subst, ap, arith, length}
 use Rattle.std.specs.Io.KnownBytes.{Appends}
-use Rattle.usb_bus.specs.{AppendsFront}
+use Rattle.usb_watch.specs.{AppendsFront}
 use Rattle.usb_explain.proofs.Lines.{kept_gives, reaches_next, went_in_part, went_other}
 use Rattle.usb_explain.proofs.explaining.BegunLine.close.Goals as goal
 

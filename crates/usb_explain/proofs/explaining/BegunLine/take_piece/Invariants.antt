@@ -1,5 +1,5 @@
 use Rattle.std.proofs.Common.{ℕ, List, Option, ◌++◌, take}
-use Rattle.usb_bus.specs.{inner_of}
+use Rattle.usb_watch.specs.{inner_of}
 use Rattle.usb_explain.specs.{Reaches}
 use Rattle.usb_explain.proofs.explaining.BegunLine.take_piece.Given as goal
 

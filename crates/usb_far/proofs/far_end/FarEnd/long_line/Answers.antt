@@ -1,5 +1,5 @@
 use Rattle.std.proofs.Common.{◌∙◌, refl, sym, ap, Err}
-use Rattle.usb_lines.specs.{pipe_of}
+use Rattle.usb_watch.specs.{pipe_of}
 use Rattle.usb_far.specs.{is_told, phase_behind, played_of}
 use Rattle.usb_far.proofs.Lines.{not_skipped, told_long, too_long}
 use Rattle.usb_far.proofs.far_end.FarEnd.long_line.Goals as goal

@@ -1,5 +1,5 @@
 use Rattle.std.proofs.Common.{ap, Err}
-use Rattle.usb_lines.specs.{ReadLong, pipe_of}
+use Rattle.usb_watch.specs.{ReadLong, pipe_of}
 use Rattle.usb_far.specs.{played_of}
 use Rattle.usb_far.proofs.Lines.{not_read}
 use Rattle.usb_far.proofs.far_end.FarEnd.next_line.Goals as goal

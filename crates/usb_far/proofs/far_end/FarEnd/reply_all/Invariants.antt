@@ -1,4 +1,4 @@
-use Rattle.usb_lines.specs.{out_pipe_of}
+use Rattle.usb_watch.specs.{out_pipe_of}
 use Rattle.usb_wire.specs.{IsQuestion}
 use Rattle.usb_far.specs.{RowFront, played_of}
 use Rattle.usb_far.proofs.Lines.{row_size}

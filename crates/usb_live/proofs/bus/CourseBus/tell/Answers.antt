@@ -1,6 +1,6 @@
 use Rattle.std.proofs.Common.{◌∙◌, sym, ap, refl}
 use Rattle.std.proofs.Math.Logic.{∥∥₁_map}
-use Rattle.usb_lines.specs.{pipe_of}
+use Rattle.usb_watch.specs.{pipe_of}
 use Rattle.usb_stream.specs.{kept_of}
 use Rattle.usb_live.proofs.Courses.{tell_off, tell_on}
 use Rattle.usb_live.proofs.bus.CourseBus.tell.Goals as goal

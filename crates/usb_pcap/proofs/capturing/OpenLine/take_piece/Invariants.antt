@@ -1,5 +1,5 @@
 use Rattle.std.proofs.Common.{ℕ, List, Option, ◌++◌, take}
-use Rattle.usb_bus.specs.{inner_of}
+use Rattle.usb_watch.specs.{inner_of}
 use Rattle.usb_pcap.specs.{StandsBehind}
 use Rattle.usb_pcap.proofs.capturing.OpenLine.take_piece.Given as goal
 

@@ -1,5 +1,5 @@
 use Rattle.std.proofs.Common.{Bor, List, drop, flat_map, get_or, suc, take, ℕ}
-use Rattle.usb_bus.proofs.Interface.{front_after}
+use Rattle.usb_watch.proofs.Interface.{front_after}
 use Rattle.usb_serve.proofs.Outputs.{pieces_split}
 use Rattle.usb_serve.proofs.output.Output.put_each.Goals as goal
 

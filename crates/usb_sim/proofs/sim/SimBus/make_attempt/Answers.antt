@@ -8,11 +8,12 @@ use Rattle.usb_world.specs.{AreOfDamages, counted, World, Consistent, IsCut, IsA
 use Rattle.usb_world.specs.{after_clearing}
 use Rattle.usb_world.specs.declared.losses.Losses.{Losses}
 use Rattle.usb_sim.specs.{world_of}
-use Rattle.usb_bus.specs.{lines_between, step_lines, AppendsFront}
+use Rattle.usb_bus.specs.{lines_between, step_lines}
+use Rattle.usb_watch.specs.{AppendsFront}
 use Rattle.usb_sim.proofs.Endings.{without_fault, left_at_event, left_at_packet, left_at_line}
 use Rattle.usb_world.proofs.Interface.{losses_after, sane_ports, spends_wider}
 use Rattle.usb_world.proofs.Interface.{until_most}
-use Rattle.usb_bus.proofs.Interface.{front_after_first}
+use Rattle.usb_watch.proofs.Interface.{front_after_first}
 use Rattle.std.specs.Io.KnownBytes.{Appends}
 use Rattle.std.proofs.KnownBytes.{Appends-trans}
 use Rattle.usb_sim.proofs.Arrivals.{made_there, lines_alone, writes_alone, writes_told, writes_line}

@@ -1,5 +1,5 @@
 use Rattle.std.proofs.Common.{◌∙◌, subst}
-use Rattle.usb_lines.specs.{FailsToFlush, Flushes, out_pipe_of}
+use Rattle.usb_watch.specs.{FailsToFlush, Flushes, out_pipe_of}
 use Rattle.usb_stream.specs.{kept_of, unread_of, written_of}
 use Rattle.usb_stream.proofs.Hearing.{asks_by, asks_no_more_at_limit, not_written}
 use Rattle.usb_stream.proofs.bus.StreamBus.exchange.Goals as goal

@@ -1,5 +1,0 @@
-use Rattle.std.proofs.Common.{length}
-use Rattle.usb_bus.proofs.watched.+put_each.Given as goal
-
-abbrev pub decreases-put_each : goal.decreases-put_each
-decreases-put_each g l = length l.pieces.now
