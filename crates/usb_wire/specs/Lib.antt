@@ -10,7 +10,8 @@ pub mod Ports
 -- the words of this crate, wherever one stands
 pub use Questions.{IsEndpoint, IsQuestion, IsQuestionLine, between_text, call_text}
 pub use Questions.{data_with, direction_text, kind_asked, question_bytes, question_in_digits}
-pub use Questions.{question_line, speed_text, token_text, IsMost, IsRow, ins_text, is_outs, outs_text}
+pub use Questions.{question_line, speed_text, token_text, IsMost, IsRow, ins_text, is_outs}
+pub use Questions.{outs_text}
 pub use Writes.{IsWrite, Write}
 pub use Answers.{AreAtMost, IsData, IsSaidLine, IsSetupData, MayAnswer, MayPush, MaySay}
 pub use Answers.{answer_bytes, answer_in_digits, answer_setup, said_bytes, said_in_digits}
@@ -44,7 +45,8 @@ pub use QuestionReading.{row_or, setup_by}
 unfoldable pub use QuestionReading.{after_pre, asked_in, behind_pre_word, call_in, cut_at}
 unfoldable pub use QuestionReading.{data_behind, direction_in, endpoint_in, in_question}
 unfoldable pub use QuestionReading.{out_question, port_question, question_of, restart_question}
-unfoldable pub use QuestionReading.{ins_question, outs_question, setup_in, setup_question, some_bytes}
+unfoldable pub use QuestionReading.{ins_question, outs_question, setup_in, setup_question}
+unfoldable pub use QuestionReading.{some_bytes}
 unfoldable pub use QuestionReading.{toggle_named, token_behind, token_of_words}
 pub use declared.answer.Answer.{Answer}
 pub use declared.answer.Answer.TheVariants.{Ack, Clear, ControlIn, ControlOut, Data, Done, End}
