@@ -616,7 +616,8 @@ fn push_status(
 }
 
 /// Adds a remark on the device: the key with the bytes, the byte, the field with its value, and the
-/// rule. It is that of a host which takes hubs of 8 to 15 ports, or not. For example `configs[0], byte 2: wTotalLength is 34, the text has 25 bytes`.
+/// rule. It is that of a host which takes hubs of 8 to 15 ports, or not. For example
+/// `configs[0], byte 2: wTotalLength is 34, the text has 25 bytes`.
 ///
 /// # Errors
 ///
