@@ -99,7 +99,7 @@ by_choice wide bytes {e = e} h = pick wide (in_config status_at (config_of bytes
   where
     pick : (wide : Bool) (one : Option (ℕ × ℕ))
         → option_or one (if wide then in_config interrupt_in_at (config_of bytes) else None)
-          ≡ Some e
+        ≡ Some e
         → (one ≡ Some e)
         ⊎ ((one ≡ None) × (wide ≡ true) × (in_config interrupt_in_at (config_of bytes) ≡ Some e))
     pick wide (Some end) h = inl h
@@ -116,7 +116,7 @@ status_endpoint-wide wide bytes h = same (by_choice wide bytes h)
         ⊎ ((in_config status_at (config_of bytes) ≡ None) × (wide ≡ true)
         × (in_config interrupt_in_at (config_of bytes) ≡ Some e))
         → option_or (in_config status_at (config_of bytes))
-          (in_config interrupt_in_at (config_of bytes))
+        (in_config interrupt_in_at (config_of bytes))
         ≡ Some e
     same (inl one) = rw one refl
     same (inr (none, _, any)) = rw none any

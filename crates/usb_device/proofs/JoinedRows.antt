@@ -142,9 +142,31 @@ numbered-each f first (n ∷ numbers) (x ∷ row) from same = ap₂ (λ y more. 
 pub numbered-all : {A : Type 0} (f : ℕ → A) (row : List A) → length row ≡ 16
     → numbered_from (λ e x. f e) 0 row ≡ map f end_numbers
 numbered-all f row same =
-    numbered-each f 0 end_numbers row
-    (refl, (refl, (refl, (refl, (refl, (refl, (refl, (refl,
-    (refl, (refl, (refl, (refl, (refl, (refl, (refl, (refl, tt)))))))))))))))) same
+    numbered-each f 0 end_numbers row (
+      refl,
+      (
+        refl,
+        (
+          refl,
+          (
+            refl,
+            (
+              refl,
+              (
+                refl,
+                (
+                  refl,
+                  (
+                    refl,
+                    (refl, (refl, (refl, (refl, (refl, (refl, (refl, (refl, tt)))))))),
+                  ),
+                ),
+              ),
+            ),
+          ),
+        ),
+      ),
+    ) same
 
 -- at the plug nothing was taken
 pub joined-plugged : (s : Spec)

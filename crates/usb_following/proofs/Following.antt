@@ -103,7 +103,7 @@ module _ (p q : PlanData) (w : World) (agree : AgreeIn p q w) (ends : w.taken â‰
         split true d on more_come =
             let past : Later (after_event e events v)
             (after_due_events events (after_event e events v)) =
-              over_ready later_events (after_event e events v) in
+            over_ready later_events (after_event e events v) in
             let next = same_event v e events is h (omega (arith, past.taken, on.taken)) in
             let rest = drop (v.taken + 1) q.events in
             ap (Î» l. after_due_events l (followed q v)) next

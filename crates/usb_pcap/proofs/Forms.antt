@@ -171,7 +171,7 @@ plug_taken front line e fit =
     let whole : front ++ drop longest line ≡ line = ap (λ l. l ++ drop longest line) e
     ∙ take-append-drop longest line in
     subst IsPlug whole
-      (form_more (take 3 plug_form) _ (drop longest line) (fits_form-sound _ _ fit))
+    (form_more (take 3 plug_form) _ (drop longest line) (fits_form-sound _ _ fit))
 
 take_past : (n : ℕ) (xs ys : List ℕ) → length xs ≤ n
     → take n (xs ++ ys) ≡ xs ++ take (n - length xs) ys

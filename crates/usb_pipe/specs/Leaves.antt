@@ -247,7 +247,7 @@ came_with (Err fault) = []
 -- through a pipe that had got what stands before a place these bytes came, which are the next
 -- packets; the pipe that is left has got what stands before the place behind them
 pub record GaveNext (pipe : PipeState) (got : ℕ) (bytes : List ℕ) (left : PipeState)
-  (s v : State) : Type 0
+    (s v : State) : Type 0
   where
     pub behind : ℕ
     pub came : NextBytes pipe.ep pipe.max got bytes behind s

@@ -540,15 +540,9 @@ fn push_endpoint(
     let kind = byte_at(endpoint, 3);
     let most = usize::from(byte_at(endpoint, 4)) + 256 * usize::from(byte_at(endpoint, 5));
     if !is_status_address(wide, address) {
+        let number = usize::from(address);
         let rule = address_rule(wide);
-        push_rule(
-            alloc,
-            out,
-            at + 2,
-            "bEndpointAddress is ",
-            usize::from(address),
-            rule,
-        )
+        push_rule(alloc, out, at + 2, "bEndpointAddress is ", number, rule)
     } else if kind % 4 != 3 {
         push_rule(
             alloc,

@@ -7,8 +7,8 @@ use arrayvec::ArrayString;
 use usb_device::{AnswerPid, HeardPid};
 use usb_device_steps::Hearing;
 use usb_packet::{push_decimal, push_packet, push_payload};
-use usb_world_steps::{ExchangeRoom, OutgoingRoom};
 use usb_world::{Mark, Outgoing};
+use usb_world_steps::{ExchangeRoom, OutgoingRoom};
 
 /// Room for the longest line of an attempt.
 pub type Line = ArrayString<700>;

@@ -280,7 +280,7 @@ module _ (t : Target) (ep : ℕ) (to : Destination) (max : to.max ≡ t.max)
 pub out_is : (t : Target) (ep : ℕ) (to : Destination) → to.address ≡ t.addr → to.number ≡ ep
     → speed_is_low to.speed ≡ t.low → speed_has_pre to.speed ≡ t.pre → to.max ≡ t.max
     → (toggle : Toggle) (bytes : List ℕ) → out_packet to toggle bytes
-      ≡ out_attempt t ep toggle bytes
+    ≡ out_attempt t ep toggle bytes
 out_is t ep to a b c d e toggle bytes = rw (a, b, c, d, e) refl
 
 pub out_fits : (t : Target) (ep : ℕ) → IsTarget t → ep < 16 → (toggle : Toggle) (bytes : List ℕ)

@@ -184,7 +184,7 @@ module _ (ports : ℕ) (Told : ℕ → Type 0) (bits : ℕ) (t : Toggle) (max : 
   ends (Ok None) o outcomes so on e =
       let nak : o ≡ Some answer.Nak = got_nak max o e in
       let x : (bits ≡ 0) × PollAt NeverTold t v =
-        subst (λ y. PollOn (ToldSome ports Told) bits t y v) nak
+      subst (λ y. PollOn (ToldSome ports Told) bits t y v) nak
       on in
       (subst Told x.0 (so nak), x.1)
   ends (Ok (Some bytes)) o outcomes so on e =

@@ -132,7 +132,7 @@ eight_rows false false write xs s next e other = ap fault_in e
 
 setup_then : (with_bytes eight : Bool) (s : Setup)
     → (ok_or (if eight then Some s else None) BadLength >>= request_with with_bytes)
-      ≡ (if eight then request_with with_bytes s else Err BadLength)
+    ≡ (if eight then request_with with_bytes s else Err BadLength)
 setup_then with_bytes true s = refl
 setup_then with_bytes false s = refl
 
@@ -438,7 +438,7 @@ faults-poll count first second =
     two_read (endpoint_named second) (path_in first) poll_given _ _ (fault_in-endpoint second)
     (fault_in-path first) (λ _ _. refl)
     ∙ faults_table false false false (is_none (address_named second)) false
-      (is_none (path_of first))
+    (is_none (path_of first))
 
 faults-clear_of : (count : ℕ) (first second : List ℕ) → fault_in (clear_of_answer first second)
     ≡ argument_fault count (path_field ∷ endpoint_field ∷ []) (first ∷ second ∷ [])
@@ -447,7 +447,7 @@ faults-clear_of count first second =
     two_read (endpoint_named second) (path_in first) clear_of_given _ _ (fault_in-endpoint second)
     (fault_in-path first) (λ _ _. refl)
     ∙ faults_table false false false (is_none (address_named second)) false
-      (is_none (path_of first))
+    (is_none (path_of first))
 
 faults-send_to : (count : ℕ) (first second third : List ℕ)
     → fault_in (send_to_answer first second third)

@@ -309,7 +309,7 @@ read_write count setup digits p s (x ∷ xs) h t e writes size few =
     (setup ∷ digits ∷ []) (Answered (ControlOut p (record { setup = s; bytes = x ∷ xs })))
     (omega arith) control_front (path_text-is_word 20 p (omega arith) h)
     (two_rest 17 961 setup digits (setup_word setup s t)
-      (bytes_word write_limit digits (x ∷ xs) e few))
+    (bytes_word write_limit digits (x ∷ xs) e few))
     (rw (
       read_request_word true setup s t (writes_some s (length xs) writes size),
       read_bytes write_limit digits (x ∷ xs) e few,

@@ -24,7 +24,7 @@ returns-in_err-event-clause-value c =
     let v = c.index-values-i.result in
     let spelled = event_in
     (scene_after c.args.roots c.args.wide c.args.devices.now
-      (map ports_said (map view c.args.tables.now))
+    (map ports_said (map view c.args.tables.now))
     c.loop-i.done) (length c.loop-i.done) (as_table (view v)) in
     let same : EqualUnless Memory c.event_in-read.result spelled =
     rw (c.loop-i.invariant.scene, c.as_slice-count.ensures.value, c.as_table.ensures) at
@@ -43,7 +43,7 @@ loop-i-preserved c =
     let v = c.index-values-i.result in
     let spelled = event_in
     (scene_after c.args.roots c.args.wide c.args.devices.now
-      (map ports_said (map view c.args.tables.now))
+    (map ports_said (map view c.args.tables.now))
     c.loop-i.done) (length c.loop-i.done) (as_table (view v)) in
     let same : EqualUnless Memory c.event_in-read.result spelled =
     rw (c.loop-i.invariant.scene, c.as_slice-count.ensures.value, c.as_table.ensures) at
@@ -52,7 +52,7 @@ loop-i-preserved c =
     c.entry_at.result c.in_ok-event.event same c.entry_at.ensures c.in_ok-event.was in
     let follows = event_in_ok
     (scene_after c.args.roots c.args.wide c.args.devices.now
-      (map ports_said (map view c.args.tables.now))
+    (map ports_said (map view c.args.tables.now))
     c.loop-i.done) (length c.loop-i.done) (as_table (view v)) c.in_ok-event.event
     (entry_at_ok _ spelled c.in_ok-event.event good) in
     let grown = plugged_by-next [] c.loop-i.done c.in_ok-event.event in
@@ -81,7 +81,7 @@ push-requires c =
     let v = c.index-values-i.result in
     let spelled = event_in
     (scene_after c.args.roots c.args.wide c.args.devices.now
-      (map ports_said (map view c.args.tables.now))
+    (map ports_said (map view c.args.tables.now))
     c.loop-i.done) (length c.loop-i.done) (as_table (view v)) in
     let same : EqualUnless Memory c.event_in-read.result spelled =
     rw (c.loop-i.invariant.scene, c.as_slice-count.ensures.value, c.as_table.ensures) at
@@ -90,7 +90,7 @@ push-requires c =
     c.entry_at.result c.in_ok-event.event same c.entry_at.ensures c.in_ok-event.was in
     let follows = event_in_ok
     (scene_after c.args.roots c.args.wide c.args.devices.now
-      (map ports_said (map view c.args.tables.now))
+    (map ports_said (map view c.args.tables.now))
     c.loop-i.done) (length c.loop-i.done) (as_table (view v)) c.in_ok-event.event
     (entry_at_ok _ spelled c.in_ok-event.event good) in
     record { room = follows.room }

@@ -9,7 +9,7 @@ invariant-loop-i l = record {
   so_far : events_from l.roots l.wide l.devices (map ports_said (map view l.tables))
       (l.i + 1) l.done (map view (drop l.i l.values))
       ≡ events_from l.roots l.wide l.devices (map ports_said (map view l.tables)) 1 []
-        (map view l.values);
+      (map view l.values);
   fit : events_fit l.roots l.devices [] l.done ≡ true;
   scene : l.scene ≡ scene_after l.roots l.wide l.devices
       (map ports_said (map view l.tables)) l.done;

@@ -35,4 +35,4 @@ invariant_of-self-clause-few_events g c =
     c.in_ok-left.ensures ∙ ap (drop w.taken) c.events.ensures.value in
     subst (λ (l : List Event). w.taken + length l ≤ 10000) (sym left)
     (few_left w.taken 10000 p.events c.events.ensures.bound
-      (omega (arith, c.args.self.now.few_events)))
+    (omega (arith, c.args.self.now.few_events)))
