@@ -13,7 +13,8 @@ use Rattle.usb_transaction.specs.{Target, TransFault, heard_as, polled_as, heard
 use Rattle.usb_transaction.specs.{in_attempt, out_attempt, AttemptsMade, AttemptLog, start}
 use Rattle.usb_transaction.specs.{Transacted}
 use Rattle.usb_transaction.specs.declared.fault.TransFault.TheVariants as trans
-use Rattle.usb_pipe.specs.{Condition, PipeFault, PipeState, halt_address, packets_of, Sends, Receives}
+use Rattle.usb_pipe.specs.{Condition, PipeFault, PipeState, halt_address, packets_of, Sends}
+use Rattle.usb_pipe.specs.{Receives}
 use Rattle.usb_pipe.specs.{Cleared, Clears, FaultAfter, packet_target, Interrupt, PollAsked, Polls}
 use Rattle.usb_pipe.specs.{Gave, Came, Puts, Fetches, SendEnds, NotCame, NoRoomLeft, ReceiveEnds}
 use Rattle.usb_pipe.specs.declared.condition.Condition.TheVariants as condition
@@ -135,8 +136,9 @@ module _ (t : Target) (ep : ℕ) (first : Toggle) where
         none_transacted g heard_when_sent (out_attempt t ep (flips x.packets first)
         (take t.max x.rest)) x.mid (ap (λ w. w.fault) same ∙ e) x.fault new x.lost ∙ same
 
-pub sends_keep : (bytes : List ℕ) (pipe : PipeState) (old : World) (result : Result (Unit {0}) PipeFault)
-    (left : PipeState) (new : World) → Sends bytes pipe old result left new → KeepsAddresses old new
+pub sends_keep : (bytes : List ℕ) (pipe : PipeState) (old : World)
+    (result : Result (Unit {0}) PipeFault) (left : PipeState) (new : World)
+    → Sends bytes pipe old result left new → KeepsAddresses old new
 sends_keep bytes pipe old result left new x = split pipe.condition refl
   where
     some : pipe.condition ≢ condition.Broken → (b : List ℕ) → bytes ≡ b → KeepsAddresses old new

@@ -71,7 +71,8 @@ put_leaves f t toggle bytes old answer new e c = data_transacted f (out_attempt 
 gave_leaves : (f : List ℕ → Option ℕ) (t : Target) (first : Toggle) {old : World} {n : ℕ}
     {sent : List ℕ} {new : World} → Gave t 0 first old n sent new → Calm f t old → Calm f t new
 gave_leaves f t first moves.start c = c
-gave_leaves f t first {new = new} (moves.packet {n} {sent} {mid} bytes before full some fits went) c =
+gave_leaves f t first {new = new}
+    (moves.packet {n} {sent} {mid} bytes before full some fits went) c =
     put_leaves f t (flips n first) bytes mid (Ok []) new went (gave_leaves f t first before c)
 
 module _ (f : List ℕ → Option ℕ) (t : Target) (request : Setup) (same : setup_of (bytes_of request)

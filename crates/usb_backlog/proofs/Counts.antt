@@ -4,14 +4,17 @@ use Rattle.std.proofs.Common.{Option, Some, refl, arith}
 use Rattle.usb_port.specs.{PortCall}
 use Rattle.usb_device.specs.{Effect, Leaves, Calls, PortsOff, Ports, Spec}
 use Rattle.usb_world.specs.{Action, AnyStep, AtPorts, Course, FollowsPlan, PlanData, Plug}
-use Rattle.usb_world.specs.{Unplug, World, after_change, after_event, at_attempt, damage_in, opening}
+use Rattle.usb_world.specs.{Unplug, World, after_change, after_event, at_attempt, damage_in}
+use Rattle.usb_world.specs.{opening}
 use Rattle.usb_world.specs.{with_attempt, with_plugged}
 use Rattle.usb_world.specs.declared.event.Action.TheVariants.{Change, Ask}
 use Rattle.usb_world.proofs.Interface.{OverEvents, OverSteps, events_went, over_course}
-use Rattle.usb_backlog.specs.{KeepsBy, KeepsFound, OwesAnew, PortMark, allowed, devices_in, looks_by}
+use Rattle.usb_backlog.specs.{KeepsBy, KeepsFound, OwesAnew, PortMark, allowed, devices_in}
+use Rattle.usb_backlog.specs.{looks_by}
 use Rattle.usb_backlog.specs.{only, ports_at, strays_by, unmarked}
 use Rattle.usb_backlog.proofs.Devices.{devices_in-new, devices_in-plugged, devices_in-unplugged}
-use Rattle.usb_backlog.proofs.Places.{looks_by-less, looks_by-ports, strays_by-less, strays_by-reset}
+use Rattle.usb_backlog.proofs.Places.{looks_by-less, looks_by-ports, strays_by-less}
+use Rattle.usb_backlog.proofs.Places.{strays_by-reset}
 use Rattle.usb_backlog.proofs.Steps.{less-attempt, less-root, root_allowed}
 
 -- Over a step

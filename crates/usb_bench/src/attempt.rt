@@ -109,8 +109,8 @@ impl Judge {
         attempt: &Attempt,
         remark: Option<Remark>,
     ) -> Result<(), BenchFault>
-        ensures said { OnOk result (Says (played_of far.old) (remark_lines number attempt.now remark)
-            (played_of far.new)) }
+        ensures said { OnOk result (Says (played_of far.old)
+            (remark_lines number attempt.now remark) (played_of far.new)) }
         ensures counted { OnOk result
             (self.new ≡ record self.old { faults = faults_with remark self.old.faults }) }
         ensures fault { IfErr result (IsUnsaid (played_of far.new)) }

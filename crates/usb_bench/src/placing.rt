@@ -91,7 +91,8 @@ fn see<T: Trace>(
     ensures placed { OnOk result (DeedPlaced deed places.old (played_of far.old) places.new
         (played_of far.new)) }
     ensures fault { IfErr result (IsUnfollowed
-        (plan_in (after_seen (seen_at (far_of far.old).world deed) places.old)) (played_of far.old)) }
+        (plan_in (after_seen (seen_at (far_of far.old).world deed) places.old))
+        (played_of far.old)) }
     ensures kept { OnErr result (far.new ≡ far.old) }
 {
     if places.see(&seen_at(far.bus(), deed)) {

@@ -1,6 +1,7 @@
 -- What bytes that begin with a hub descriptor say.
 use Rattle.std.proofs.Common.{◌≡◌, ◌≤◌, ◌==◌, ◌||◌, ◌&&◌, ℕ, nat_lt, nat_le, not, Bool, true, false}
-use Rattle.std.proofs.Common.{if◌then◌else◌, List, length, slice_index, Result, Ok, Err, refl, arith}
+use Rattle.std.proofs.Common.{if◌then◌else◌, List, length, slice_index, Result, Ok, Err, refl}
+use Rattle.std.proofs.Common.{arith}
 use Rattle.std.proofs.Common.{ap}
 use Rattle.std.proofs.lemmas.Bool.{or_parts, leb-true}
 use Rattle.std.proofs.lemmas.Bool.Decides.{nat_tests}

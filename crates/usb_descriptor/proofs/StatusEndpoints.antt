@@ -1,5 +1,6 @@
 -- The endpoint by which a hub reports changes.
-use Rattle.std.proofs.Common.{◌≡◌, ◌≤◌, ◌==◌, ◌&&◌, ℕ, nat_le, Bool, true, false, if◌then◌else◌, List}
+use Rattle.std.proofs.Common.{◌≡◌, ◌≤◌, ◌==◌, ◌&&◌, ℕ, nat_le, Bool, true, false, if◌then◌else◌}
+use Rattle.std.proofs.Common.{List}
 use Rattle.std.proofs.Common.{[], ◌∷◌, Option, Some, None, Result, Ok, Err, refl, arith}
 use Rattle.std.proofs.Common.{◌⊎◌, inl, inr, sym, ap, subst}
 use Rattle.std.specs.Option.{option_or}
@@ -53,8 +54,9 @@ status_each : (endpoint : List ℕ) (e : ℕ × ℕ) → status_at endpoint ≡ 
     → IsUsable e × (e.0 ≡ 1)
 unfolding status_at
 status_each endpoint e h =
-    let test = endpoint_address endpoint == STATUS_ENDPOINT && is_interrupt (transfer_of endpoint) &&
-    nat_le 1 (packet_size endpoint) && nat_le (packet_size endpoint) 64 in
+    let test = endpoint_address endpoint == STATUS_ENDPOINT
+    && is_interrupt (transfer_of endpoint) && nat_le 1 (packet_size endpoint)
+    && nat_le (packet_size endpoint) 64 in
     (usable_if test 1 (packet_size endpoint) sized h, first test h)
   where
     sized : (endpoint_address endpoint == STATUS_ENDPOINT && is_interrupt (transfer_of endpoint) &&
@@ -96,7 +98,8 @@ unfolding status_endpoint_of
 by_choice wide bytes {e = e} h = pick wide (in_config status_at (config_of bytes)) h
   where
     pick : (wide : Bool) (one : Option (ℕ × ℕ))
-        → option_or one (if wide then in_config interrupt_in_at (config_of bytes) else None) ≡ Some e
+        → option_or one (if wide then in_config interrupt_in_at (config_of bytes) else None)
+        ≡ Some e
         → (one ≡ Some e)
         ⊎ ((one ≡ None) × (wide ≡ true) × (in_config interrupt_in_at (config_of bytes) ≡ Some e))
     pick wide (Some end) h = inl h
@@ -112,7 +115,8 @@ status_endpoint-wide wide bytes h = same (by_choice wide bytes h)
     same : {e : ℕ × ℕ} → (in_config status_at (config_of bytes) ≡ Some e)
         ⊎ ((in_config status_at (config_of bytes) ≡ None) × (wide ≡ true)
         × (in_config interrupt_in_at (config_of bytes) ≡ Some e))
-        → option_or (in_config status_at (config_of bytes)) (in_config interrupt_in_at (config_of bytes))
+        → option_or (in_config status_at (config_of bytes))
+        (in_config interrupt_in_at (config_of bytes))
         ≡ Some e
     same (inl one) = rw one refl
     same (inr (none, _, any)) = rw none any

@@ -1,7 +1,9 @@
 -- OUT endpoints of what a device keeps of them: their heads, and what they have taken.
 use Rattle.std.proofs.Common.{◌≡◌, ℕ, zero, suc, ◌+◌, ◌<◌, Bool, true, false, List, [], ◌∷◌, ◌++◌}
-use Rattle.std.proofs.Common.{Option, None, Some, is_some, length, map, get_or, slice_set, refl, sym, ap, ap₂, ◌∙◌, arith}
-use Rattle.usb_device.specs.{EndpointSpec, InEnd, OutEnd, OutHead, Spec, begun_if, end_numbers, head_of, joined, no_head, no_out}
+use Rattle.std.proofs.Common.{Option, None, Some, is_some, length, map, get_or, slice_set, refl}
+use Rattle.std.proofs.Common.{sym, ap, ap₂, ◌∙◌, arith}
+use Rattle.usb_device.specs.{EndpointSpec, InEnd, OutEnd, OutHead, Spec, begun_if, end_numbers}
+use Rattle.usb_device.specs.{head_of, joined, no_head, no_out}
 use Rattle.usb_device.specs.{numbered_from, plugged_head, plugged_out, rested_head}
 use Rattle.usb_device.specs.{rested_in, rested_out, taken_head, taken_on, with_at}
 use Rattle.usb_device.specs.{with_sink}
@@ -139,7 +141,32 @@ numbered-each f first (n ∷ numbers) (x ∷ row) from same = ap₂ (λ y more. 
 
 pub numbered-all : {A : Type 0} (f : ℕ → A) (row : List A) → length row ≡ 16
     → numbered_from (λ e x. f e) 0 row ≡ map f end_numbers
-numbered-all f row same = numbered-each f 0 end_numbers row (refl, (refl, (refl, (refl, (refl, (refl, (refl, (refl, (refl, (refl, (refl, (refl, (refl, (refl, (refl, (refl, tt)))))))))))))))) same
+numbered-all f row same =
+    numbered-each f 0 end_numbers row (
+      refl,
+      (
+        refl,
+        (
+          refl,
+          (
+            refl,
+            (
+              refl,
+              (
+                refl,
+                (
+                  refl,
+                  (
+                    refl,
+                    (refl, (refl, (refl, (refl, (refl, (refl, (refl, (refl, tt)))))))),
+                  ),
+                ),
+              ),
+            ),
+          ),
+        ),
+      ),
+    ) same
 
 -- at the plug nothing was taken
 pub joined-plugged : (s : Spec)

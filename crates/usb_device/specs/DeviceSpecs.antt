@@ -38,8 +38,8 @@ pub record Spec : Type 0 where
   pub hub : Option Hub
   -- what the first bulk IN endpoint gives, where no row names it
   pub source : List ℕ
-  -- the first bulk OUT endpoint halts once, when so many packets were taken since the plug, where no
-  -- row names it
+  -- the first bulk OUT endpoint halts once, when so many packets were taken since the plug, where
+  -- no row names it
   pub halt_after : Option ℕ
   -- its endpoints; of an address the first row counts
   pub endpoints : List EndpointSpec

@@ -25,6 +25,24 @@ fn push_kind(out: &mut String, key: PlanKey) -> Result<(), AllocError> {
             out.push_str("an array of ")?;
             push_words(out, words, ", ")
         }
+        Kind::Address => write!(
+            out,
+            "a number from {} to {} for OUT or from {} to {} for IN",
+            OUT.0, OUT.1, IN.0, IN.1
+        ),
+        Kind::AnyHex
+        | Kind::Hex(_)
+        | Kind::WholeHex(_)
+        | Kind::Hexes(_, _)
+        | Kind::Tables
+        | Kind::Endpoints(_)
+        | Kind::Requests(_) => push_many(out, key),
+    }
+}
+
+/// Adds what the kind of a key allows whose value is bytes, texts or tables.
+fn push_many(out: &mut String, key: PlanKey) -> Result<(), AllocError> {
+    match key.kind {
         Kind::AnyHex => out.push_str("two hexadecimal digits for each byte"),
         Kind::Hex(most) => write!(
             out,
@@ -45,11 +63,7 @@ fn push_kind(out: &mut String, key: PlanKey) -> Result<(), AllocError> {
             out,
             "at most {most} tables, each with `type`, `request`, and what the device does about it"
         ),
-        Kind::Address => write!(
-            out,
-            "a number from {} to {} for OUT or from {} to {} for IN",
-            OUT.0, OUT.1, IN.0, IN.1
-        ),
+        _ => Ok(()),
     }
 }
 

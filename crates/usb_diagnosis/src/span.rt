@@ -106,8 +106,8 @@ fn value_length(bytes: &[u8]) -> usize {
     bytes.len()
 }
 
-/// Where the first byte that is no hexadecimal digit is, in the text of this index of a value. None where the text spells
-/// bytes of its own.
+/// Where the first byte that is no hexadecimal digit is, in the text of this index of a value. None where the text
+/// spells bytes of its own.
 fn slip_in(bytes: &[u8], index: usize) -> Option<usize> {
     let mut quote = None;
     let mut texts = 0usize;

@@ -188,14 +188,17 @@ fn hub_supply(hub: &Option<HubFacts>) -> Option<u16>
 /// A drawn listing leaves no entry out, and gives each one line.
 pub fn drawing_laws()
     // One line is the heading, and each other one an entry's.
-    ensures count { (style : AStyle) (number : ℕ) (wide : Bool) (tree : SpecTree) (entries : Entries)
+    ensures count { (style : AStyle) (number : ℕ) (wide : Bool) (tree : SpecTree)
+        (entries : Entries)
         → length (drawing_lines style number wide tree entries) ≡ length entries + 1 }
     // The lines are in the order of the entries, accepted or refused.
     ensures order { (style : AStyle) (number : ℕ) (wide : Bool) (tree : SpecTree)
         (before behind : Entries) (e : List ℕ × AFinding)
-        → slice_get (drawing_lines style number wide tree (before ++ e ∷ behind)) (length before + 1)
+        → slice_get (drawing_lines style number wide tree (before ++ e ∷ behind))
+        (length before + 1)
         ≡ Some (ruled_line style wide tree (before ++ e ∷ behind) e behind) }
     // No line has a newline.
-    ensures whole { (style : AStyle) (number : ℕ) (wide : Bool) (tree : SpecTree) (entries : Entries)
+    ensures whole { (style : AStyle) (number : ℕ) (wide : Bool) (tree : SpecTree)
+        (entries : Entries)
         → All (λ line. is_unbroken line ≡ true) (drawing_lines style number wide tree entries) }
 {}

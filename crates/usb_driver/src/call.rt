@@ -59,8 +59,7 @@ pub(crate) fn made<B: Bus>(host: &mut Host<B>, want: &Want) -> Done
             Done::Received(host.control_in(path, request.setup()))
         }
         Want::ControlOut { path, request } => {
-            let bytes = request.bytes();
-            Done::Moved(host.control_out(path, request.setup(), bytes))
+            Done::Moved(host.control_out(path, request.setup(), request.bytes()))
         }
         Want::Look { path } => Done::Looked(host.look(path)),
         Want::News => Done::News(host.next_news()),

@@ -66,38 +66,10 @@ impl Command {
         let [l0, l1, l2, l3] = length.to_le_bytes();
         let way = if self.is_in() { 0x80 } else { 0 };
         let [a, b, c, d, e, f, g, h, i, j, k, l, m, n, o, p] = self.block();
+        let size = self.size();
         [
-            0x55,
-            0x53,
-            0x42,
-            0x43,
-            t0,
-            t1,
-            t2,
-            t3,
-            l0,
-            l1,
-            l2,
-            l3,
-            way,
-            0,
-            self.size(),
-            a,
-            b,
-            c,
-            d,
-            e,
-            f,
-            g,
-            h,
-            i,
-            j,
-            k,
-            l,
-            m,
-            n,
-            o,
-            p,
+            0x55, 0x53, 0x42, 0x43, t0, t1, t2, t3, l0, l1, l2, l3, way, 0, size, a, b, c, d, e, f,
+            g, h, i, j, k, l, m, n, o, p,
         ]
     }
 }

@@ -67,8 +67,8 @@ pub fn explain<R: Read, W: Write>(
     ensures read { IsErrOf result ExplainFault.Read → has_failed reader.new ≡ true }
     ensures write { IsErrOf result ExplainFault.Write → has_failed writer.new ≡ true }
     ensures explains { IfSome (R.remaining (inner_of reader.old)) (λ text.
-        ExplainsText only.entry (W.contents (inner_of writer.old)) (W.contents (inner_of writer.new))
-        text result) }
+        ExplainsText only.entry (W.contents (inner_of writer.old))
+        (W.contents (inner_of writer.new)) text result) }
 {
     let mut line = BegunLine::first();
     let mut piece = [0u8; 512];

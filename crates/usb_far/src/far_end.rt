@@ -223,8 +223,8 @@ impl<T: Trace> FarEnd<T> {
     fn attempt(&mut self, attempt: &Attempt) -> Result<Answer, FarFault>
         requires { IsAttempt (attempt_data attempt.now) }
         ensures done { IfOk result (λ answer.
-            IsDone (attempt_done (attempt_data attempt.now) (far_of self.old)) (played_of self.old) answer
-            (played_of self.new)) }
+            IsDone (attempt_done (attempt_data attempt.now) (far_of self.old))
+            (played_of self.old) answer (played_of self.new)) }
         ensures fault { IfErr result (λ fault.
             IsGivenUp (attempt_data attempt.now) (played_of self.old) fault (played_of self.new)) }
     {

@@ -41,8 +41,8 @@ pub enum Came {
 impl<T: Trace> FarEnd<T> {
     ghost use Rattle.usb_far.specs.FarEnd.{far_of, played_of};
 
-    /// Does what is asked, of a row its first attempt, and returns the lines to that: the statuses of root ports that are
-    /// not what was last reported, and the answer.
+    /// Does what is asked, of a row its first attempt, and returns the lines to that: the statuses of root ports that
+    /// are not what was last reported, and the answer.
     ///
     /// # Errors
     ///

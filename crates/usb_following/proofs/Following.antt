@@ -8,7 +8,8 @@ use Rattle.std.proofs.lemmas.List.{length-drop}
 use Rattle.usb_tree.proofs.Interface.{decided}
 use Rattle.usb_world.specs.{Attempt, BusFault, Event, PlanData, Step, World, after}
 use Rattle.usb_world.specs.{after_due_events, after_event, after_first_event, at_attempt, attempt}
-use Rattle.usb_world.specs.{attempted, damage_of, event, event_taken, is_due, opening, report, root_call}
+use Rattle.usb_world.specs.{attempted, damage_of, event, event_taken, is_due, opening, report}
+use Rattle.usb_world.specs.{root_call}
 use Rattle.usb_world.specs.{Limit, waits, with_attempt}
 use Rattle.usb_world.proofs.Interface.{over_ready}
 use Rattle.usb_sim.specs.{followed}
@@ -101,7 +102,8 @@ module _ (p q : PlanData) (w : World) (agree : AgreeIn p q w) (ends : w.taken �
             ≡ followed q (if b then after_due_events events (after_event e events v) else v)
         split true d on more_come =
             let past : Later (after_event e events v)
-            (after_due_events events (after_event e events v)) = over_ready later_events (after_event e events v) in
+            (after_due_events events (after_event e events v)) =
+            over_ready later_events (after_event e events v) in
             let next = same_event v e events is h (omega (arith, past.taken, on.taken)) in
             let rest = drop (v.taken + 1) q.events in
             ap (λ l. after_due_events l (followed q v)) next

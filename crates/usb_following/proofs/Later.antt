@@ -68,7 +68,8 @@ later [] w = same_world w
 later (s ∷ steps) w =
     joined_later w (after s w) _ (later_step s w) (later steps (after s w))
 
--- a plan's events behind those that came are left, the last one came before, and its damages are played
+-- a plan's events behind those that came are left, the last one came before, and its damages are
+-- played
 pub record IsOf (p : PlanData) (w : World) : Type 0 where
   pub left : w.left ≡ drop w.taken p.events
   pub taken : w.taken ≤ length p.events

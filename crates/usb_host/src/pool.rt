@@ -15,8 +15,8 @@ use usb_port::PortPath;
 use usb_resources::{Address, AddressPool};
 use usb_table::{DeviceTable, address_of};
 
-/// Enters a finding, with what a refused device said, and gives an accepted device its number. If memory is refused or no number is
-/// left, its address is released.
+/// Enters a finding, with what a refused device said, and gives an accepted device its number. If memory is refused or
+/// no number is left, its address is released.
 pub(crate) fn enter(
     table: &mut DeviceTable,
     pool: &mut AddressPool,

@@ -37,8 +37,8 @@ abbrev pub TouchesPortsBelow : ℕ → World → World → Type 0
 TouchesPortsBelow address w v = (f : AddressMap) (q : List ℕ) → f q ≡ Some address → MapHolds f w
     → (x : List ℕ) → is_above q x ≡ false → Course (LeavesPortAlone x) w v
 
--- over any bus: a fault of the bus is the one that it reported last, and an answer has so many bytes
--- at most
+-- over any bus: a fault of the bus is the one that it reported last, and an answer has so many
+-- bytes at most
 pub record ToldWithin (most : ℕ) (answer : Result (Vec ℕ) PipeFault) (last : Option BusFault)
     : Type 0 where
   pub told : BusToldIt answer last

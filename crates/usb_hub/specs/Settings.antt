@@ -105,7 +105,8 @@ pub record TookSetting (interface setting : ℕ) (s v : State) : Type 0 where
   }
 
 -- A device was asked to give an interface a setting. Where that is done, the interface has it.
--- Where it was refused, nothing changed but where the transfer stands. Where it failed else, either.
+-- Where it was refused, nothing changed but where the transfer stands. Where it failed else,
+-- either.
 pub record InterfaceAsked (t : Target) (interface setting : ℕ)
     (result : Result (Unit {0}) PipeFault) (x : Location) (s v : State) : Type 0 where
   pub others : is_at s t ≡ false → v ≡ s

@@ -68,20 +68,14 @@ fn owed_for(answer: &Answer) -> Owed
         Answer::ReceiveFrom { path, endpoint, .. } => {
             receives(path, EndpointChoice::At(*endpoint))
         }
-        Answer::Clear(path) => answer_to(path, Task::Clear, EndOwed::Done),
-        Answer::ClearOf { path, endpoint } => {
-            answer_to(path, Task::ClearOf(*endpoint), EndOwed::Done)
-        }
+        Answer::Clear(path) => done(path, Task::Clear),
+        Answer::ClearOf { path, endpoint } => done(path, Task::ClearOf(*endpoint)),
         Answer::Poll { path, endpoint } => answer_to(path, Task::Poll(*endpoint), EndOwed::Polled),
         Answer::Interface {
             path,
             interface,
             setting,
-        } => answer_to(
-            path,
-            Task::SetInterface(*interface, *setting),
-            EndOwed::Done,
-        ),
+        } => done(path, Task::SetInterface(*interface, *setting)),
         Answer::ControlIn { path, request } => reads(path, request),
         Answer::ControlOut { path, request } => writes(path, request),
         Answer::Look(path) => answer_to(path, Task::Look, EndOwed::Looked),
@@ -125,6 +119,13 @@ fn writes(path: &PortPath, request: &ControlWrite) -> Owed
         Task::ControlOut,
         EndOwed::Sent(request.bytes().len() as u64),
     )
+}
+
+/// What is owed after a request that brings no data.
+fn done(path: &PortPath, task: Task) -> Owed
+    ensures { result ≡ Owed.Answer path.now task EndOwed.Done }
+{
+    answer_to(path, task, EndOwed::Done)
 }
 
 /// How a task at a path ended is owed.

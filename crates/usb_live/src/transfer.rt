@@ -21,7 +21,8 @@ pub(crate) fn read<B: Bus>(
     request: ReadRequest,
 ) -> Result<Item, RunFault>
     ensures owed { IfOk result (λ item.
-        settles (Owed.Answer path Task.ControlIn (EndOwed.ReceivedWithin request.length)) item ≡ true) }
+        settles (Owed.Answer path Task.ControlIn (EndOwed.ReceivedWithin request.length)) item
+        ≡ true) }
     ensures shown { IfOk result (IsShown host.new.options) }
     ensures options { host.new.options ≡ host.old.options }
     ensures does { B.modelled ≡ true → Gives (Ask.ControlIn path request) host.old result host.new }
@@ -41,7 +42,8 @@ pub(crate) fn write<B: Bus>(
     ensures shown { IfOk result (IsShown host.new.options) }
     ensures options { host.new.options ≡ host.old.options }
     ensures does { B.modelled ≡ true → Gives (Ask.ControlOut path
-        (record { setup = request.now.setup; bytes = request.now.bytes })) host.old result host.new }
+        (record { setup = request.now.setup; bytes = request.now.bytes }))
+        host.old result host.new }
 {
     let bytes = request.bytes();
     let written = answered(host.control_out(&path, request.setup(), bytes))?;
@@ -60,7 +62,8 @@ pub(crate) fn send_to<B: Bus>(
         (EndOwed.Sent (length bytes.now))) item ≡ true) }
     ensures shown { IfOk result (IsShown host.new.options) }
     ensures options { host.new.options ≡ host.old.options }
-    ensures does { B.modelled ≡ true → Gives (Ask.SendTo path endpoint bytes.now) host.old result host.new }
+    ensures does { B.modelled ≡ true →
+        Gives (Ask.SendTo path endpoint bytes.now) host.old result host.new }
 {
     let sent = answered(host.send_to(&path, endpoint, bytes))?;
     let task = Task::Send(EndpointChoice::At(endpoint));

@@ -17,8 +17,8 @@ ghost use Rattle.usb_own_listings.specs.OwnListings.{HavePaths, ListsEntries};
 
 /// If a host's entries match a world whose ports are consistent, a listing that says what they say is right in it.
 ///
-/// The table of each host has paths of ports (*Agrees*, usb_host). One that has settled after fair damage knows the rest:
-/// `Settled` of `usb_run` has `matches`, and `order` among what the host knows.
+/// The table of each host has paths of ports (*Agrees*, usb_host). One that has settled after fair damage knows the
+/// rest: `Settled` of `usb_run` has `matches`, and `order` among what the host knows.
 pub fn own_listings_are_right()
     ensures { (options : HostOptions) (w : World) (entries : Entries) → Consistent w.roots
         → HavePaths entries → Matches options w entries

@@ -13,7 +13,8 @@ use usb_watch::{Watched, WriteFailed, put_pieces};
 /// Writes the page of a run's text. The name is its title.
 ///
 /// # Errors
-/// Outside: memory was refused, and nothing is written. Inside: the writer failed, and a prefix of the page has gone out.
+/// Outside: memory was refused, and nothing is written. Inside: the writer failed, and a prefix of the page has gone
+/// out.
 pub fn put_page<W: Write>(
     alloc: Global,
     name: &str,

@@ -170,7 +170,8 @@ pub plug_taken : (front line : List ℕ) → front ≡ take longest line
 plug_taken front line e fit =
     let whole : front ++ drop longest line ≡ line = ap (λ l. l ++ drop longest line) e
     ∙ take-append-drop longest line in
-    subst IsPlug whole (form_more (take 3 plug_form) _ (drop longest line) (fits_form-sound _ _ fit))
+    subst IsPlug whole
+    (form_more (take 3 plug_form) _ (drop longest line) (fits_form-sound _ _ fit))
 
 take_past : (n : ℕ) (xs ys : List ℕ) → length xs ≤ n
     → take n (xs ++ ys) ≡ xs ++ take (n - length xs) ys

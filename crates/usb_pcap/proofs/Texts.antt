@@ -34,7 +34,8 @@ strip_none word text other = rw other at (strip_by word text)
 
 -- what `strip_prefix` tells of what it found
 abbrev Stripped : List ℕ → List ℕ → Option (Bor (List ℕ)) → Type 0
-Stripped word text found = MatchOption found (pointwise (λ a b. a == b) (take (length word) text) word ≡ false)
+Stripped word text found =
+    MatchOption found (pointwise (λ a b. a == b) (take (length word) text) word ≡ false)
     (λ x. (pointwise (λ a b. a == b) (take (length word) text) word ≡ true)
     × (x.now ≡ drop (length word) text) × (length x.now + length word ≡ length text))
 

@@ -251,7 +251,8 @@ module _ (pipe : PipeState) {old new : World} (settled : IsSettled old.roots)
       (in_answered (end_of pipe) pipe.ep (flips n pipe.toggle) result
       (search (came_passed, end_of)) settled y e single)
 
-pub who_receives : (wanted : ℕ) (pipe : PipeState) (bytes : Vec ℕ) (left : PipeState) (old new : World)
+pub who_receives : (wanted : ℕ) (pipe : PipeState) (bytes : Vec ℕ) (left : PipeState)
+    (old new : World)
     → wanted ≢ 0 → Receives wanted pipe old (Ok bytes) left new → new.shared ≡ false
     → Answerer pipe.target old new
 who_receives wanted pipe bytes left old new some x single =
@@ -262,8 +263,8 @@ who_receives wanted pipe bytes left old new some x single =
 not_broken : (why : PipeFault) → IsTransferAnswer why → ◌≢◌ {A = PipeFault} why pipe_fault.Broken
 not_broken why y e = subst IsTransferAnswer e y
 
-pub who_send_had : (bytes : List ℕ) (pipe : PipeState) (why : PipeFault) (left : PipeState) (old new : World)
-    → IsTransferAnswer why
+pub who_send_had : (bytes : List ℕ) (pipe : PipeState) (why : PipeFault) (left : PipeState)
+    (old new : World) → IsTransferAnswer why
     → Sends bytes pipe old (Err why) left new → new.shared ≡ false → HadOne pipe.target old
 who_send_had bytes pipe why left old new y x single =
     let t = end_of pipe in
@@ -274,8 +275,8 @@ who_send_had bytes pipe why left old new y x single =
     (gave_passed t pipe.ep pipe.toggle g.before) m.settled (given_fault why g.fault g.told y)
     g.lost single))) x
 
-pub who_receive_had : (wanted : ℕ) (pipe : PipeState) (why : PipeFault) (left : PipeState) (old new : World)
-    → IsTransferAnswer why
+pub who_receive_had : (wanted : ℕ) (pipe : PipeState) (why : PipeFault) (left : PipeState)
+    (old new : World) → IsTransferAnswer why
     → Receives wanted pipe old (Err why) left new → new.shared ≡ false → HadOne pipe.target old
 who_receive_had wanted pipe why left old new y x single =
     receive_by (HadOne pipe.target old) (λ broken kept same. absurd (not_broken why y (cc broken)))

@@ -539,8 +539,9 @@ module _ (wanted : ℕ) (pipe left : PipeState) (old new : World) (least : 1 ≤
       (λ bytes is none kept same. rw (is, kept, same)
       (each_none _ (grind (arith, idle_came, never_received)) old)) (search received_told) x
 
-pub receive_leaves : (wanted : ℕ) (pipe : PipeState) (result : Result (Vec ℕ) PipeFault) (left : PipeState)
-    (old new : World) → 1 ≤ pipe.max → Receives wanted pipe old result left new → new.shared ≡ false
+pub receive_leaves : (wanted : ℕ) (pipe : PipeState) (result : Result (Vec ℕ) PipeFault)
+    (left : PipeState) (old new : World)
+    → 1 ≤ pipe.max → Receives wanted pipe old result left new → new.shared ≡ false
     → EachWas (ReceiveLeaves pipe result left) old new
 receive_leaves wanted pipe result left old new least x single =
     told_leaves old new (each_receive wanted pipe left old new least single result x)
@@ -568,8 +569,8 @@ receives_by wanted pipe old result left new works some x is settled = grind arit
 
 -- The record of a call
 
-pub send_told : (bytes : List ℕ) (pipe : PipeState) (result : Result (Unit {0}) PipeFault) (left : PipeState)
-    (old new : World) → Sends bytes pipe old result left new
+pub send_told : (bytes : List ℕ) (pipe : PipeState) (result : Result (Unit {0}) PipeFault)
+    (left : PipeState) (old new : World) → Sends bytes pipe old result left new
     → PipeSend bytes pipe old result left new
 send_told bytes pipe result left old new x = record {
   sends = x;
@@ -585,8 +586,8 @@ send_told bytes pipe result left old new x = record {
     who (Ok done) x = λ some. who_sends bytes pipe done left old new some x
     who (Err why) x = tt
 
-pub receive_told : (wanted : ℕ) (pipe : PipeState) (result : Result (Vec ℕ) PipeFault) (left : PipeState)
-    (old new : World) → 1 ≤ pipe.max → Receives wanted pipe old result left new
+pub receive_told : (wanted : ℕ) (pipe : PipeState) (result : Result (Vec ℕ) PipeFault)
+    (left : PipeState) (old new : World) → 1 ≤ pipe.max → Receives wanted pipe old result left new
     → PipeReceive wanted pipe old result left new
 receive_told wanted pipe result left old new fits x = record {
   receives = x;

@@ -1008,7 +1008,8 @@ write_told t request {old} new bytes result nothing is sent settled ended room x
       what = write_leaves t request result old new nothing same settled x;
       why = λ three. write_why t request result old new nothing same settled three x;
       who = elim result as (λ r. Writes t request old r new
-          → OnOk r ((is_harmless request ≡ false → t.addr ≢ 0) → Unshared new (Answerer t old new))) [
+          → OnOk r ((is_harmless request ≡ false → t.addr ≢ 0)
+          → Unshared new (Answerer t old new))) [
             | Ok done ↦ λ y addressed. who_writes t request done old new same addressed settled y
             | Err why ↦ λ y. tt
           ] x;

@@ -86,7 +86,8 @@ poll-not_of_bus : (A : Type 0) (why : PipeFault) (fault : TransFault) → why �
 poll-not_of_bus A why fault e n = grind arith
 
 pub polling_why : (pipe : Interrupt) (result : Result (Option (ArrayVec ℕ)) PipeFault)
-    (left : Interrupt) (old new : World) → IsSettled old.roots → NoThreeDamaged old → Polls pipe old result left new
+    (left : Interrupt) (old new : World) → IsSettled old.roots → NoThreeDamaged old
+    → Polls pipe old result left new
     → IsNoBusFault result → new.shared ≡ false → EachWas (PollingFailure pipe result) old new
 polling_why pipe (Ok got) left old new settled three x sound single =
     each_wider _ _ (λ j s v y. record { answered = λ l h at quiet why e. cc e }) old new

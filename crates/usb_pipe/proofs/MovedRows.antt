@@ -89,7 +89,8 @@ module _ (rest row front tail : List ℕ) (m full max : ℕ) (is : row ≡ take 
       let fits : length front ≤ m = omega (arith, long_row, parts) in
       let first : take (length front) rest ≡ front =
       sym (take-take (length front) m rest fits) ∙ ap (λ l. take (length front) l) (sym is ∙ split)
-      ∙ take-append-le (length front) front tail (omega arith) ∙ take_all (length front) front (omega arith) in
+      ∙ take-append-le (length front) front tail (omega arith)
+      ∙ take_all (length front) front (omega arith) in
       sym (take-append-drop (length front) rest) ∙ ap (λ l. l ++ drop (length front) rest) first
 
   row_next : take max tail ≡ take max (drop (length front) rest)
@@ -100,7 +101,8 @@ module _ (rest row front tail : List ℕ) (m full max : ℕ) (is : row ≡ take 
       append_same front (take max tail) (take max (drop (length front) rest))
       (row_parts rest row front tail m full n max is size split long refl (omega (arith, few))
       ∙ ap (λ k. take k rest) turned ∙ take_min (n * max) rest
-      ∙ ap (λ l. take (n * max) l) row_left ∙ ap (λ k. take k (front ++ drop (length front) rest)) one
+      ∙ ap (λ l. take (n * max) l) row_left
+      ∙ ap (λ k. take k (front ++ drop (length front) rest)) one
       ∙ take-append-add front (drop (length front) rest) max)
 
 -- Packets that were moved by one attempt each
@@ -422,7 +424,8 @@ module _ (t : Target) (ep : ℕ) (first : Toggle) {old : World} {text : Option (
   room_row x went (Ok bytes) err said = cc
 
   -- one did not come
-  pub lost_row_received : {new : World} {next : Toggle} (fault : TransFault) (result : Result (Vec ℕ) PipeFault) → IsErr result
+  pub lost_row_received : {new : World} {next : Toggle} (fault : TransFault)
+      (result : Result (Vec ℕ) PipeFault) → IsErr result
       → IsErrAnd result (λ why. why ≡ as_pipe_fault fault)
       → RowLost t ep toggle most mid fault next new
       → PacketsReceived t ep first wanted old result next new

@@ -57,7 +57,8 @@ known_left result works x = grind (arith, poll_by)
 
 -- Polls in turn
 
-turn_keeps : {pipe : PipeState} {old : World} {packets : List (List ℕ)} {left : PipeState} {new : World}
+turn_keeps : {pipe : PipeState} {old : World} {packets : List (List ℕ)} {left : PipeState}
+    {new : World}
     → PollsInTurn pipe old packets left new → left ≡ record pipe { toggle = left.toggle }
 turn_keeps start = refl
 turn_keeps {pipe} {left} (poll x p) = poll_keeps p.polls

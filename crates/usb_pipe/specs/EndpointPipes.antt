@@ -109,8 +109,8 @@ pub record MovedOut (n : ℕ) (bytes : List ℕ) (pipe : PipeState) (old : World
   pub halted : result ≡ Err Stalled → Turned n pipe.toggle left.toggle
 
 -- what sending answers and leaves
-pub record Sends (bytes : List ℕ) (pipe : PipeState) (old : World) (result : Result (Unit {0}) PipeFault)
-    (left : PipeState) (new : World) : Type 0 where
+pub record Sends (bytes : List ℕ) (pipe : PipeState) (old : World)
+    (result : Result (Unit {0}) PipeFault) (left : PipeState) (new : World) : Type 0 where
   pub broken : pipe.condition ≡ Broken → Idle (Err fault.Broken) pipe old result left new
   pub nothing : pipe.condition ≢ Broken → bytes ≡ [] → Idle (Ok tt) pipe old result left new
   pub moved : pipe.condition ≢ Broken → bytes ≢ []
@@ -138,8 +138,8 @@ pub record MovedIn (wanted : ℕ) (pipe : PipeState) (old : World) (result : Res
   pub halted : result ≡ Err Stalled → Turned wanted pipe.toggle left.toggle
 
 -- what receiving answers and leaves
-pub record Receives (wanted : ℕ) (pipe : PipeState) (old : World) (result : Result (Vec ℕ) PipeFault)
-    (left : PipeState) (new : World) : Type 0 where
+pub record Receives (wanted : ℕ) (pipe : PipeState) (old : World)
+    (result : Result (Vec ℕ) PipeFault) (left : PipeState) (new : World) : Type 0 where
   pub broken : pipe.condition ≡ Broken → (result ≡ Err fault.Broken) × (left ≡ pipe) × (new ≡ old)
   pub nothing : pipe.condition ≢ Broken → wanted ≡ 0
       → MatchResult result (λ bytes. bytes.items ≡ []) (λ _. ⊥) × (left ≡ pipe) × (new ≡ old)
@@ -151,8 +151,8 @@ cleared pipe (Ok done) = record pipe { toggle = Zero; condition = Ready }
 cleared pipe (Err why) = record pipe { condition = after_failed_clear pipe.condition why }
 
 -- CLEAR_FEATURE(ENDPOINT_HALT) was sent
-pub record Cleared (pipe : PipeState) (old : World) (result : Result (Unit {0}) PipeFault) (left : PipeState)
-    (new : World) : Type 0 where
+pub record Cleared (pipe : PipeState) (old : World) (result : Result (Unit {0}) PipeFault)
+    (left : PipeState) (new : World) : Type 0 where
   pub ends : MatchResult result (λ _. AttemptsMade 2 old new) (λ why. FaultAfter 1 old why new)
   pub stages : Writes pipe.target (clear_endpoint_halt (halt_address pipe.ep pipe.is_in)) old result
       new

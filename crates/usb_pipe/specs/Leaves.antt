@@ -1,7 +1,8 @@
 -- One device over a whole control transfer (8.5.3): what it was before, seen from where it is
 -- reachable after it.
 use Rattle.std.specs.Prelude.{◌≡◌, ◌≢◌, ◌⊎◌, ◌≤◌, ℕ, List, [], ◌∷◌, ◌++◌, take}
-use Rattle.std.specs.Prelude.{Bool, true, false, Option, None, Some, Result, Ok, Err, ⊤, if◌then◌else◌}
+use Rattle.std.specs.Prelude.{Bool, true, false, Option, None, Some, Result, Ok, Err, ⊤}
+use Rattle.std.specs.Prelude.{if◌then◌else◌}
 use Rattle.arrayvec.specs.ArrayVec.{ArrayVec}
 use Rattle.std.specs.Global.{Vec}
 use Rattle.usb_packet.specs.{Toggle, One}
@@ -13,7 +14,8 @@ use Rattle.usb_device.specs.{max_packet, State, accepted, NextBytes, NothingMove
 use Rattle.usb_device.specs.{hub_ports, change_bytes, told_bits, rested, row_of, Location, IsRead}
 use Rattle.usb_device.specs.{StatusGiven, IsSink}
 use Rattle.usb_device.specs.{SinkAt, IsSource, SourceAt, PollAt, NeverTold, OnlyControl, OnlyStage}
-use Rattle.usb_device.specs.{OnlySink, OnlySource, OnlyChanges, in_data, in_end, out_end, next_packet}
+use Rattle.usb_device.specs.{OnlySink, OnlySource, OnlyChanges, in_data, in_end, out_end}
+use Rattle.usb_device.specs.{next_packet}
 use Rattle.usb_device.specs.{GivesOn}
 use Rattle.usb_world.specs.{BusFault, one_more, World, Step, attempt, root_call, event, report}
 use Rattle.usb_world.specs.{Course}
@@ -244,7 +246,8 @@ came_with (Err fault) = []
 
 -- through a pipe that had got what stands before a place these bytes came, which are the next
 -- packets; the pipe that is left has got what stands before the place behind them
-pub record GaveNext (pipe : PipeState) (got : ℕ) (bytes : List ℕ) (left : PipeState) (s v : State) : Type 0
+pub record GaveNext (pipe : PipeState) (got : ℕ) (bytes : List ℕ) (left : PipeState)
+    (s v : State) : Type 0
   where
     pub behind : ℕ
     pub came : NextBytes pipe.ep pipe.max got bytes behind s

@@ -18,7 +18,8 @@ unfoldable pub use Control.{byte_bound, control_bound}
 pub use End.{IsEnd, packet_target}
 pub use InterruptPipes.{Interrupt, NoPoll, PollAsked, Polls, interrupt_made}
 pub use EndpointPipes.{PipeState, Cleared, Clears, Idle, MovedIn, MovedOut, Receives, Sends, Turned}
-pub use EndpointPipes.{PipePolls, PollsOnce, after_failed_clear, after_fault, after_transfer, cleared}
+pub use EndpointPipes.{PipePolls, PollsOnce, after_failed_clear, after_fault, after_transfer}
+pub use EndpointPipes.{cleared}
 pub use EndpointPipes.{halt_address, is_broken, is_ready, needs_clear, packets_of, pipe_made}
 pub use EndpointPipes.{polled_pipe}
 pub use Stages.{Asks, Confirms, DataEnds, DataLost, DataStage, Goes, NoData, NoRoom, NoSetUp}
@@ -29,8 +30,10 @@ pub use Moves.{ReceiveEnds, SendEnds, SendsAt, WhileSending, packets_came, packe
 pub use Packets.{PacketsReceived, PacketsSent}
 pub use Leaves.{AcceptedIn, AnswerRead, BegunAgain, ByteTold, CanEnd, ClearLeaves, EffectDone}
 pub use Leaves.{EffectOrNone, FrontTaken, InPipeInSync, IsBehind, IsBehindData, IsMaximum}
-pub use Leaves.{GaveNext, GavePackets, IsNoBusFault, IsTransferAnswer, LossesKept, LossesOf, Moment, OnlyEndpoint}
-pub use Leaves.{OutPipeInSync, PacketLeaves, PollLeaves, PollTells, ReadLeaves, ReceiveLeaves, SendLeaves}
+pub use Leaves.{GaveNext, GavePackets, IsNoBusFault, IsTransferAnswer, LossesKept, LossesOf, Moment}
+pub use Leaves.{OnlyEndpoint}
+pub use Leaves.{OutPipeInSync, PacketLeaves, PollLeaves, PollTells, ReadLeaves, ReceiveLeaves}
+pub use Leaves.{SendLeaves}
 pub use Leaves.{SendingLeaves, ToldOf}
 pub use Leaves.{TookItOrLost, WasRefused, WriteLeaves, came_with, got_after, lost, none, pipe_known}
 pub use Leaves.{report_in, some, took, whole}

@@ -106,8 +106,8 @@ pub record PipeSend (bytes : List ℕ) (pipe : PipeState) (old : World)
 
 -- bytes that were received are the next packets of the endpoint, end to end, none twice and none
 -- left out
-pub record PipeReceive (wanted : ℕ) (pipe : PipeState) (old : World) (result : Result (Vec ℕ) PipeFault)
-    (left : PipeState) (new : World) : Type 0 where
+pub record PipeReceive (wanted : ℕ) (pipe : PipeState) (old : World)
+    (result : Result (Vec ℕ) PipeFault) (left : PipeState) (new : World) : Type 0 where
   pub receives : Receives wanted pipe old result left new
   pub what : Unshared new (EachWas (ReceiveLeaves pipe result left) old new)
   pub why : Undamaged old result new (EachWas (ReceiveFailure wanted pipe result) old new)

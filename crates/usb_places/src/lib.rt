@@ -6,8 +6,8 @@
 //!   finds exactly these numbers, whatever the history (*IsKnown*).
 //! - `plan` is the plan with these numbers, up to the first event whose place is not found (*plan_known*,
 //!   `specs/Known.antt`).
-//! - Of a document or text without any `when` it is the plan that usb_plan reads, whose faults are reported too (`plain`
-//!   of `of_table` and `read`).
+//! - Of a document or text without any `when` it is the plan that usb_plan reads, whose faults are reported too
+//!   (`plain` of `of_table` and `read`).
 //!
 //! *Only tested*: the words of the faults.
 #![tactic(auto)]

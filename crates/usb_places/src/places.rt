@@ -229,8 +229,8 @@ fn places_of(alloc: Global, table: &Table) -> Result<Places, PlacesFault>
 }
 
 impl Places {
-    /// Reads the plan that a document describes, where events and damages may have `when`. Nothing of the host is seen yet.
-    /// Without any `when` it is the plan that `plan_of_table` of usb_plan reads.
+    /// Reads the plan that a document describes, where events and damages may have `when`. Nothing of the host is seen
+    /// yet. Without any `when` it is the plan that `plan_of_table` of usb_plan reads.
     ///
     /// # Errors
     ///
@@ -245,8 +245,8 @@ impl Places {
         places_of(alloc, table)
     }
 
-    /// Reads the plan that a TOML text spells, where events and damages may have `when`. Nothing of the host is seen yet.
-    /// Without any `when` it is the plan that `read_plan` of usb_plan reads.
+    /// Reads the plan that a TOML text spells, where events and damages may have `when`. Nothing of the host is seen
+    /// yet. Without any `when` it is the plan that `read_plan` of usb_plan reads.
     ///
     /// # Errors
     ///
@@ -254,8 +254,8 @@ impl Places {
     ///
     /// - `Plan` of `Syntax`: the text is no TOML document.
     /// - `When` of an event: its `when` is none, for this reason.
-    /// - `Plan`: the fault of `read_plan` of the text without the `when`s of its events, and without the damages from the
-    ///   first one with `when` on.
+    /// - `Plan`: the fault of `read_plan` of the text without the `when`s of its events, and without the damages from
+    ///   the first one with `when` on.
     /// - Of the first damage with a fault, from the first one with `when` on. `Order`: it has no `when`. `When`: its
     ///   `when` is none, for this reason. `Plan`: the fault of its other keys.
     /// - `Plan` of `Memory`: memory was refused. It says nothing of the text.

@@ -262,7 +262,8 @@ event_in_refused scene count ms v fault same is =
 
 pub event_in_far : (scene : SceneData) (count : ℕ) (ms : Members) (v : EventValues) (verb : Verb)
     (fault : EntryFault) → v ≡ event_values ms → verb_at v.verb ≡ Ok verb
-    → no_when (get_member (codes "when") ms) ≡ Err fault → event_in scene count (Some ms) ≡ Err fault
+    → no_when (get_member (codes "when") ms) ≡ Err fault → event_in scene count (Some ms)
+    ≡ Err fault
 unfolding event_in event_values
 event_in_far scene count ms v verb fault same is far =
     let told : verb_at (get_member (codes "do") ms) ≡ Ok verb = ap (λ x. verb_at x.verb) (sym same)

@@ -55,9 +55,11 @@ unfolding devices_from
 devices_from-end wide n done vs i le = rw (drop_all i vs le)
 
 pub events_from-next : (roots : ℕ) (wide : Bool) (specs : List Spec) (ports : List ℕ)
-    (done : List Event) (vs : List Value) (i : ℕ) (v : Value) (r : Result Event PlanFault) → i < length vs
+    (done : List Event) (vs : List Value) (i : ℕ) (v : Value) (r : Result Event PlanFault)
+    → i < length vs
     → v ≡ get_or vs i v
-    → entry_at (place.Event (i + 1)) (event_in (scene_after roots wide specs ports done) (length done)
+    → entry_at (place.Event (i + 1))
+    (event_in (scene_after roots wide specs ports done) (length done)
     (as_table (view v))) ≡ r
     → events_from roots wide specs ports (i + 1) done (map view (drop i vs))
     ≡ (r >>= λ e. events_from roots wide specs ports (i + 1 + 1) (done ++ e ∷ [])

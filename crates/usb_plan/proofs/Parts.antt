@@ -11,14 +11,16 @@ use Rattle.usb_port.specs.{path_of}
 use Rattle.usb_request.specs.{DIRECTION_IN}
 use Rattle.usb_plan.specs.declared.entry_fault.EntryFault.{EntryFault}
 use Rattle.usb_plan.specs.{MissingKey, BadValue, UnknownDevice, BadPath, PortTaken, PortEmpty}
-use Rattle.usb_plan.specs.{Identity, DeviceTables, DeviceTexts, SceneData, Way, fault_in_part, is_port}
+use Rattle.usb_plan.specs.{Identity, DeviceTables, DeviceTexts, SceneData, Way, fault_in_part}
+use Rattle.usb_plan.specs.{is_port}
 use Rattle.usb_plan.specs.{sooner, least_fault, entry_at, ◌>>=◌, read_text, number_in, number_at}
 use Rattle.usb_plan.specs.{number_or, class_at, hub_at, no_hub, is_low_speed, is_other, quirks_with}
 use Rattle.usb_plan.specs.{quirks_of, flag_at, stalls_at, source_at, naks_at, bulk_with, read_bulk}
 use Rattle.usb_plan.specs.{halt_at, halt_in, name_in, name_at, speed_at, descriptor_at, with_quirks}
 use Rattle.usb_plan.specs.{with_halt, with_hub, named_device, HubFits, FewNaks, HaltsLater}
 use Rattle.usb_plan.specs.{identity_with, identity_of, device_of_parts, device_with, read_device}
-use Rattle.usb_plan.specs.{device_in, has_numbers_of, read_path, free_path, taken_path, verb_at, action_of}
+use Rattle.usb_plan.specs.{device_in, has_numbers_of, read_path, free_path, taken_path, verb_at}
+use Rattle.usb_plan.specs.{action_of}
 use Rattle.usb_plan.specs.{EventValues, event_values, device_index_at, bytes_at, packets_at}
 use Rattle.usb_plan.specs.{plug_of, unplug_of, send_of, receive_of, clear_of, control_of, look_of}
 use Rattle.usb_plan.specs.{asked, request_at, after_at, event_room, interrupt_of, any_endpoint}
@@ -205,8 +207,8 @@ read_bulk_ok ms b h =
     let same : e2.value ≡ b.halt_after = cc e2.rest in
     halt_at_ok (get_member (codes "halt_after") ms) b.halt_after (e2.good ∙ ap Ok same)
 
-class_at_ok : (wide : Bool) (ports descriptor : Option Data) (low : Bool) (bytes : List ℕ) (u : Unit {0})
-    (hub : Option Hub) → class_at ports (Ok low) (Ok bytes) ≡ Ok u
+class_at_ok : (wide : Bool) (ports descriptor : Option Data) (low : Bool) (bytes : List ℕ)
+    (u : Unit {0}) (hub : Option Hub) → class_at ports (Ok low) (Ok bytes) ≡ Ok u
     → hub_at wide ports descriptor ≡ Ok hub → hub_fits low bytes hub ≡ true
 unfolding class_at hub_at no_hub is_low_speed is_other
 class_at_ok wide None None low bytes u hub c h = let same : None ≡ hub = cc h in rw (← same) refl

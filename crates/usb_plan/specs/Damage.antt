@@ -1,6 +1,7 @@
 -- The `damage` entries of the document.
 use Rattle.std.specs.Prelude.{◌≡◌, ◌≤◌, ℕ, codes, List, [], ◌∷◌, ◌++◌, ◌+◌, ◌-◌, ◌^◌, length}
-use Rattle.std.specs.Prelude.{true, Option, Some, None, ok_or, Result, Ok, Err, nat_lt, if◌then◌else◌}
+use Rattle.std.specs.Prelude.{true, Option, Some, None, ok_or, Result, Ok, Err, nat_lt}
+use Rattle.std.specs.Prelude.{if◌then◌else◌}
 use Rattle.std.specs.Str.{bytes_eq}
 use Rattle.toml.specs.Data.{Data, Members, get_member, as_table}
 use Rattle.usb_plan.specs.declared.entry_fault.EntryFault.{EntryFault}

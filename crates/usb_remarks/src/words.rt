@@ -540,15 +540,9 @@ fn push_endpoint(
     let kind = byte_at(endpoint, 3);
     let most = usize::from(byte_at(endpoint, 4)) + 256 * usize::from(byte_at(endpoint, 5));
     if !is_status_address(wide, address) {
+        let number = usize::from(address);
         let rule = address_rule(wide);
-        push_rule(
-            alloc,
-            out,
-            at + 2,
-            "bEndpointAddress is ",
-            usize::from(address),
-            rule,
-        )
+        push_rule(alloc, out, at + 2, "bEndpointAddress is ", number, rule)
     } else if kind % 4 != 3 {
         push_rule(
             alloc,
@@ -616,7 +610,8 @@ fn push_status(
 }
 
 /// Adds a remark on the device: the key with the bytes, the byte, the field with its value, and the
-/// rule. It is that of a host which takes hubs of 8 to 15 ports, or not. For example `configs[0], byte 2: wTotalLength is 34, the text has 25 bytes`.
+/// rule. It is that of a host which takes hubs of 8 to 15 ports, or not. For example
+/// `configs[0], byte 2: wTotalLength is 34, the text has 25 bytes`.
 ///
 /// # Errors
 ///

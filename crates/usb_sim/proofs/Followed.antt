@@ -11,7 +11,8 @@ use Rattle.usb_sim.specs.{is_alike}
 pub all_dropped : {X : Type 0} (p : X → Bool) (n : ℕ) (xs : List X) → list_all p xs ≡ true
     → list_all p (drop n xs) ≡ true
 all_dropped p n xs h =
-    list_all-from_AllPass p (drop n xs) (All-drop (λ x. p x ≡ true) n xs (AllPass-from_list_all p xs h))
+    list_all-from_AllPass p (drop n xs)
+    (All-drop (λ x. p x ≡ true) n xs (AllPass-from_list_all p xs h))
 
 pub devices_alike : (p : PlanData) (w : World) → is_alike p w ≡ true
     → length p.devices ≡ length w.devices

@@ -70,9 +70,9 @@ answered_in a w = data_length (made_in a (at_attempt w)).answer
 abbrev pub answered_by : {T : Type 0} {g : Ghosts T} → SimBus T g → ℕ
 answered_by s = data_length s.exchange.answer
 
--- what an attempt leaves beside the world: what was answered; where it told a fault, at the limit the
--- trace as it was, behind a fault all as it was, and where it is the first to tell Failed a trace
--- that has failed
+-- what an attempt leaves beside the world: what was answered; where it told a fault, at the limit
+-- the trace as it was, behind a fault all as it was, and where it is the first to tell Failed a
+-- trace that has failed
 pub record LeavesAttempt {T : Type 0} {g : Ghosts T} (a : Attempt) (old : SimBus T g)
     (result : Result Outcome BusFault) (new : SimBus T g) : Type 0 where
   pub answered : OnOk result (answered_by new ≡ answered_in a (world_of old))

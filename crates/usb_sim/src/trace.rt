@@ -9,6 +9,7 @@ use usb_exchange::{ExchangeRoom, ExchangeRoom, OutgoingRoom, OutgoingRoom};
 use usb_function::Hearing;
 use usb_packet::{push_decimal, push_packet, push_payload};
 use usb_world::{Mark, Outgoing};
+use usb_world_steps::{ExchangeRoom, OutgoingRoom};
 
 /// Room for the longest line of an attempt.
 pub type Line = ArrayString<700>;

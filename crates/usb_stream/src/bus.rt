@@ -612,8 +612,8 @@ impl<R: Read, W: Write> StreamBus<R, W> {
 
     /// What the next line says. The end of the input is the end, in place of what is requested.
     fn next_said(&mut self, asked: Asked) -> Result<Said, LiveFault>
-        ensures ok { IfOk result (Says asked (hubs_of (kept_of self.old)) (unread_of R.remaining self.old)
-            (unread_of R.remaining self.new)) }
+        ensures ok { IfOk result (Says asked (hubs_of (kept_of self.old))
+            (unread_of R.remaining self.old) (unread_of R.remaining self.new)) }
         ensures err { IfErr result (CauseOfLine asked (hubs_of (kept_of self.old))
             (unread_of R.remaining self.old) (unread_of R.remaining self.new)) }
         ensures same { kept_of self.new

@@ -19,8 +19,9 @@ ghost use Rattle.usb_streams.specs.Stretches.{IsStretch, Stretch, ToldItem};
 /// This is over any stretch of a run up to a host whose bus works. A device that is listed in the end was at its path
 /// from the beginning. Or it was there since a round or a look that found it anew and moved none of its bytes. From
 /// then on each of its OUT endpoints took the bytes of the sends to it that are reported done, end to end. At most a
-/// prefix of a failed send comes after them. An endpoint took nothing where nothing was sent to it. What each IN endpoint
-/// gave to receives and polls that are reported done are its next packets, end to end, none twice and none left out.
+/// prefix of a failed send comes after them. An endpoint took nothing where nothing was sent to it. What each IN
+/// endpoint gave to receives and polls that are reported done are its next packets, end to end, none twice and none
+/// left out.
 /// A poll that is reported done with a packet returned that packet. A transfer without an address is one of the first
 /// bulk endpoint of its direction. All this is so for an endpoint as long as no halt of it is cleared, and no interface
 /// of its device is set. A clear without an address leaves an endpoint alone whose pipe works.
@@ -35,7 +36,8 @@ pub fn transfers_join()
 /// device that is plugged, reached or not, has taken and given what the one at its place had. Or it was plugged since,
 /// and has neither taken nor given.
 pub fn control_moves_nothing()
-    ensures { (old new : World) → ControlCourse old new → IsSettled old.roots → MovesNothing old new }
+    ensures { (old new : World) → ControlCourse old new → IsSettled old.roots
+        → MovesNothing old new }
 {}
 
 /// A run is a stretch, in which the items that events asked for are reported; if it is over, its last listing comes

@@ -499,7 +499,8 @@ module _ (t : Target) (ep : ℕ) (awaited : Toggle) (old : World) (three : NoThr
       → Stands most had (waits_with h n) (after (attempt (a_in t ep awaited)) w) v
   next_stands had n w trail made c m left (unheard d) z y =
       damaged_stands trail made (λ x. (d (c x)).1 m) y
-  next_stands had n w trail made c m left (lost_nak d f one) z y = waited_stands n (omega arith) one y
+  next_stands had n w trail made c m left (lost_nak d f one) z y =
+      waited_stands n (omega arith) one y
   next_stands had n w trail made c m left (hesitates f one) z y =
       waited_stands (n + 1) (omega arith) one y
   next_stands {most} {u = u} had n w trail made c m left (empty f d) z (even g q few) =

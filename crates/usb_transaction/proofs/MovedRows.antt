@@ -152,7 +152,8 @@ module _ {t : Target} {ep : ℕ} {first : Toggle} {most : ℕ} {old : World}
       → next ≡ flips done.moved first → RowLost t ep first most old fault next new
   row_lost fault few x same = grind (arith, so_far)
 
-  pub ins_whole : done.end ≡ Whole → 1 ≤ most → RowCame t ep first most old done.moved got toggle now
+  pub ins_whole : done.end ≡ Whole → 1 ≤ most
+      → RowCame t ep first most old done.moved got toggle now
       × StepRun (transaction_bound * done.moved) old before now text
   ins_whole end some =
       let e : Ends Whole = subst Ends end m.ends in (
@@ -278,7 +279,8 @@ module _ (t : Target) (ep : ℕ) (to : Destination) (max : to.max ≡ t.max)
 
 pub out_is : (t : Target) (ep : ℕ) (to : Destination) → to.address ≡ t.addr → to.number ≡ ep
     → speed_is_low to.speed ≡ t.low → speed_has_pre to.speed ≡ t.pre → to.max ≡ t.max
-    → (toggle : Toggle) (bytes : List ℕ) → out_packet to toggle bytes ≡ out_attempt t ep toggle bytes
+    → (toggle : Toggle) (bytes : List ℕ) → out_packet to toggle bytes
+    ≡ out_attempt t ep toggle bytes
 out_is t ep to a b c d e toggle bytes = rw (a, b, c, d, e) refl
 
 pub out_fits : (t : Target) (ep : ℕ) → IsTarget t → ep < 16 → (toggle : Toggle) (bytes : List ℕ)
@@ -338,7 +340,8 @@ module _ {t : Target} {ep : ℕ} {first : Toggle} {total : List ℕ} {old : Worl
     turned = same;
   }
 
-  pub outs_whole : done.end ≡ Whole → 0 < length total → RowGone t ep first total old done.moved toggle now
+  pub outs_whole : done.end ≡ Whole → 0 < length total
+      → RowGone t ep first total old done.moved toggle now
       × StepRun (transaction_bound * done.moved) old before now text
   outs_whole end some = grind (arith, append-nil, row_all_gone, so_sent, went_wider)
 

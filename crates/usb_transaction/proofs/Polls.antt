@@ -155,7 +155,8 @@ module _ (ports : ℕ) (Told : ℕ → Type 0) (bits : ℕ) (t : Toggle) (max : 
   fits_came given bytes is = grind (arith, counted, few_bytes)
 
   -- no byte came, or one that ends the poll
-  came : (o : Option Answer) → PollOn (ToldSome ports Told) bits t o v → PollAt (ToldSome ports Told) t v
+  came : (o : Option Answer) → PollOn (ToldSome ports Told) bits t o v
+      → PollAt (ToldSome ports Told) t v
       ⊎ (PollAt NeverTold (other t) v × (IsNoEnd (polled_as t (got max o)) → ⊥))
   came None on = inl on
   came (Some answer.Ack) on = elim on [ ]
@@ -182,7 +183,8 @@ module _ (ports : ℕ) (Told : ℕ → Type 0) (bits : ℕ) (t : Toggle) (max : 
       → PollEnds ports Told t result v
   ends (Ok None) o outcomes so on e =
       let nak : o ≡ Some answer.Nak = got_nak max o e in
-      let x : (bits ≡ 0) × PollAt NeverTold t v = subst (λ y. PollOn (ToldSome ports Told) bits t y v) nak
+      let x : (bits ≡ 0) × PollAt NeverTold t v =
+      subst (λ y. PollOn (ToldSome ports Told) bits t y v) nak
       on in
       (subst Told x.0 (so nak), x.1)
   ends (Ok (Some bytes)) o outcomes so on e =
@@ -301,7 +303,8 @@ module _ (t : Target) (ep : ℕ) (toggle : Toggle) (old : World) (j : Location) 
       abbrev Ever : ℕ → Type 0
       Ever bits = (now : World) × ToldIn a old now j bits
 
-      by_then : PollAt (ToldSome ports (ToldSince a old w j)) toggle u → PollAt (ToldSome ports Ever) toggle u
+      by_then : PollAt (ToldSome ports (ToldSince a old w j)) toggle u
+          → PollAt (ToldSome ports Ever) toggle u
       by_then = poll_at-wider (ToldSome ports (ToldSince a old w j)) (ToldSome ports Ever)
           (λ bits x. (x.0, x.1, (w, x.2.told))) toggle u
 

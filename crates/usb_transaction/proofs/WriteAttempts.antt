@@ -105,7 +105,8 @@ module _ (u : State) (toggle : Toggle) (bytes : List ℕ) where
       else if c then Wrong else Next)).0) ≢ Lost
   fits_answered max w a b c e = grind arith
 
-  within_maximum : length bytes ≤ max_packet u.spec → nat_lt (max_packet u.spec) (length bytes) ≡ false
+  within_maximum : length bytes ≤ max_packet u.spec → nat_lt (max_packet u.spec) (length bytes)
+      ≡ false
   within_maximum few = grind (arith, nat_tests, few)
 
   abbrev row_heard : ℕ → Stage → Type 0

@@ -56,9 +56,11 @@ pub record StatusReadFailure (t : Target) (result : Result (List ℕ) TransFault
   pub waited : Listens t x s → IsInRead s → s.spec.busy ≡ false → s.naks ≤ 200 → result ≢ Err Busy
 
 -- data to endpoint 0: a device in the data stage of a control write takes packets that are no
--- longer than its maximum, and one that refused the request says so; only a busy one goes on waiting
+-- longer than its maximum, and one that refused the request says so; only a busy one goes on
+-- waiting
 pub data Expects (bytes : List ℕ) (s : State) : Type 0 where
-  data_write : (w : Write) → s.stage ≡ writing w → length bytes ≤ max_packet s.spec → Expects bytes s
+  data_write : (w : Write) → s.stage ≡ writing w → length bytes ≤ max_packet s.spec
+      → Expects bytes s
   refused_write : s.stage ≡ refused → Expects bytes s
 
 pub record WriteOutFailure (t : Target) (bytes : List ℕ) (result : Result (List ℕ) TransFault)

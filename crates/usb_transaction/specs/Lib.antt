@@ -22,7 +22,8 @@ pub use AttemptLogs.{TransactionDone, Waiting, errors_with, next, start, waits_w
 unfoldable pub use AttemptLogs.{KeepsTrying, errors_running, waits_in}
 pub use AskedDevices.{Answered, AskedLast, IsUnheard, SetupAccepted, Took}
 pub use Leaves.{AcceptedAt, AcceptedSince, CanAccept, CanAnswer, ChangesIn, ControlIn, IsInRead}
-pub use Leaves.{IsNotOfBus, IsStatusEndpoint, PollCut, PollEnds, ReadCut, ReadEnds, ReadStatus, SetupDone}
+pub use Leaves.{IsNotOfBus, IsStatusEndpoint, PollCut, PollEnds, ReadCut, ReadEnds, ReadStatus}
+pub use Leaves.{SetupDone}
 pub use Leaves.{SinkBetween, SinkEnds, SinkOut, SourceBetween, SourceCut, SourceEnds, SourceIn}
 pub use Leaves.{StatusEnds, ToldBy, ToldIn, ToldSince, ToldSome, is_at, none_came, one_came, over}
 pub use Leaves.{refuses_in, IsPacedWithin, SourcePollEnds, SourcePolled}

@@ -9,15 +9,18 @@ use Rattle.std.proofs.lemmas.Bool.Decides.{nat_tests}
 use Rattle.usb_packet.specs.{Toggle, Zero, One}
 use Rattle.usb_port.specs.{path_of}
 use Rattle.usb_request.specs.{DIRECTION_IN, Setup, setup_of}
-use Rattle.usb_wire.specs.{Answer, Roots, RootsAndRows, second_answer, version_field, Ack, Nak, Stall, Nothing, Data, Done, Show, End, Send}
+use Rattle.usb_wire.specs.{Answer, Roots, RootsAndRows, second_answer, version_field, Ack, Nak}
+use Rattle.usb_wire.specs.{Stall, Nothing, Data, Done, Show, End, Send}
 use Rattle.usb_wire.specs.{Receive, Clear, Said, Changed, WireFault, LineTooLong, BadCharacter}
 use Rattle.usb_wire.specs.{ControlOut, Look, News, bare_control, both, control_answer}
-use Rattle.usb_wire.specs.{counted_write, is_other_count, is_other_request, is_other_setup, look_answer}
+use Rattle.usb_wire.specs.{counted_write, is_other_count, is_other_request, is_other_setup}
+use Rattle.usb_wire.specs.{look_answer}
 use Rattle.usb_wire.specs.{request_field, request_of_word, request_with, setup_in_bytes, with_three}
 use Rattle.usb_wire.specs.{Write, has_bytes, is_write, write_answer, write_limit, write_of_words}
 use Rattle.usb_wire.specs.{ClearOf, Poll, ReceiveFrom, SendTo, clear_of_answer, endpoint_field}
 use Rattle.usb_wire.specs.{endpoint_named, address_named, poll_answer, receive_from_answer}
-use Rattle.usb_wire.specs.{send_to_answer, send_to_limit, Interface, interface_answer, setting_field}
+use Rattle.usb_wire.specs.{send_to_answer, send_to_limit, Interface, interface_answer}
+use Rattle.usb_wire.specs.{setting_field}
 use Rattle.usb_wire.specs.{NoAnswer, BadHex, BadLength, BadNumber, BadPath, Asked, send_limit}
 use Rattle.usb_wire.specs.{Field, Form, argument_fault, bytes_field, fault_by, form_fault}
 use Rattle.usb_wire.specs.{fields_in, forms, packets_field, path_field, root_field, roots_field}
@@ -128,7 +131,8 @@ eight_rows false true false xs s next e other = ap fault_in e
 eight_rows false false write xs s next e other = ap fault_in e
 
 setup_then : (with_bytes eight : Bool) (s : Setup)
-    → (ok_or (if eight then Some s else None) BadLength >>= request_with with_bytes) ≡ (if eight then request_with with_bytes s else Err BadLength)
+    → (ok_or (if eight then Some s else None) BadLength >>= request_with with_bytes)
+    ≡ (if eight then request_with with_bytes s else Err BadLength)
 setup_then with_bytes true s = refl
 setup_then with_bytes false s = refl
 
@@ -433,7 +437,8 @@ unfolding poll_answer
 faults-poll count first second =
     two_read (endpoint_named second) (path_in first) poll_given _ _ (fault_in-endpoint second)
     (fault_in-path first) (λ _ _. refl)
-    ∙ faults_table false false false (is_none (address_named second)) false (is_none (path_of first))
+    ∙ faults_table false false false (is_none (address_named second)) false
+    (is_none (path_of first))
 
 faults-clear_of : (count : ℕ) (first second : List ℕ) → fault_in (clear_of_answer first second)
     ≡ argument_fault count (path_field ∷ endpoint_field ∷ []) (first ∷ second ∷ [])
@@ -441,7 +446,8 @@ unfolding clear_of_answer
 faults-clear_of count first second =
     two_read (endpoint_named second) (path_in first) clear_of_given _ _ (fault_in-endpoint second)
     (fault_in-path first) (λ _ _. refl)
-    ∙ faults_table false false false (is_none (address_named second)) false (is_none (path_of first))
+    ∙ faults_table false false false (is_none (address_named second)) false
+    (is_none (path_of first))
 
 faults-send_to : (count : ℕ) (first second third : List ℕ)
     → fault_in (send_to_answer first second third)

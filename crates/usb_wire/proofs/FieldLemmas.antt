@@ -181,7 +181,8 @@ address_in : (word : List ℕ) (o : Option (List ℕ)) (a : ℕ)
 address_in word None a e = absurd (none-some a e)
 address_in word (Some bytes) a e = spelled_address word bytes a e
 
-pub address_named-word : (word : List ℕ) (a : ℕ) → address_named word ≡ Some a → IsEndpointWord word a
+pub address_named-word : (word : List ℕ) (a : ℕ) → address_named word ≡ Some a
+    → IsEndpointWord word a
 address_named-word word a e = address_in word (hex_value word) a e
 
 address_byte : (a : ℕ) → is_endpoint_address a ≡ true → a < 256

@@ -7,7 +7,8 @@ use Rattle.usb_wire.specs.{said_path, said_to}
 use Rattle.usb_wire.proofs.FaultLaws.{faults-line}
 
 named_if : (b : Bool) (asked : Asked) (hubs : Hubs) (line : List ℕ) (said : Said)
-    → names_ports hubs.wide (said_path said) ≡ b → MaySay asked hubs.roots said × IsSaidLine line said
+    → names_ports hubs.wide (said_path said) ≡ b → MaySay asked hubs.roots said
+    × IsSaidLine line said
     → IfOk {E = WireFault} (if b then Ok said else Err BadPath)
     (λ said. MaySayTo asked hubs said × IsSaidLine line said)
 named_if true asked hubs line said named h = ((h.0, named), h.1)

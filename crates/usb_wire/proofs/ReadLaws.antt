@@ -1,5 +1,6 @@
 -- What may be said and stands in a line is read.
-use Rattle.std.proofs.Common.{◌≡◌, ℕ, suc, ◌+◌, ◌-◌, ◌*◌, ◌<◌, ◌≤◌, ◌==◌, Bool, true, false, List, []}
+use Rattle.std.proofs.Common.{◌≡◌, ℕ, suc, ◌+◌, ◌-◌, ◌*◌, ◌<◌, ◌≤◌, ◌==◌, Bool, true, false, List}
+use Rattle.std.proofs.Common.{[]}
 use Rattle.std.proofs.Common.{◌∷◌, ◌++◌, length, get_or}
 use Rattle.std.proofs.Common.{Some, ok_or, Ok, refl, sym, subst, ap, ◌∙◌, arith, append_assoc}
 use Rattle.std.proofs.Common.{codes, decimal, length-append, lit<, lit≤}
@@ -16,12 +17,14 @@ use Rattle.usb_request.specs.{is_endpoint_address}
 use Rattle.usb_wire.specs.{ClearOf, Poll, ReceiveFrom, SendTo, clear_of_answer, endpoint_named}
 use Rattle.usb_wire.specs.{address_text, poll_answer, receive_from_answer}
 use Rattle.usb_wire.specs.{send_to_answer, send_to_limit, Interface, interface_answer}
-use Rattle.usb_wire.specs.{Answer, Roots, RootsAndRows, second_answer, Ack, Nak, Stall, Nothing, Data, Done, Show, End, Send}
+use Rattle.usb_wire.specs.{Answer, Roots, RootsAndRows, second_answer, Ack, Nak, Stall, Nothing}
+use Rattle.usb_wire.specs.{Data, Done, Show, End, Send}
 use Rattle.usb_wire.specs.{Receive, Clear, Said, Changed, Answered, BadNumber, BadPath, Asked}
 use Rattle.usb_wire.specs.{ControlIn, ControlOut, Look, News, answer_setup, control_answer}
 use Rattle.usb_wire.specs.{is_other_request, look_answer, request_of_word, said_setup, with_three}
 use Rattle.usb_wire.specs.{bare_control, write_answer, write_limit, write_of_words, write_text}
-use Rattle.usb_wire.specs.{MayAnswer, HasRoom, IsSaidLine, MayPush, MaySay, answer_bytes, answer_in_digits}
+use Rattle.usb_wire.specs.{MayAnswer, HasRoom, IsSaidLine, MayPush, MaySay, answer_bytes}
+use Rattle.usb_wire.specs.{answer_in_digits}
 use Rattle.usb_wire.specs.{said_bytes, said_line, said_in_digits, send_limit, hex_value, alone}
 use Rattle.usb_wire.specs.{bytes_of_word, clear_answer, data_answer, line_says, number_of_word}
 use Rattle.usb_wire.specs.{path_in, status_change, receive_answer, roots_answer, send_answer}
@@ -31,7 +34,8 @@ use Rattle.usb_wire.specs.declared.question.Asked.TheVariants.{Hello, Attempt, P
 use Rattle.usb_wire.proofs.FieldLemmas.{Counted, all_visible-decimal, all_visible-hex}
 use Rattle.usb_wire.proofs.FieldLemmas.{all_visible-path_text, bytes_of_word-value}
 use Rattle.usb_wire.proofs.FieldLemmas.{address_named-text, small_address}
-use Rattle.usb_wire.proofs.FieldLemmas.{hex_value-hex_text, hex_value-length, hex_value-within, spelled-value}
+use Rattle.usb_wire.proofs.FieldLemmas.{hex_value-hex_text, hex_value-length, hex_value-within}
+use Rattle.usb_wire.proofs.FieldLemmas.{spelled-value}
 use Rattle.usb_wire.proofs.FieldLemmas.{status_of_word-value, within-decimal}
 use Rattle.usb_wire.proofs.SetupLemmas.{IsBytes-bytes_of, length-bytes_of}
 use Rattle.usb_wire.proofs.SetupLemmas.{setup_in_bytes-bytes_of}
@@ -304,7 +308,8 @@ read_write count setup digits p s (x ∷ xs) h t e writes size few =
     read_rest Wait count 8 979 (codes "control ") (codes "control") (path_text p) _
     (setup ∷ digits ∷ []) (Answered (ControlOut p (record { setup = s; bytes = x ∷ xs })))
     (omega arith) control_front (path_text-is_word 20 p (omega arith) h)
-    (two_rest 17 961 setup digits (setup_word setup s t) (bytes_word write_limit digits (x ∷ xs) e few))
+    (two_rest 17 961 setup digits (setup_word setup s t)
+    (bytes_word write_limit digits (x ∷ xs) e few))
     (rw (
       read_request_word true setup s t (writes_some s (length xs) writes size),
       read_bytes write_limit digits (x ∷ xs) e few,

@@ -17,7 +17,8 @@ use Rattle.usb_request.specs.{DIRECTION_IN, Setup, bytes_of}
 use Rattle.usb_wire.specs.{ClearOf, Poll, ReceiveFrom, SendTo, clear_of_answer, endpoint_named}
 use Rattle.usb_wire.specs.{address_named, address_text, poll_answer, receive_from_answer}
 use Rattle.usb_wire.specs.{send_to_answer, send_to_limit, Interface, interface_answer}
-use Rattle.usb_wire.specs.{Answer, Roots, RootsAndRows, second_answer, Ack, Nak, Stall, Nothing, Data, Done, Show, End, Send}
+use Rattle.usb_wire.specs.{Answer, Roots, RootsAndRows, second_answer, Ack, Nak, Stall, Nothing}
+use Rattle.usb_wire.specs.{Data, Done, Show, End, Send}
 use Rattle.usb_wire.specs.{ControlIn, ControlOut, IsSetupData, Look, News, answer_setup}
 use Rattle.usb_wire.specs.{bare_control, both, control_answer, counted_write, has_bytes}
 use Rattle.usb_wire.specs.{is_other_request, look_answer, request_of_word, request_with, said_bytes}
@@ -25,7 +26,8 @@ use Rattle.usb_wire.specs.{said_in_digits, said_setup, setup_in_bytes, with_thre
 use Rattle.usb_wire.specs.{IsWrite, Write, is_write, write_limit, write_of_words, write_text}
 use Rattle.usb_wire.specs.{Receive, Clear, Said, Changed, Answered, WireFault, LineTooLong}
 use Rattle.usb_wire.specs.{BadCharacter, NoAnswer, BadHex, BadLength, BadNumber, BadPath, Asked}
-use Rattle.usb_wire.specs.{More as MoreWords, AreAtMost, MayAnswer, HasRoom, IsSaidLine, MayPush, MaySay}
+use Rattle.usb_wire.specs.{More as MoreWords, AreAtMost, MayAnswer, HasRoom, IsSaidLine, MayPush}
+use Rattle.usb_wire.specs.{MaySay}
 use Rattle.usb_wire.specs.{answer_bytes, answer_in_digits, send_limit, hex_value, number_within}
 use Rattle.usb_wire.specs.{alone, said_of, bytes_of_word, clear_answer, count_in, data_answer}
 use Rattle.usb_wire.specs.{line_says, may_push, number_of_word, path_in, status_change}
@@ -36,7 +38,8 @@ use Rattle.usb_wire.specs.declared.question.Asked.TheVariants.{Hello, Attempt, P
 use Rattle.usb_wire.specs.declared.words.Words.{Words}
 use Rattle.usb_wire.specs.Reading.{◌>>=◌}
 use Rattle.usb_wire.proofs.FieldLemmas.{IsEndpointWord, IsNumberWord, Spelled, counted-count_in}
-use Rattle.usb_wire.proofs.FieldLemmas.{address_named-word, hex_value-fills, numbered-within, spelled-value}
+use Rattle.usb_wire.proofs.FieldLemmas.{address_named-word, hex_value-fills, numbered-within}
+use Rattle.usb_wire.proofs.FieldLemmas.{spelled-value}
 use Rattle.usb_wire.proofs.SetupLemmas.{setup_in_bytes-some}
 use Rattle.usb_wire.proofs.WordLemmas.{joined-words}
 
@@ -130,7 +133,8 @@ path_in-word word p e =
 
 endpoint_named-word : (word : List ℕ) (a : ℕ) → endpoint_named word ≡ Ok a → IsEndpointWord word a
 unfolding endpoint_named
-endpoint_named-word word a e = address_named-word word a (ok_or_ok (address_named word) BadNumber a e)
+endpoint_named-word word a e =
+    address_named-word word a (ok_or_ok (address_named word) BadNumber a e)
 
 pub record IsRequestWord (with_bytes : Bool) (word : List ℕ) (s : Setup) : Type 0 where
   pub value : hex_value word ≡ Some (bytes_of s)

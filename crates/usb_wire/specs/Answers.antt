@@ -1,6 +1,7 @@
 -- What the far end says, and the line of it.
-use Rattle.std.specs.Prelude.{◌≡◌, ℕ, ◌+◌, ◌*◌, ◌^◌, ◌<◌, ◌≤◌, List, [], ◌∷◌, ◌++◌, length, codes, decimal}
-use Rattle.std.specs.Prelude.{Some, true}
+use Rattle.std.specs.Prelude.{◌≡◌, ℕ, ◌+◌, ◌*◌, ◌^◌, ◌<◌, ◌≤◌, List, [], ◌∷◌, ◌++◌, length, codes}
+use Rattle.std.specs.Prelude.{decimal}
+use Rattle.std.specs.Prelude.{Bool, Some, false, true}
 use Rattle.usb_packet.specs.{IsBytes, data_name, hex_text}
 use Rattle.usb_port.specs.{IsPath, path_text}
 use Rattle.usb_request.specs.{IsToHost, bytes_of, is_endpoint_address, Setup as SetupData}
@@ -57,6 +58,21 @@ answer_in_digits setup digits (ControlOut path write) =
     codes "control " ++ path_text path ++ codes " " ++ write_text setup digits write.bytes
 answer_in_digits setup digits (Look path) = codes "look " ++ path_text path
 answer_in_digits setup digits News = codes "news"
+
+-- the answer has the host make a call at a path; of a private function
+abbrev pub is_call : Answer → Bool
+is_call (Send path bytes) = true
+is_call (Receive path packets) = true
+is_call (Clear path) = true
+is_call (SendTo path endpoint bytes) = true
+is_call (ReceiveFrom path endpoint packets) = true
+is_call (Poll path endpoint) = true
+is_call (ClearOf path endpoint) = true
+is_call (Interface path interface setting) = true
+is_call (ControlIn path request) = true
+is_call (ControlOut path write) = true
+is_call (Look path) = true
+is_call _ = false
 
 -- the line of what is said, with those digits
 abbrev pub said_in_digits : List ℕ → List ℕ → Said → List ℕ

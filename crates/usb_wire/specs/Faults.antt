@@ -17,8 +17,8 @@ use Rattle.usb_wire.specs.Words.{all_printable, words}
 
 -- what a word after the first one is: bytes, at most so many; the four of a status; the eight of a
 -- request with bytes for the device, or of one without; how many root ports there are, the version,
--- the number of a root port, how many packets, the number of an interface or of its setting; the address of an
--- endpoint; a path
+-- the number of a root port, how many packets, the number of an interface or of its setting; the
+-- address of an endpoint; a path
 pub data Field : Type 0 where
   bytes_field : ℕ → Field
   status_field : Field
@@ -164,7 +164,8 @@ words_fault asked count [] = Some NoAnswer
 words_fault asked count (word ∷ arguments) = fault_by count (fields_in (forms asked) word arguments)
     arguments
 
--- the first fault of a line that is of no form behind a question, where there are so many root ports
+-- the first fault of a line that is of no form behind a question, where there are so many root
+-- ports
 abbrev pub form_fault : Asked → ℕ → List ℕ → Option WireFault
 form_fault asked count line =
     if nat_lt 1024 (length line) then Some LineTooLong

@@ -4,7 +4,7 @@ ghost use Rattle.hex.specs.Hex.{encode_upper};
 ghost use Rattle.usb_packet.specs.Text.{hex_text};
 ghost use Rattle.usb_port.specs.Path.{path_text};
 ghost use Rattle.usb_request.specs.Layout.{bytes_of};
-ghost use Rattle.usb_wire.specs.Answers.{said_line, write_text};
+ghost use Rattle.usb_wire.specs.Answers.{is_call, said_line, write_text};
 ghost use Rattle.usb_wire.specs.Fields.{address_text};
 
 use crate::question::{DataPacket, push_data};
@@ -176,6 +176,25 @@ fn push_answer(line: &mut ArrayString<1026>, answer: &Answer)
             push_data(&mut data, sent.toggle, sent.bytes.as_slice());
             line.push_str(data.as_str());
         }
+        Answer::News => line.push_str("news"),
+        Answer::Ack => line.push_str("ACK"),
+        Answer::Nak => line.push_str("NAK"),
+        Answer::Stall => line.push_str("STALL"),
+        Answer::Nothing => line.push_str("none"),
+        Answer::Done => line.push_str("ok"),
+        Answer::Show => line.push_str("show"),
+        Answer::End => line.push_str("end"),
+        _ => push_call(line, answer),
+    }
+}
+
+/// A call that the host is to make at a path.
+fn push_call(line: &mut ArrayString<1026>, answer: &Answer)
+    requires empty { line.old.bytes ≡ [] }
+    requires call { is_call answer.now ≡ true }
+    ensures { line.new.bytes ≡ said_line (Said.Answered answer.now) }
+{
+    match answer {
         Answer::Send { path, bytes } => push_send(line, path, bytes.as_slice()),
         Answer::Receive { path, packets } => push_receive(line, path, *packets),
         Answer::Clear(path) => push_path(line, "clear ", path),
@@ -199,14 +218,7 @@ fn push_answer(line: &mut ArrayString<1026>, answer: &Answer)
         Answer::ControlIn { path, request } => push_read(line, path, request.setup()),
         Answer::ControlOut { path, request } => push_control(line, path, request),
         Answer::Look(path) => push_path(line, "look ", path),
-        Answer::News => line.push_str("news"),
-        Answer::Ack => line.push_str("ACK"),
-        Answer::Nak => line.push_str("NAK"),
-        Answer::Stall => line.push_str("STALL"),
-        Answer::Nothing => line.push_str("none"),
-        Answer::Done => line.push_str("ok"),
-        Answer::Show => line.push_str("show"),
-        Answer::End => line.push_str("end"),
+        _ => {}
     }
 }
 

@@ -154,7 +154,11 @@ pub fn question_line(question: &Question) -> ArrayString<1026>
             toggle,
             bytes,
         } => outs_line(*speed, *endpoint, *most, *toggle, bytes.as_slice()),
-        _ => roomy(short_line(question).as_str()),
+        _ => {
+            let mut line = ArrayString::new();
+            push_short(&mut line, question);
+            roomy(line.as_str())
+        }
     }
 }
 
@@ -235,55 +239,79 @@ fn data_name(toggle: Toggle) -> &'static str
     }
 }
 
-/// The line of a question that is no row of OUTs.
-fn short_line(question: &Question) -> ArrayString<700>
-    requires { is_outs question.now ≡ false }
-    ensures { result.bytes ≡ question_line question.now }
+/// A question that is not a row of OUTs.
+fn push_short(line: &mut ArrayString<700>, question: &Question)
+    requires empty { line.old.bytes ≡ [] }
+    requires short { is_outs question.now ≡ false }
+    ensures { line.new.bytes ≡ question_line question.now }
 {
-    let mut line = ArrayString::new();
     match question {
         Question::Hello => line.push_str("usbplan live 1"),
         Question::Setup {
             speed,
             endpoint,
             setup,
-        } => {
-            push_token(&mut line, *speed, TokenKind::SetupTok, *endpoint);
-            push_between(&mut line, *speed);
-            push_setup(&mut line, *setup);
-        }
+        } => push_setup_to(line, *speed, *endpoint, *setup),
         Question::Out {
             speed,
             endpoint,
             sent,
-        } => {
-            push_token(&mut line, *speed, TokenKind::OutTok, *endpoint);
-            push_between(&mut line, *speed);
-            push_data(&mut line, sent.toggle, sent.bytes.as_slice());
-        }
+        } => push_packet_to(line, *speed, *endpoint, sent),
         Question::In {
             speed,
             endpoint,
             most,
-        } => push_in(&mut line, *speed, *endpoint, *most),
+        } => push_in(line, *speed, *endpoint, *most),
         Question::Ins {
             speed,
             endpoint,
             most,
             toggle,
             packets,
-        } => {
-            push_in(&mut line, *speed, *endpoint, *most);
-            line.push(' ');
-            line.push_str(data_name(*toggle));
-            push_decimal(&mut line, u64::from(*packets));
-        }
+        } => push_ins(line, *speed, *endpoint, *most, *toggle, *packets),
         Question::Outs { .. } => {}
-        Question::Port { number, call } => push_call(&mut line, *number, *call),
-        Question::Restart { endpoint, is_in } => push_restart(&mut line, *endpoint, *is_in),
+        Question::Port { number, call } => push_call(line, *number, *call),
+        Question::Restart { endpoint, is_in } => push_restart(line, *endpoint, *is_in),
         Question::Wait => line.push_str("wait"),
     }
-    line
+}
+
+/// A SETUP, with its data.
+fn push_setup_to(line: &mut ArrayString<700>, speed: Speed, endpoint: Endpoint, setup: Setup)
+    requires { line.old.bytes ≡ [] }
+    ensures { line.new.bytes ≡ question_line (Question.Setup speed endpoint setup) }
+{
+    push_token(line, speed, TokenKind::SetupTok, endpoint);
+    push_between(line, speed);
+    push_setup(line, setup);
+}
+
+/// An OUT, with its data packet.
+fn push_packet_to(line: &mut ArrayString<700>, speed: Speed, endpoint: Endpoint, sent: &DataPacket)
+    requires { line.old.bytes ≡ [] }
+    ensures { line.new.bytes ≡ question_line (Question.Out speed endpoint sent.now) }
+{
+    push_token(line, speed, TokenKind::OutTok, endpoint);
+    push_between(line, speed);
+    push_data(line, sent.toggle, sent.bytes.as_slice());
+}
+
+/// A row of INs, with the toggle that is due and the most packets.
+fn push_ins(
+    line: &mut ArrayString<700>,
+    speed: Speed,
+    endpoint: Endpoint,
+    most: u8,
+    toggle: Toggle,
+    packets: u8,
+)
+    requires { line.old.bytes ≡ [] }
+    ensures { line.new.bytes ≡ question_line (Question.Ins speed endpoint most toggle packets) }
+{
+    push_in(line, speed, endpoint, most);
+    line.push(' ');
+    line.push_str(data_name(toggle));
+    push_decimal(line, u64::from(packets));
 }
 
 /// An IN, and the most bytes of the endpoint's packets.

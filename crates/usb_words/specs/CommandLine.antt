@@ -46,8 +46,8 @@ only_rule = record (new_rule (codes "only")) {
 abbrev pub explain_app : App
 explain_app = with_rule (text_app (codes "explain")) only_rule
 
--- the names and files that `device` wants in turn, and the number of ports, 1 to 7, which is 7 where
--- it is left out
+-- the names and files that `device` wants in turn, and the number of ports, 1 to 7, which is 7
+-- where it is left out
 abbrev pub devices_rule : Rule
 devices_rule = record (new_rule (codes "devices")) {
   required = true;
@@ -98,8 +98,8 @@ judge_rule = record (new_rule (codes "judge")) {
       Some SetTrue;
 }
 
--- the most attempts of the host, as many as a plan may allow, and the most without a wait; either may
--- be left out
+-- the most attempts of the host, as many as a plan may allow, and the most without a wait; either
+-- may be left out
 abbrev pub attempts_rule : Rule
 attempts_rule = record (new_rule (codes "limit")) {
   long = Some (codes "limit");

@@ -232,7 +232,8 @@ fn far_words<'a>(found: &ArgMatches<'a>) -> Option<FarWords<'a>>
 
 /// A number that may be left out. None if there is a text in its place that is none.
 fn number_of(found: &ArgMatches<'_>, id: &str) -> Option<Option<u64>>
-    ensures { IfSome result (λ read. GivesNumber (one_of id.now (rows_of (found_of found.now))) read) }
+    ensures { IfSome result (λ read.
+        GivesNumber (one_of id.now (rows_of (found_of found.now))) read) }
 {
     if let Some(number) = found.get_one::<u64>(id) {
         return Some(Some(number));

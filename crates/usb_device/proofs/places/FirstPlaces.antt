@@ -138,7 +138,8 @@ one_port_more ended = vacant off ended
 one_port_more (vacant b k) = vacant b (one_port_more k)
 one_port_more (taken b s a k) = taken b s a (one_port_more k)
 
-pub most_more-before : (q : Place) (k : Ports) → one_port_more (before q k) ≡ before q (one_port_more k)
+pub most_more-before : (q : Place) (k : Ports) → one_port_more (before q k)
+    ≡ before q (one_port_more k)
 most_more-before (empty b) k = refl
 most_more-before (full b s a) k = refl
 

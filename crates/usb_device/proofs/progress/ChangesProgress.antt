@@ -148,8 +148,8 @@ by_halt : (Told : ℕ → Type 0) (bits : ℕ) (t : Toggle) (s : State) → Poll
 by_halt Told bits t s at t2 rest h true e = poll_stalled Told bits t s at e t2
 by_halt Told bits t s at t2 rest h false e = h
 
--- of anything that is so of the bits that the ports told, where some is set: no bits are given where
--- none is
+-- of anything that is so of the bits that the ports told, where some is set: no bits are given
+-- where none is
 pub poll_on : (Told : ℕ → Type 0) (t : Toggle) (s : State) → tells_changes s.spec s.registers ≡ true
     → (row : List PortState)
     → (change_bits (hub_ports s.spec.hub) row ≢ 0 → Told (change_bits (hub_ports s.spec.hub) row))

@@ -9,7 +9,8 @@ use Rattle.usb_device.specs.declared.answer.Answer.TheVariants.{Ack, Nak, Stall}
 use Rattle.usb_device.specs.declared.transfer.InEndpoint.TheVariants as by
 use Rattle.usb_device.specs.{Answer, State, Reply, Write, Next, Repeat, TooLong, written_on}
 use Rattle.usb_device.specs.{judged, is_done}
-use Rattle.usb_device.specs.{taken_with, max_packet, forgotten, is_busy, nak_row, out_row, write_row}
+use Rattle.usb_device.specs.{taken_with, max_packet, forgotten, is_busy, nak_row, out_row}
+use Rattle.usb_device.specs.{write_row}
 use Rattle.usb_device.specs.{wrote, ack_row, Way, is_whole, heard, gave, out_law, in_law}
 use Rattle.usb_device.specs.{in_stage_law, taken_of, IsPacketOf, WritingAt, WriteAt, WriteOn}
 use Rattle.usb_device.specs.{WriteEnded, WriteStatusOn, level, ahead, seen, unseen, OnlyWrite}
@@ -28,7 +29,8 @@ module _ (old : List ℕ) (w : Write) (bytes : List ℕ) where
     some_bytes : (length bytes == 0) ≡ false
     some_bytes = grind (arith, nat_tests, p.some)
 
-    judged-next : judged max w w.toggle bytes ≡ (if nat_lt max (length bytes) then TooLong else Next)
+    judged-next : judged max w w.toggle bytes
+        ≡ (if nat_lt max (length bytes) then TooLong else Next)
     judged-next =
         let few : nat_lt w.wanted (length w.got + length bytes) ≡ false =
         grind (arith, nat_tests, p.within) in

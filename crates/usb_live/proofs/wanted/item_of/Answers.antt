@@ -10,10 +10,12 @@ pub returns-in_ok-all_news-in-News-clause-does : goal.returns-in_ok-all_news-in-
 returns-in_ok-all_news-in-News-clause-does g c = λ _. rw c.in-News.is
     (c.in_ok-all_news-in-News.field-0, refl, c.in_ok-all_news-in-News.ensures.all)
 
-pub returns-in_ok-all_news-in-News-clause-options : goal.returns-in_ok-all_news-in-News-clause-options
+pub returns-in_ok-all_news-in-News-clause-options :
+    goal.returns-in_ok-all_news-in-News-clause-options
 returns-in_ok-all_news-in-News-clause-options g c =
     all_options _ _ _ c.in_ok-all_news-in-News.ensures.all
 
-pub returns-in_err-all_news-in-News-clause-options : goal.returns-in_err-all_news-in-News-clause-options
+pub returns-in_err-all_news-in-News-clause-options :
+    goal.returns-in_err-all_news-in-News-clause-options
 returns-in_err-all_news-in-News-clause-options g c =
     news_options _ _ c.in_err-all_news-in-News.ensures.cut

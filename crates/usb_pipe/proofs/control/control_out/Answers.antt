@@ -56,7 +56,8 @@ fits g c = rw c.requires.all (packets_fit c.args.target.max (length c.args.bytes
 
 pub returns-in_err-send_packets-clause-any_bus : goal.returns-in_err-send_packets-clause-any_bus
 returns-in_err-send_packets-clause-any_bus g c =
-    let least = fits g (goal.at.returns-in_err-send_packets-clause-any_bus g c).After-send_packets in (
+    let least =
+    fits g (goal.at.returns-in_err-send_packets-clause-any_bus g c).After-send_packets in (
       (
         omega (
           arith,

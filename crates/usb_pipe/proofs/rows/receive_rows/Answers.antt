@@ -67,7 +67,8 @@ returns-in_err-came-clause-received g c known =
     c.from_residual.result c.from_residual.ensures.0 c.from_residual.ensures.1
     (c.in_err-came.ensures.asks known)
 
-pub returns-in_err-extend_from_slice-clause-steps : goal.returns-in_err-extend_from_slice-clause-steps
+pub returns-in_err-extend_from_slice-clause-steps :
+    goal.returns-in_err-extend_from_slice-clause-steps
 returns-in_err-extend_from_slice-clause-steps g c known =
     let few : c.row_of.result ≤ c.rows.left = omega (arith, c.row_of.ensures) in
     let g = c.rows.invariant.1 known in
@@ -75,7 +76,8 @@ returns-in_err-extend_from_slice-clause-steps g c known =
     c.requires.target.max_least few g c.in_ok-came.came
     (omega (arith, few, c.in_ok-came.ensures.fits.few)) (c.in_ok-came.ensures.steps known)
 
-pub returns-in_err-extend_from_slice-clause-received : goal.returns-in_err-extend_from_slice-clause-received
+pub returns-in_err-extend_from_slice-clause-received :
+    goal.returns-in_err-extend_from_slice-clause-received
 returns-in_err-extend_from_slice-clause-received g c known =
     let few : c.row_of.result ≤ c.rows.left = omega (arith, c.row_of.ensures) in
     let g = c.rows.invariant.1 known in

@@ -17,7 +17,8 @@ returns-in_err-device c =
     rw c.as_table.ensures at c.device_in-read.ensures in
     let why = c.in_err-device.field-0.0 in
     unless_handed fault.Memory c.from_residual.result _ why c.from_residual.ensures.1
-    (λ ne. sym c.loop-i.invariant ∙ devices_from-next c.args.wide c.loop-i.done c.args.values.now c.loop-i.i v
+    (λ ne. sym c.loop-i.invariant
+    ∙ devices_from-next c.args.wide c.loop-i.done c.args.values.now c.loop-i.i v
     (Err why) c.loop-i-test.true c.index-values-i.is (entry_at_told (place.Device (c.loop-i.i + 1))
     c.device_in-read.result spelled c.entry_at.result why same c.entry_at.ensures
     c.in_err-device.was ne))
@@ -40,7 +41,8 @@ loop-i-preserved c =
     let spelled = device_in c.args.wide c.loop-i.done (as_table (view v)) in
     let same : EqualUnless Memory c.device_in-read.result spelled =
     rw c.as_table.ensures at c.device_in-read.ensures in
-    rw c.in_ok-push.ensures.ok (sym (devices_from-next c.args.wide c.loop-i.done c.args.values.now c.loop-i.i v
+    rw c.in_ok-push.ensures.ok
+    (sym (devices_from-next c.args.wide c.loop-i.done c.args.values.now c.loop-i.i v
     (Ok c.in_ok-device.device) c.loop-i-test.true c.index-values-i.is
     (entry_at_read (place.Device (c.loop-i.i + 1)) c.device_in-read.result spelled c.entry_at.result
     c.in_ok-device.device same c.entry_at.ensures c.in_ok-device.was)) ∙ c.loop-i.invariant)

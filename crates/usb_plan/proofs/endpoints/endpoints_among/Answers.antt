@@ -17,7 +17,8 @@ loop-value-preserved c =
     record {
       so_far = λ ne.
           let is = with_item_is c.loop-value.endpoints c.with_endpoint-endpoints.result
-          c.endpoint_in.result endpoint c.with_endpoint-endpoints.ensures c.endpoint_in.ensures ne in
+          c.endpoint_in.result endpoint c.with_endpoint-endpoints.ensures
+          c.endpoint_in.ensures ne in
           rw is.with_item_is (items_from-step endpoint_in c.loop-value.endpoints
           c.args.values.now
           c.loop-value.value-index c.value-item.result endpoint _ c.loop-value-test.true

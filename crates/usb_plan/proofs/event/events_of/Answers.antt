@@ -23,7 +23,8 @@ pub returns-in_err-event-clause-value : goal.returns-in_err-event-clause-value
 returns-in_err-event-clause-value c =
     let v = c.index-values-i.result in
     let spelled = event_in
-    (scene_after c.args.roots c.args.wide c.args.devices.now (map ports_said (map view c.args.tables.now))
+    (scene_after c.args.roots c.args.wide c.args.devices.now
+    (map ports_said (map view c.args.tables.now))
     c.loop-i.done) (length c.loop-i.done) (as_table (view v)) in
     let same : EqualUnless Memory c.event_in-read.result spelled =
     rw (c.loop-i.invariant.scene, c.as_slice-count.ensures.value, c.as_table.ensures) at
@@ -41,7 +42,8 @@ pub loop-i-preserved : goal.loop-i-preserved
 loop-i-preserved c =
     let v = c.index-values-i.result in
     let spelled = event_in
-    (scene_after c.args.roots c.args.wide c.args.devices.now (map ports_said (map view c.args.tables.now))
+    (scene_after c.args.roots c.args.wide c.args.devices.now
+    (map ports_said (map view c.args.tables.now))
     c.loop-i.done) (length c.loop-i.done) (as_table (view v)) in
     let same : EqualUnless Memory c.event_in-read.result spelled =
     rw (c.loop-i.invariant.scene, c.as_slice-count.ensures.value, c.as_table.ensures) at
@@ -49,7 +51,8 @@ loop-i-preserved c =
     let good = entry_at_read (place.Event (c.loop-i.i + 1)) c.event_in-read.result spelled
     c.entry_at.result c.in_ok-event.event same c.entry_at.ensures c.in_ok-event.was in
     let follows = event_in_ok
-    (scene_after c.args.roots c.args.wide c.args.devices.now (map ports_said (map view c.args.tables.now))
+    (scene_after c.args.roots c.args.wide c.args.devices.now
+    (map ports_said (map view c.args.tables.now))
     c.loop-i.done) (length c.loop-i.done) (as_table (view v)) c.in_ok-event.event
     (entry_at_ok _ spelled c.in_ok-event.event good) in
     let grown = plugged_by-next [] c.loop-i.done c.in_ok-event.event in
@@ -77,7 +80,8 @@ pub push-requires : goal.push-requires
 push-requires c =
     let v = c.index-values-i.result in
     let spelled = event_in
-    (scene_after c.args.roots c.args.wide c.args.devices.now (map ports_said (map view c.args.tables.now))
+    (scene_after c.args.roots c.args.wide c.args.devices.now
+    (map ports_said (map view c.args.tables.now))
     c.loop-i.done) (length c.loop-i.done) (as_table (view v)) in
     let same : EqualUnless Memory c.event_in-read.result spelled =
     rw (c.loop-i.invariant.scene, c.as_slice-count.ensures.value, c.as_table.ensures) at
@@ -85,7 +89,8 @@ push-requires c =
     let good = entry_at_read (place.Event (c.loop-i.i + 1)) c.event_in-read.result spelled
     c.entry_at.result c.in_ok-event.event same c.entry_at.ensures c.in_ok-event.was in
     let follows = event_in_ok
-    (scene_after c.args.roots c.args.wide c.args.devices.now (map ports_said (map view c.args.tables.now))
+    (scene_after c.args.roots c.args.wide c.args.devices.now
+    (map ports_said (map view c.args.tables.now))
     c.loop-i.done) (length c.loop-i.done) (as_table (view v)) c.in_ok-event.event
     (entry_at_ok _ spelled c.in_ok-event.event good) in
     record { room = follows.room }

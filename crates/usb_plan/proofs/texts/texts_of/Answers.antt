@@ -18,7 +18,8 @@ loop-value-preserved g c =
       so_far = λ ne.
           let is = with_item_is c.loop-value.texts c.with_text-texts.result c.hex_in.result text
           c.with_text-texts.ensures c.hex_in.ensures ne in
-          rw is.with_item_is (items_from-step (hex_in g.row.MAX) c.loop-value.texts c.args.values.now
+          rw is.with_item_is
+          (items_from-step (hex_in g.row.MAX) c.loop-value.texts c.args.values.now
           c.loop-value.value-index c.value-item.result text _ c.loop-value-test.true
           c.value-item.is refl (c.loop-value.invariant.so_far is.items_read));
       few = AtMost-unless (c.loop-value.value-index + 1) c.with_text-texts.result _

@@ -13,8 +13,8 @@ returns-else-values-most-clause-value c =
     let values = c.in_ok-values.values.now in
     let read = c.in_ok-values.ensures in
     elim c.else-values-most.branch [
-      | goal.else-values-most-via-then-values-most+else-are_tables w ↦ sym (tables_others c.args.most
-          (view c.args.value.now) values read (omega arith)
+      | goal.else-values-most-via-then-values-most+else-are_tables w ↦
+          sym (tables_others c.args.most (view c.args.value.now) values read (omega arith)
           (sym w.are_tables.ensures ∙ w.if-are_tables.false))
       | goal.else-values-most-via-else-values-most w ↦ sym (tables_many c.args.most
           (view c.args.value.now) values read (omega arith))

@@ -1,4 +1,5 @@
-use Rattle.std.proofs.Common.{◌≡◌, ◌≢◌, ◌<◌, ℕ, Bool, true, false, ◌&&◌, ◌==◌, ap, arith, drop, length}
+use Rattle.std.proofs.Common.{◌≡◌, ◌≢◌, ◌<◌, ℕ, Bool, true, false, ◌&&◌, ◌==◌, ap, arith, drop}
+use Rattle.std.proofs.Common.{length}
 use Rattle.std.proofs.Common.{get_or, take, ◌-◌, length-drop, refl, sym, ◌∙◌}
 use Rattle.std.proofs.lemmas.Bool.{le-ltb}
 use Rattle.std.proofs.lemmas.Bool.Decides.{nat_tests}
@@ -7,7 +8,6 @@ use Rattle.usb_request.specs.{ENDPOINT}
 use Rattle.usb_remarks.proofs.Endpoints.{endpoints_found, endpoints_next, endpoints_none}
 use Rattle.usb_remarks.proofs.text.first_endpoint.Goals as goal
 use Rattle.usb_remarks.proofs.text.first_endpoint.Goals.{else-counts-via-else-counts}
-use Rattle.usb_remarks.proofs.text.first_endpoint.Goals.{else-counts-via-then-counts+else-byte_at-eq-ENDPOINT}
 
 counts_here : (counts : Bool) (kind : ℕ) → counts ≡ true → kind ≡ 5
     → (counts && kind == ENDPOINT) ≡ true
@@ -42,7 +42,7 @@ items-preserved c =
     let item = take (length c.args.text.now - c.items.at) (drop c.items.at c.args.text.now) in
     let other : (c.items.counts && get_or item 1 0 == ENDPOINT) ≡ false =
     elim c.else-counts.branch [
-      | else-counts-via-then-counts+else-byte_at-eq-ENDPOINT w ↦ no_endpoint c.items.counts _
+      | goal.else-counts-via-then-counts+else-byte_at-eq-ENDPOINT w ↦ no_endpoint c.items.counts _
           (λ is. w.if-byte_at-eq-ENDPOINT.false (w.byte_at.ensures ∙ is))
       | else-counts-via-else-counts w ↦ counts_not c.items.counts _ w.if-counts.false
     ] in

@@ -79,8 +79,8 @@ returns-in_err-hear-clause-asks g c known old before settled made =
     let p = c.tries.invariant.2 known old before settled made in
     rw (told.1, told.2) (
       heard_last p c.hear.new.self,
-      asks_in c.args.target c.args.ep c.args.toggle.now old _ settled c.tries.invariant.0 (Err fault)
-          (heard_fault p c.hear.new.self fault (λ e. heard_stall _ _ e) heard) tt,
+      asks_in c.args.target c.args.ep c.args.toggle.now old _ settled c.tries.invariant.0
+          (Err fault) (heard_fault p c.hear.new.self fault (λ e. heard_stall _ _ e) heard) tt,
     )
 
 pub returns-in-Err-clause-asks : goal.returns-in-Err-clause-asks

@@ -59,7 +59,8 @@ returns-in_err-last-in-Answered-clause-asks g c known =
 
 pub returns-in_ok-last-in-Answered-clause-steps : goal.returns-in_ok-last-in-Answered-clause-steps
 returns-in_ok-last-in-Answered-clause-steps g c known =
-    let kept = c.add.ensures ∙ ap (λ z. c.attempt_ins-moved.new.got.items ++ z) c.bytes.ensures.value in
+    let kept = c.add.ensures
+    ∙ ap (λ z. c.attempt_ins-moved.new.got.items ++ z) c.bytes.ensures.value in
     (ins_came (begun g (goal.at.returns-in_ok-last-in-Answered-clause-steps g c).After-toggle_behind
     known)
     c.in-Answered.is (c.in_ok-last-in-Answered.ensures.asks known) kept
@@ -67,7 +68,8 @@ returns-in_ok-last-in-Answered-clause-steps g c known =
 
 pub returns-in_ok-last-in-Answered-clause-asks : goal.returns-in_ok-last-in-Answered-clause-asks
 returns-in_ok-last-in-Answered-clause-asks g c known =
-    let kept = c.add.ensures ∙ ap (λ z. c.attempt_ins-moved.new.got.items ++ z) c.bytes.ensures.value in
+    let kept = c.add.ensures
+    ∙ ap (λ z. c.attempt_ins-moved.new.got.items ++ z) c.bytes.ensures.value in
     (ins_came (begun g (goal.at.returns-in_ok-last-in-Answered-clause-asks g c).After-toggle_behind
     known)
     c.in-Answered.is (c.in_ok-last-in-Answered.ensures.asks known) kept
@@ -75,7 +77,8 @@ returns-in_ok-last-in-Answered-clause-asks g c known =
 
 pub add-requires : goal.add-requires
 add-requires g c =
-    let few = few_answered c.attempt_ins-moved.result.moved c.args.most c.attempt_ins-moved.result.end
+    let few =
+    few_answered c.attempt_ins-moved.result.moved c.args.most c.attempt_ins-moved.result.end
     c.in-Answered.first c.in-Answered.is c.attempt_ins-moved.ensures.fits.0.counts in
     row_room c.attempt_ins-moved.result.moved c.args.most c.args.target.max
     (length c.attempt_ins-moved.new.got.items) (length c.bytes.result.now) few c.requires.row.1

@@ -43,7 +43,8 @@ returns-in-Faulted-clause-sends g c known =
     (outs_cut (begun g (goal.at.returns-in-Faulted-clause-sends g c).After-toggle_behind known)
     c.in-Faulted.is).0
 
-pub returns-in_err-data_out_from-in-Answered-clause-steps : goal.returns-in_err-data_out_from-in-Answered-clause-steps
+pub returns-in_err-data_out_from-in-Answered-clause-steps :
+    goal.returns-in_err-data_out_from-in-Answered-clause-steps
 returns-in_err-data_out_from-in-Answered-clause-steps g c known =
     let told = err_from_is_err_and c.from_residual.result c.from_residual.ensures.1 in
     rw told.1 (outs_kept (begun g (goal.at.returns-in_err-data_out_from-in-Answered-clause-steps g
@@ -51,7 +52,8 @@ returns-in_err-data_out_from-in-Answered-clause-steps g c known =
     c.packet_behind-packet.ensures (c.in_err-data_out_from-in-Answered.ensures.sends known)
     c.in_err-data_out_from-in-Answered.ensures.toggle).1
 
-pub returns-in_err-data_out_from-in-Answered-clause-sends : goal.returns-in_err-data_out_from-in-Answered-clause-sends
+pub returns-in_err-data_out_from-in-Answered-clause-sends :
+    goal.returns-in_err-data_out_from-in-Answered-clause-sends
 returns-in_err-data_out_from-in-Answered-clause-sends g c known =
     let told = err_from_is_err_and c.from_residual.result c.from_residual.ensures.1 in
     rw (told.1, told.2) (outs_kept (begun g
@@ -60,14 +62,16 @@ returns-in_err-data_out_from-in-Answered-clause-sends g c known =
     c.packet_behind-packet.ensures (c.in_err-data_out_from-in-Answered.ensures.sends known)
     c.in_err-data_out_from-in-Answered.ensures.toggle).0
 
-pub returns-in_ok-data_out_from-in-Answered-clause-steps : goal.returns-in_ok-data_out_from-in-Answered-clause-steps
+pub returns-in_ok-data_out_from-in-Answered-clause-steps :
+    goal.returns-in_ok-data_out_from-in-Answered-clause-steps
 returns-in_ok-data_out_from-in-Answered-clause-steps g c known =
     (outs_gone (begun g (goal.at.returns-in_ok-data_out_from-in-Answered-clause-steps g
     c).After-toggle_behind known) c.in-Answered.is
     c.packet_behind-packet.ensures (c.in_ok-data_out_from-in-Answered.ensures.sends known)
     c.in_ok-data_out_from-in-Answered.ensures.toggle).1
 
-pub returns-in_ok-data_out_from-in-Answered-clause-sends : goal.returns-in_ok-data_out_from-in-Answered-clause-sends
+pub returns-in_ok-data_out_from-in-Answered-clause-sends :
+    goal.returns-in_ok-data_out_from-in-Answered-clause-sends
 returns-in_ok-data_out_from-in-Answered-clause-sends g c known =
     (outs_gone (begun g (goal.at.returns-in_ok-data_out_from-in-Answered-clause-sends g
     c).After-toggle_behind known) c.in-Answered.is

@@ -1,4 +1,5 @@
-use Rattle.std.proofs.Common.{arith, length, subst, sym, ap, refl, ◌∙◌, ◌+◌, ◌≡◌, ◌≤◌, true, drop, List}
+use Rattle.std.proofs.Common.{arith, length, subst, sym, ap, refl, ◌∙◌, ◌+◌, ◌≡◌, ◌≤◌, true, drop}
+use Rattle.std.proofs.Common.{List}
 use Rattle.std.specs.List.{list_all}
 use Rattle.usb_world.specs.{Damage, Event, can_come, AreOfDamages}
 use Rattle.usb_sim.specs.{world_of}
@@ -33,4 +34,5 @@ invariant_of-self-clause-few_events g c =
     let left : c.in_ok-left.left.items ≡ drop w.taken p.events =
     c.in_ok-left.ensures ∙ ap (drop w.taken) c.events.ensures.value in
     subst (λ (l : List Event). w.taken + length l ≤ 10000) (sym left)
-    (few_left w.taken 10000 p.events c.events.ensures.bound (omega (arith, c.args.self.now.few_events)))
+    (few_left w.taken 10000 p.events c.events.ensures.bound
+    (omega (arith, c.args.self.now.few_events)))
