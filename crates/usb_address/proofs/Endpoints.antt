@@ -7,6 +7,7 @@ use Rattle.std.specs.Global.{Vec}
 use Rattle.arrayvec.specs.ArrayVec.{ArrayVec}
 use Rattle.usb_packet.specs.{Toggle, flips}
 use Rattle.usb_request.specs.{SET_ADDRESS, DEVICE_OUT, clear_endpoint_halt}
+use Rattle.usb_request.proofs.Interface.{same_setup}
 use Rattle.usb_device.specs.{Is}
 use Rattle.usb_world.specs.{Attempt, BusFault, Outcome, World}
 use Rattle.usb_transaction.specs.{Target, TransFault, heard_as, polled_as, heard_when_sent}
@@ -26,7 +27,6 @@ use Rattle.usb_address.specs.{KeepsAddresses}
 use Rattle.usb_address.proofs.TransferSequences.{keeps_none, trail_sound, till, still, owned_alone}
 use Rattle.usb_address.proofs.TransferSequences.{write_keeps}
 use Rattle.usb_address.proofs.Polls.{into, out, far_transacted, polls_leave}
-use Rattle.usb_address.proofs.Setups.{same_setup}
 use Rattle.usb_address.proofs.Transfers.{of_fault}
 use Rattle.usb_tree.proofs.Interface.{unequal}
 

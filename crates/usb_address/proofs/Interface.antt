@@ -15,7 +15,7 @@ pub use Rattle.usb_address.proofs.PortResets.{Fits, Resets, owned_as, resets_lea
 pub use Rattle.usb_address.proofs.PortResets.{is_way-same_path}
 pub use Rattle.usb_address.proofs.Roots.{root_keeps, root_resets, root_shut}
 pub use Rattle.usb_address.proofs.BulkRuns.{Ran, in_kept, out_kept}
-pub use Rattle.usb_address.proofs.Setups.{reads_other, same_setup}
+pub use Rattle.usb_address.proofs.Setups.{reads_other}
 pub use Rattle.usb_address.proofs.States.{after_a_reset, after_an_address, after_taking-zero, bared}
 pub use Rattle.usb_address.proofs.States.{enumerating_begins, after_taking-not_both}
 pub use Rattle.usb_address.proofs.Steps.{settled_attempt, unshared_after}

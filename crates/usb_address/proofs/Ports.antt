@@ -2,6 +2,7 @@
 use Rattle.std.proofs.Common.{◌≡◌, ℕ, zero, ◌⊎◌, true, false, List, [], ◌∷◌, ◌++◌, Some, Result}
 use Rattle.std.proofs.Common.{refl, ap, sym, ◌∙◌, arith, MatchResult}
 use Rattle.usb_request.specs.{PORT_RESET, Setup, set_port_feature}
+use Rattle.usb_request.proofs.Interface.{same_setup}
 use Rattle.usb_port.specs.{IsPath}
 use Rattle.usb_world.specs.{after_reset, World}
 use Rattle.usb_tree.specs.{is_way, same_number}
@@ -12,7 +13,6 @@ use Rattle.usb_pipe.specs.{PipeFault, FaultAfter, Writes}
 use Rattle.usb_address.specs.{AddressMap, LeavesPipe, MapHolds, WhileBusWorks}
 use Rattle.usb_address.proofs.TransferSequences.{write_till, either_alone}
 use Rattle.usb_address.proofs.PortResets.{resets_leave}
-use Rattle.usb_address.proofs.Setups.{same_setup}
 
 -- Paths
 

@@ -1,14 +1,8 @@
 -- Requests, and the eight bytes that carry them.
 use Rattle.std.proofs.Common.{◌≡◌, ℕ, ◌≤◌, ◌==◌, false, refl, arith}
 use Rattle.std.proofs.lemmas.Bool.Decides.{nat_tests}
-use Rattle.usb_request.specs.{SET_ADDRESS, DEVICE_OUT, setup_of, bytes_of, IsToHost, Setup}
+use Rattle.usb_request.specs.{SET_ADDRESS, DEVICE_OUT, IsToHost, Setup}
 use Rattle.usb_device.specs.{Is}
-use Rattle.usb_pipe.proofs.Interface.{two_bytes_word}
-
--- what is sent is what is read
-pub same_setup : (s : Setup) → setup_of (bytes_of s) ≡ s
-unfolding setup_of bytes_of
-same_setup s = rw (two_bytes_word s.value, two_bytes_word s.index, two_bytes_word s.length) refl
 
 request_type-apart : (n m : ℕ) → 128 ≤ n → m ≤ 127 → (n == m) ≡ false
 request_type-apart n m far near = grind (arith, nat_tests, far, near)

@@ -46,7 +46,7 @@ pub(crate) fn value_at<'a>(table: &'a Table, key: &str) -> Option<&'a Value>
 }
 
 /// The values of an array at the top, none where there is no such array.
-#[tactic(auto, using(crate::proofs::Arrays::data_list_view), unfolding(usb_plan::specs::Plan::values_at))]
+#[tactic(auto, using(usb_plan::proofs::Interface::data_list_view), unfolding(usb_plan::specs::Plan::values_at))]
 pub(crate) fn values_at<'a>(document: &'a Table, key: &str) -> &'a [Value]
     ensures { map view result.now ≡ values_at (get_member key.now (table_view document.now)) }
 {

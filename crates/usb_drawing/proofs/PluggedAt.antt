@@ -1,52 +1,31 @@
 -- What is plugged at one path, event by event.
 use Rattle.std.proofs.Common.{◌≡◌, ℕ, not, cond, Bool, true, false, List, [], ◌∷◌, Option, None}
-use Rattle.std.proofs.Common.{Some, nat_eq, refl, ap, sym, ◌∙◌, arith, ⊎_elim, if◌then◌else◌, ◌+◌}
+use Rattle.std.proofs.Common.{Some, nat_eq, refl, ap, sym, ◌∙◌, ⊎_elim, if◌then◌else◌, ◌+◌}
 use Rattle.std.proofs.Common.{◌<◌, ◌++◌, get_or, length, take}
-use Rattle.std.proofs.Common.{Ordering, Less, Equal, Greater, is_eq}
-use Rattle.std.specs.Ordering.{match_ordering}
+use Rattle.std.proofs.Common.{is_eq}
 use Rattle.std.specs.Cmp.Lexicographic.{bytes_decides, pointwise}
 use Rattle.std.specs.List.{starts_with}
 use Rattle.std.specs.BTreeMap.{insert_entry}
 use Rattle.std.proofs.lemmas.Bool.{cases_Bool}
 use Rattle.std.proofs.lemmas.List.{take_more}
 use Rattle.std.proofs.lemmas.Map.Entries.{lookup-filter-keys}
-use Rattle.std.proofs.lemmas.Map.Lookups.{exact_bytes}
 use Rattle.usb_port.specs.{path_cmp}
 use Rattle.usb_world.specs.{Action, Event, PluggedMap, index_at, plugged_after, plugged_by}
 use Rattle.usb_world.specs.{plugged_without, Plug, Unplug}
 use Rattle.usb_world.specs.declared.event.Action.TheVariants.{Change, Ask}
-use Rattle.usb_world.proofs.Interface.{found_same, plugged_by-next, self_found}
+use Rattle.usb_world.proofs.Interface.{found_same, plugged_by-next, insert_here}
+use Rattle.usb_world.proofs.Interface.{insert_other}
 use Rattle.usb_drawing.specs.{index_after}
-
-found_here : (tree : PluggedMap) (e : List ℕ) (d : ℕ)
-    → index_at (insert_entry path_cmp tree e d) e ≡ Some d
-found_here [] e d = rw (self_found e) refl
-found_here (x ∷ tree) e d = grind (arith, found_here tree e d, self_found)
-
-found_elsewhere : (tree : PluggedMap) (e : List ℕ) (d : ℕ) (q : List ℕ)
-    → is_eq (path_cmp q e) ≡ false
-    → index_at (insert_entry path_cmp tree e d) q ≡ index_at tree q
-found_elsewhere [] e d q n = rw n refl
-found_elsewhere (x ∷ tree) e d q n = split (path_cmp e x.0) refl (found_elsewhere tree e d q n)
-  where
-    split : (r : Ordering) → path_cmp e x.0 ≡ r
-        → index_at (insert_entry path_cmp tree e d) q ≡ index_at tree q
-        → index_at (match_ordering r ((e, d) ∷ x ∷ tree) ((x.0, d) ∷ tree)
-        (x ∷ insert_entry path_cmp tree e d)) q ≡ index_at (x ∷ tree) q
-    split Less h ih = rw n refl
-    split Equal h ih = let m : is_eq (path_cmp q x.0) ≡ false =
-        ap (λ y. is_eq (path_cmp q y)) (sym (exact_bytes e x.0 h)) ∙ n in rw m refl
-    split Greater h ih = ap (cond (is_eq (path_cmp q x.0)) (Some x.1)) ih
 
 plugged_at : (tree : PluggedMap) (e q : List ℕ) (d : ℕ) (same : Bool) → pointwise nat_eq e q ≡ same
     → index_at (insert_entry path_cmp tree e d) q ≡ (if same then Some d else index_at tree q)
 plugged_at tree e q d true h =
     ap (index_at (insert_entry path_cmp tree e d)) (sym ((bytes_decides e q).0 h))
-    ∙ found_here tree e d
+    ∙ insert_here tree e d
 plugged_at tree e q d false h =
     ⊎_elim (λ y. let at = ap (λ x. pointwise nat_eq e x) (found_same q e y)
     ∙ (bytes_decides e e).1 refl in let bad = sym h ∙ at in cc)
-    (λ n. found_elsewhere tree e d q n) (cases_Bool (is_eq (path_cmp q e)))
+    (λ n. insert_other tree e d q n) (cases_Bool (is_eq (path_cmp q e)))
 
 unplugged_at : (tree : PluggedMap) (e q : List ℕ) → index_at (plugged_without e tree) q
     ≡ (if starts_with nat_eq q e then None else index_at tree q)

@@ -2,11 +2,12 @@
 use Rattle.std.proofs.Common.{◌≡◌, ◌≢◌, ◌∙◌, ℕ, zero, suc, nat_eq, Bool, ◌+◌, ◌-◌, ◌*◌, ◌/◌}
 use Rattle.std.proofs.Common.{◌%◌, ◌<◌, ◌≤◌, List, []}
 use Rattle.std.proofs.Common.{◌∷◌, ◌++◌, length, Result, Ok, Err, Some, refl, sym, ap, subst, arith}
-use Rattle.std.proofs.Common.{append_assoc, length-append, add-one, false, true}
+use Rattle.std.proofs.Common.{append_assoc, length-append, false, true}
 use Rattle.std.proofs.Math.Nat.{div-add-mod}
-use Rattle.std.proofs.lemmas.Bool.{eqb-false, eqb-true}
+use Rattle.std.proofs.lemmas.Bool.{eqb-true}
 use Rattle.usb_bus.specs.{Answered, Faulted, is_full}
 use Rattle.usb_packet.specs.{Toggle, flips, other}
+use Rattle.usb_packet.proofs.Interface.{flips_next, flips_none}
 use Rattle.usb_world.specs.{BusFault, Destination, Outcome}
 use Rattle.usb_world.specs.declared.types.Attempt.TheVariants.{In}
 use Rattle.usb_world.specs.declared.types.Outcome.TheVariants.{Payload}
@@ -18,19 +19,6 @@ use Rattle.usb_driver.specs.RowAnswers.{no_packet, nothing_first, one_packet, pa
 use Rattle.usb_driver.specs.declared.progress.Progress.{Progress}
 use Rattle.usb_driver.specs.declared.question.Question.TheVariants.{Attempt, Set, Clear, Restart}
 use Rattle.usb_driver.specs.declared.question.Question.TheVariants.{Ins}
-
-pub next_size : (moved max : ℕ) (got bytes : List ℕ) → length got ≡ moved * max
-    → length bytes ≡ max → length (got ++ bytes) ≡ (moved + 1) * max
-next_size moved max got bytes e f = omega (arith, length-append got bytes, e, f)
-
-pub flips_none : (toggle : Toggle) → toggle ≡ flips 0 toggle
-unfolding flips
-flips_none toggle = refl
-
-pub flips_next : (n : ℕ) (first due next : Toggle) → due ≡ flips n first → next ≡ other due
-    → next ≡ flips (n + 1) first
-unfolding flips
-flips_next n first due next e f = rw (add-one n) (f ∙ ap other e)
 
 -- ---- over what was heard
 
@@ -140,10 +128,6 @@ cut_more {first} {max} {statuses} {bytes} {answers} {rest} {due} c packet after 
           (omega (arith, all, full));
       turned = rw (one) (flips_next (length answers) first due next c.turned turned);
     }
-
--- a slice that is not empty, and one that is
-pub nonzero : (n : ℕ) (b : Bool) → b ≡ nat_eq n 0 → b ≡ false → 0 < n
-nonzero n b is e = let no : n ≢ 0 = eqb-false n 0 (sym is ∙ e) in omega arith
 
 pub came_none : (statuses : List (List ℕ)) (q : Question) (before : List ℕ)
     (answers : List Answer) (b : Bool) → b ≡ nat_eq (length before) 0 → b ≡ true → answers ≡ []

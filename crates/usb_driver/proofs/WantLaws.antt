@@ -12,6 +12,7 @@ use Rattle.std.proofs.lemmas.Option.{same_Some}
 use Rattle.usb_port.specs.{IsPath}
 use Rattle.usb_request.specs.{DIRECTION_IN, IsToHost, Setup, bytes_of, setup_of}
 use Rattle.usb_request.specs.{is_endpoint_address}
+use Rattle.usb_request.proofs.Interface.{same_setup, length-bytes_of}
 use Rattle.usb_driver.specs.{padded, place_bytes, AreStatuses, statuses_bytes, IsReadAs, IsWant}
 use Rattle.usb_driver.specs.{IsWantOf, IsWantWith, WantFault, WrongWantKind, WrongWantLength}
 use Rattle.usb_driver.specs.{endpoint_in, has_data, head_bytes, nothing, read_request, want_by}
@@ -65,18 +66,6 @@ length-place_bytes p is =
     let both = length-append p (replicate (7 - length p) 0) in
     let zeros = length-replicate {A = ℕ} (7 - length p) 0 in
     omega (arith, both, zeros, is.0, is.1)
-
-setup_of-bytes_of : (s : Setup) → setup_of (bytes_of s) ≡ s
-unfolding bytes_of setup_of
-setup_of-bytes_of s =
-    let value : s.value % 256 + 256 * (s.value / 256) ≡ s.value = omega arith in
-    let index : s.index % 256 + 256 * (s.index / 256) ≡ s.index = omega arith in
-    let count : s.length % 256 + 256 * (s.length / 256) ≡ s.length = omega arith in
-    rw (value, index, count) refl
-
-length-bytes_of : (s : Setup) → length (bytes_of s) ≡ 8
-unfolding bytes_of
-length-bytes_of s = refl
 
 -- the head of a kind with a path
 pathed : (k : ℕ) (p : List ℕ) (a s n : ℕ) → IsPath p
@@ -237,12 +226,12 @@ likely h path f bytes looked fields (SetInterface p t s) is e d =
     ∙ ap (λ (x : ℕ). Some (SetInterface p t x)) (fields.setting ∙ i.setting)
 likely h path f bytes looked fields (ControlIn p r) is e d =
     let i = moved h _ 26 (place_bytes p) 0 0 0 (bytes_of r) e (requested 26 p r is.0) in
-    let setup = fields.setup ∙ ap setup_of i.setup ∙ setup_of-bytes_of r in
+    let setup = fields.setup ∙ ap setup_of i.setup ∙ same_setup r in
     by_path h path f bytes 26 p i.kind (path_found h p is.0 i.place path looked) refl refl refl
     ∙ ap (option_map (ControlIn p)) (read_request-is f.setup r setup is.1)
 likely h path f bytes looked fields (ControlOut p r) is e d =
     let i = moved h _ 27 (place_bytes p) 0 0 0 (bytes_of r.setup) e (requested 27 p r.setup is.0) in
-    let setup = fields.setup ∙ ap setup_of i.setup ∙ setup_of-bytes_of r.setup in
+    let setup = fields.setup ∙ ap setup_of i.setup ∙ same_setup r.setup in
     by_path h path f bytes 27 p i.kind (path_found h p is.0 i.place path looked) refl refl refl
     ∙ ap (λ (x : List ℕ). option_map (ControlOut p) (write_request f.setup x)) (sym d)
     ∙ ap (option_map (ControlOut p)) (write_request-is f.setup r setup is.1)

@@ -1,17 +1,17 @@
 -- How an explained text goes on, byte after byte.
 use Rattle.std.proofs.Common.{◌≡◌, ◌≢◌, ◌==◌, inl, inr, ℕ, ◌+◌, ◌-◌, ◌^◌, ◌<◌, ◌≤◌, min, Bool, true}
 use Rattle.std.proofs.Common.{false, Decides, List, [], ◌∷◌, ◌++◌, length, take, drop, All, Option}
-use Rattle.std.proofs.Common.{Some, None, IfSome, Result, Ok, Err, IsErrOf, get_or, refl, sym, ap}
+use Rattle.std.proofs.Common.{Some, None, IfSome, Result, Ok, Err, IsErrOf, get_or, sym, ap}
 use Rattle.std.proofs.Common.{subst, ◌∙◌, arith, append_assoc, append-nil, length-append}
 use Rattle.std.proofs.lemmas.List.{take_more, take-append-drop, take_all}
 use Rattle.std.proofs.lemmas.List.Elements.{All-nil, All-push}
-use Rattle.std.proofs.lemmas.Bool.{eqb-true}
-use Rattle.std.proofs.KnownBytes.{Appends-nil, Appends-trans, Consumes-trans}
+use Rattle.std.proofs.KnownBytes.{Appends-nil, Appends-trans}
 use Rattle.std.specs.Io.KnownBytes.{Appends, Consumes, IsAtEnd}
 use Rattle.usb_watch.specs.{AppendsFront}
 use Rattle.usb_watch.proofs.Interface.{front_after_first}
-use Rattle.usb_pcap.specs.{IsAttemptLine, IsRunLine, IsTold, TracedAttempt, longest, next_number}
+use Rattle.usb_pcap.specs.{IsAttemptLine, IsRunLine, IsTold, TracedAttempt, longest}
 use Rattle.usb_pcap.specs.{read_attempt}
+use Rattle.usb_pcap.proofs.Interface.{next_number-next, no_items, some_items}
 use Rattle.usb_explain.specs.{BeginsOtherwise, BegunLine, ExplainFault, ExplainedInPart}
 use Rattle.usb_explain.specs.{ExplainedTo, ExplainsText, IsExplained, KeepsLine, Kept, Known, Only}
 use Rattle.usb_explain.specs.{Reaches, ReachesOr, after_attempt, after_read, after_told}
@@ -159,10 +159,6 @@ explained_more only w now text s h few is =
     (append_assoc h.went.front s.bytes.items (10 ∷ []))
     (IsExplained.next_line s.bytes.items (h.one, few, is) h.went.explained))
 
-number_next : (n k m : ℕ) → k ≡ next_number n → m ≡ min (k + 1) (2 ^ 64 - 1)
-    → m ≡ next_number (n + 1)
-number_next n k m e f = omega arith
-
 -- it has ended and went out
 pub reaches_next : (only : Only) (w mid now : Option (List ℕ)) (text : List ℕ) (s t : BegunLine)
     → Reaches only w mid text s → length s.bytes.items ≤ longest → IsRunLine s.bytes.items
@@ -182,7 +178,7 @@ reaches_next only w mid now text s t h few is gone number bytes known = record {
         (subst (λ k. Appends mid now (line_text only k s.bytes.items)) h.known gone);
   };
   one = subst (λ l. All (λ c. c ≢ 10) l) (sym bytes) (All-nil _);
-  number = number_next h.n s.number t.number h.number number;
+  number = next_number-next h.n s.number t.number h.number number;
   known = known ∙ ap (known_after s.bytes.items) h.known;
 }
 
@@ -298,25 +294,17 @@ all_read only (Some text) (Some rest) w now done r e end h =
     subst (λ t. ExplainsText only w now t r)
     (sym (e ∙ ap (λ l. done ++ l) end ∙ append-nil done)) h
 
-empty_line : (l : List ℕ) → (length l == 0) ≡ true → l ≡ []
-empty_line [] e = refl
-empty_line (c ∷ l) e = let zero = eqb-true (length (c ∷ l)) 0 e in absurd (omega (arith, zero))
-
-begun_line : (l : List ℕ) → (length l == 0) ≡ false → l ≢ []
-begun_line l e is = let zero : (length {A = ℕ} [] == 0) ≡ false =
-    subst (λ (k : List ℕ). (length k == 0) ≡ false) is e in absurd (cc)
-
 pub ends_whole : (only : Only) (w now : Option (List ℕ)) (text : List ℕ) (s : BegunLine)
     → (length s.bytes.items == 0) ≡ true → Reaches only w now text s
     → ExplainsText only w now text (Ok tt)
 ends_whole only w now text s empty h =
-    (h.n, subst (λ l. ExplainedTo only w now text l h.n) (empty_line s.bytes.items empty) h.went)
+    (h.n, subst (λ l. ExplainedTo only w now text l h.n) (no_items s.bytes.items empty) h.went)
 
 pub ends_begun : (only : Only) (w now : Option (List ℕ)) (text : List ℕ) (s : BegunLine)
     → (length s.bytes.items == 0) ≡ false → Reaches only w now text s
     → ExplainsText only w now text (Err (bad_line s.number))
 ends_begun only w now text s begun h =
-    (h.n, s.bytes.items, h.number, h.went, inr (begun_line s.bytes.items begun, h.one))
+    (h.n, s.bytes.items, h.number, h.went, inr (some_items s.bytes.items begun, h.one))
 
 -- ---- a piece
 
@@ -357,9 +345,3 @@ not_read only w now text Read s h is = absurd h
 not_read only w now text TooLong s h is = absurd h
 not_read only w now text (bad_line number) s h is = absurd (cc)
 not_read only w now text Write s h is = absurd (cc)
-
--- a read that gave nothing
-pub nothing_read : (a b new : Option (List ℕ)) (done buf : List ℕ) (n : ℕ) → Consumes a b done
-    → n ≡ 0 → Consumes b new (take n buf) → Consumes a new done
-nothing_read a b new done buf n h e k = subst (Consumes a new) (append-nil done)
-    (Consumes-trans a b new done [] h (subst (λ m. Consumes b new (take m buf)) e k))

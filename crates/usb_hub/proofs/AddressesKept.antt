@@ -5,6 +5,7 @@ use Rattle.std.specs.Global.{Vec}
 use Rattle.usb_request.specs.{PORT_ENABLE, PORT_RESET, PORT_POWER, SET_ADDRESS, DEVICE_OUT}
 use Rattle.usb_request.specs.{IsToHost, clear_hub_feature, Setup, get_port_status, set_port_feature}
 use Rattle.usb_request.specs.{clear_port_feature, set_address, set_configuration, set_interface}
+use Rattle.usb_request.proofs.Interface.{same_setup}
 use Rattle.usb_port.specs.{status_in, PortStatus, PortCall, SetPower, SetReset, is_reset}
 use Rattle.usb_port.specs.{IsClearFeature}
 use Rattle.usb_port.proofs.Interface.{call_is}
@@ -18,7 +19,7 @@ use Rattle.usb_pipe.proofs.Interface.{host_harmless}
 use Rattle.usb_address.specs.{AddressMap, map_without, MapHolds, WhileBusWorks, KeepsAddresses}
 use Rattle.usb_address.proofs.Interface.{answerer_claims, either_alone, gives_address, not_way}
 use Rattle.usb_address.proofs.Interface.{read_keeps, reads_other, reset_till, root_keeps}
-use Rattle.usb_address.proofs.Interface.{root_resets, root_shut, same_setup, is_way-same_path}
+use Rattle.usb_address.proofs.Interface.{root_resets, root_shut, is_way-same_path}
 use Rattle.usb_address.proofs.Interface.{write_keeps, write_till}
 use Rattle.usb_hub.specs.{HubPort, Root, External, StaysAs, EachElsewhere, KeepsDevices, IsBelow}
 use Rattle.usb_hub.specs.{EachNamedElsewhere, IsClaimed, Resets, GivesAddress, KeepsAnswered}

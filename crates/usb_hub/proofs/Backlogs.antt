@@ -3,6 +3,7 @@ use Rattle.std.proofs.Common.{◌≡◌, ℕ, suc, inl, inr, false, List, [], �
 use Rattle.std.proofs.Common.{arith}
 use Rattle.std.specs.Global.{Vec}
 use Rattle.usb_request.specs.{PORT_OUT, SET_FEATURE, bytes_of, IsToHost, Setup}
+use Rattle.usb_request.proofs.Interface.{same_setup}
 use Rattle.usb_port.specs.{PortCall}
 use Rattle.usb_device.specs.{Is, Location, path_to, State}
 use Rattle.usb_world.specs.{Attempt, Outcome, HolderIn, IsMade, IsSetup, AtPorts, Course, Step}
@@ -20,7 +21,7 @@ use Rattle.usb_transaction.proofs.Interface.{trail_course}
 use Rattle.usb_pipe.specs.{PipeFault, IsOfDataWrite, IsOfTransfer, IsBehind, IsBehindData}
 use Rattle.usb_pipe.specs.{IsNoBusFault, PutsData, Reads, Writes}
 use Rattle.usb_pipe.proofs.Interface.{put_attempts, read_attempts, write_attempts}
-use Rattle.usb_address.proofs.Interface.{ClaimedAt, KeepsClaim, claimed_holder, same_setup}
+use Rattle.usb_address.proofs.Interface.{ClaimedAt, KeepsClaim, claimed_holder}
 use Rattle.usb_address.proofs.Interface.{trail_with, unshared_after}
 use Rattle.usb_hub.proofs.ActingCalls.{AsksFor}
 use Rattle.usb_hub.proofs.RestingRequests.{behind_data_kind, no_set_up}

@@ -5,6 +5,7 @@ use Rattle.std.proofs.Common.{◌∙◌, arith}
 use Rattle.std.specs.Global.{Vec}
 use Rattle.usb_port.specs.{PortState, status_of, PortCall}
 use Rattle.usb_request.specs.{setup_of, bytes_of, get_port_status, Setup}
+use Rattle.usb_request.proofs.Interface.{same_setup}
 use Rattle.usb_device.specs.{Leaves, Registers, asked_by_setup, outcome, port_named, called_at}
 use Rattle.usb_device.specs.{told_port, State, Spec, refused, first_stage, acted, port_at, path_to}
 use Rattle.usb_device.specs.{reach_on, port_there}
@@ -16,7 +17,7 @@ use Rattle.usb_pipe.specs.{PipeFault, IsNoBusFault, AnswerRead, WasRefused, Read
 use Rattle.usb_pipe.specs.{ControlReadFailure, WriteFailure}
 use Rattle.usb_pipe.specs.declared.fault.PipeFault.TheVariants.{Stalled, Busy, NoAnswer, Broken}
 use Rattle.usb_pipe.proofs.Interface.{read_leaves, read_why, write_leaves, write_why}
-use Rattle.usb_address.proofs.Interface.{settled_attempt, place_ports, port_below_at, same_setup}
+use Rattle.usb_address.proofs.Interface.{settled_attempt, place_ports, port_below_at}
 use Rattle.usb_hub.specs.{StaysAs, Queried, ReadAs, Commanded, said_in, HubServes, NoHubFailed}
 use Rattle.usb_hub.proofs.ActingCalls.{AsksFor}
 use Rattle.usb_hub.proofs.Devices.{write_stays, IsOfPort}

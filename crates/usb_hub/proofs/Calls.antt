@@ -7,6 +7,7 @@ use Rattle.usb_port.specs.{IsPath, IsPortNumber, PortCall, set_call, clear_call,
 use Rattle.usb_port.specs.{IsSetFeature, IsClearFeature, SetPower}
 use Rattle.usb_request.specs.{setup_of, bytes_of, set_port_feature, clear_port_feature, Setup}
 use Rattle.usb_request.specs.{PORT_POWER}
+use Rattle.usb_request.proofs.Interface.{same_setup}
 use Rattle.usb_device.specs.{Calls, asked_by_setup, outcome, port_named, State, called, acted}
 use Rattle.usb_device.specs.{place, place_at, Location, path_to, reach_on, state_on}
 use Rattle.usb_world.specs.{Attempt, BusFault, Outcome, KeepsPendingAt, is_harmless, Was}
@@ -28,7 +29,7 @@ use Rattle.usb_pipe.proofs.Interface.{transacted_ended, who_writes, write_attemp
 use Rattle.usb_address.specs.{AddressMap, LeavesPipe, MapHolds, WhileBusWorks}
 use Rattle.usb_address.proofs.Interface.{ClaimedAt, Fits, KeepsClaim, Resets, settled_attempt}
 use Rattle.usb_address.proofs.Interface.{place_ports, claimed_path, is_path-empty, no_root}
-use Rattle.usb_address.proofs.Interface.{quiet_follows, reset_follows, resets_leave, same_setup}
+use Rattle.usb_address.proofs.Interface.{quiet_follows, reset_follows, resets_leave}
 use Rattle.usb_address.proofs.Interface.{some, trail_sound, trail_with, writes_leave}
 use Rattle.usb_hub.specs.{IsBelow, IsAbout, UpToFault, ActsAt, PortCallDone, CommandsPort}
 use Rattle.usb_hub.specs.{TouchesNoPort, Commanded, HubPort, Root, External}

@@ -3,6 +3,7 @@ use Rattle.std.proofs.Common.{◌≡◌, ◌≢◌, ℕ, zero, suc, true, false,
 use Rattle.std.proofs.Common.{option_map, Result, refl, arith}
 use Rattle.usb_request.specs.{PORT_RESET, get_port_status, set_port_feature, clear_port_feature}
 use Rattle.usb_request.specs.{Setup}
+use Rattle.usb_request.proofs.Interface.{same_setup}
 use Rattle.usb_port.specs.{PortState, status_in, PortStatus, PortCall, is_reset}
 use Rattle.usb_device.specs.{Registers, OnlyControl, OnlyStage, Outcome, stalled, calls_port}
 use Rattle.usb_device.specs.{outcome, State, accepted, Spec, Ports, Location, reach_on, state_on}
@@ -12,7 +13,6 @@ use Rattle.usb_world.proofs.Interface.{call_reach, call_state, each_wider}
 use Rattle.usb_transaction.specs.{Target}
 use Rattle.usb_pipe.specs.{PipeFault, ReadLeaves, WriteLeaves}
 use Rattle.usb_pipe.proofs.Interface.{read_leaves, write_leaves}
-use Rattle.usb_address.proofs.Interface.{same_setup}
 use Rattle.usb_hub.specs.{StaysAs, EachElsewhere, KeepsDevices, ReadAs, Commanded}
 use Rattle.usb_hub.proofs.Settings.{each_leaves, write_so}
 

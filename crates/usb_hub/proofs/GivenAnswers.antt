@@ -6,6 +6,7 @@ use Rattle.std.specs.Global.{Vec}
 use Rattle.usb_request.specs.{DEVICE, CONFIGURATION, STRING, IsToHost, Setup, descriptor_value}
 use Rattle.usb_request.specs.{get_device_descriptor, get_configuration_descriptor}
 use Rattle.usb_request.specs.{get_string_descriptor, get_hub_descriptor}
+use Rattle.usb_request.proofs.Interface.{same_setup}
 use Rattle.usb_device.specs.Request.{answers}
 use Rattle.usb_world.specs.{World, EachWas}
 use Rattle.usb_world.proofs.Interface.{each_wider}
@@ -14,7 +15,6 @@ use Rattle.usb_pipe.specs.{PipeFault, ReadLeaves, AnswerRead, WasRefused, IsNoBu
 use Rattle.usb_pipe.specs.{ControlReadFailure}
 use Rattle.usb_pipe.specs.declared.fault.PipeFault.TheVariants.{Bus}
 use Rattle.usb_pipe.proofs.Interface.{read_leaves, read_why}
-use Rattle.usb_address.proofs.Interface.{same_setup}
 use Rattle.usb_hub.specs.{device_given, config_given, string_given, hub_given, HasText, TextAsked}
 use Rattle.usb_hub.specs.{DeviceAsked, ConfigAsked, StringAsked, HubAsked, ReadFailure, Queried}
 

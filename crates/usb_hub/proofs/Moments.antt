@@ -6,6 +6,7 @@ use Rattle.std.specs.Global.{Vec}
 use Rattle.usb_port.specs.{IsPath, IsPortNumber, PortState, status_in, seen, PortStatus}
 use Rattle.usb_port.proofs.Interface.{status_seen}
 use Rattle.usb_request.specs.{setup_of, bytes_of, Setup, get_port_status, PORT_OUT, SET_FEATURE}
+use Rattle.usb_request.proofs.Interface.{same_setup}
 use Rattle.usb_device.specs.{Leaves, effect_of_request, asked_by_setup, Is, outcome, State, port_at}
 use Rattle.usb_device.specs.{reach, Location, path_to, reach_on, state_on, port_there, state_there}
 use Rattle.usb_world.specs.{LeavesPortAlone, World, IsRootPort, root_port_at as root_port, Course}
@@ -16,7 +17,7 @@ use Rattle.usb_pipe.specs.{PipeFault, AnswerRead, ReadLeaves}
 use Rattle.usb_pipe.proofs.Interface.{read_leaves, who_reads}
 use Rattle.usb_address.specs.{AddressMap, MapHolds, WhileBusWorks}
 use Rattle.usb_address.proofs.Interface.{settled_attempt, less_one, is_path-empty, no_root}
-use Rattle.usb_address.proofs.Interface.{port_below_at, reads_leave, same_setup}
+use Rattle.usb_address.proofs.Interface.{port_below_at, reads_leave}
 use Rattle.usb_hub.specs.{IsBelow, HubPort, Root, External, PortStatusAt, ReadsPort, IsPort}
 use Rattle.usb_hub.specs.{RootRead, PortRead, Queried, ReadAs, HubServes, NoHubFailed}
 use Rattle.usb_hub.specs.{ControlCourse}

@@ -4,6 +4,7 @@ use Rattle.std.proofs.Common.{◌≡◌, ℕ, ◌⊎◌, inl, inr, true, false, 
 use Rattle.std.proofs.Common.{arith}
 use Rattle.std.specs.Global.{Vec}
 use Rattle.usb_request.specs.{bytes_of, IsToHost, Setup}
+use Rattle.usb_request.proofs.Interface.{same_setup}
 use Rattle.usb_world.specs.{Attempt, is_setup, asks_no_port, LeavesPortAlone, World, Step, attempt}
 use Rattle.usb_world.specs.{Course}
 use Rattle.usb_tree.specs.{IsSettled}
@@ -14,7 +15,6 @@ use Rattle.usb_transaction.proofs.Interface.{trail_course}
 use Rattle.usb_pipe.specs.{PipeFault, IsOfDataWrite, IsOfTransfer, PutsData, Reads, Writes}
 use Rattle.usb_pipe.specs.{IsBehind, IsBehindData, IsNoBusFault}
 use Rattle.usb_pipe.proofs.Interface.{put_attempts, read_attempts, write_attempts}
-use Rattle.usb_address.proofs.Interface.{same_setup}
 use Rattle.usb_hub.specs.{TouchesNoPort}
 
 -- an attempt behind a SETUP is none

@@ -5,6 +5,7 @@ use Rattle.std.proofs.Common.{not, None, map}
 use Rattle.usb_port.specs.{PortState}
 use Rattle.usb_request.specs.{Setup, set_address, set_configuration, set_interface, setup_of}
 use Rattle.usb_request.specs.{bytes_of}
+use Rattle.usb_request.proofs.Interface.{same_setup}
 use Rattle.usb_descriptor.specs.{default_settings}
 use Rattle.usb_device.specs.{Registers, Spec, State, begun, accepted, takes_address, unless}
 use Rattle.usb_device.specs.{outcome, Outcome, stalled, takes_configuration, ending, first_stage}
@@ -18,8 +19,8 @@ use Rattle.usb_transaction.specs.{Target, AcceptedAt, begins_no_stretch, EachSpa
 use Rattle.usb_pipe.specs.{PipeFault, IsNoBusFault, EffectDone, EffectOrNone, none, some, whole}
 use Rattle.usb_pipe.specs.{WriteLeaves, LossesOf, WriteFailure}
 use Rattle.usb_pipe.specs.declared.fault.PipeFault.TheVariants.{Bus}
-use Rattle.usb_pipe.proofs.Interface.{write_leaves, write_losses, write_why}
-use Rattle.usb_address.proofs.Interface.{settled_attempt, same_setup}
+use Rattle.usb_pipe.proofs.Interface.{write_leaves, write_losses, write_why, only_stage}
+use Rattle.usb_address.proofs.Interface.{settled_attempt}
 use Rattle.usb_hub.specs.{Commanded, AddressAsked, takes_value, OnlySet, IsConfigured, WentOff}
 use Rattle.usb_hub.specs.{ConfigurationAsked, InterfaceAsked, TookSetting, offers_setting}
 use Rattle.usb_hub.proofs.RestingRequests.{behind_asks_nothing}
@@ -391,9 +392,6 @@ abbrev Given : Bool → ℕ → ℕ → State → State → Type 0
 Given true interface setting s v = TookSetting interface setting s v
 Given false interface setting s v = OnlyStage s v
 
-stage_kept : (s v : State) → OnlyControl s v → v.registers ≡ s.registers → OnlyStage s v
-stage_kept s v h r = grind arith
-
 given_frame : (b : Bool) (interface setting : ℕ) (row : List PortState) (s v : State)
     → OnlyControl (given_from s row b interface setting) v
     → v.registers ≡ (given_from s row b interface setting).registers
@@ -450,7 +448,7 @@ module _ (t : Target) (interface setting : ℕ) (old new : World) where
         write_so t chosen old new j s v StaysOrTakes
         (λ row h r. stays_or_takes (takes_interface s interface setting) refl (given_of row h r))
         (grind (arith, whole_given))
-        (λ h r. inl (stage_kept s v h r))
+        (λ h r. inl (only_stage s v h r))
 
     either_given : StaysOrTakes → OnlyStage s v ⊎ TookSetting interface setting s v
     either_given h = grind arith

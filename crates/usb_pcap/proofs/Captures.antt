@@ -144,7 +144,7 @@ capture_closed w now text records s h tells =
     subst (λ t. IsCapture (h.n + 1) (t ++ 10 ∷ []) (h.file ++ records)) (sym h.split)
     (IsCapture.line h.line records h.one (tells h.line h.begins h.long h.shown) h.captured)
 
-next_number-next : (n k m : ℕ) → k ≡ next_number n → m ≡ min (k + 1) (2 ^ 64 - 1)
+pub next_number-next : (n k m : ℕ) → k ≡ next_number n → m ≡ min (k + 1) (2 ^ 64 - 1)
     → m ≡ next_number (n + 1)
 next_number-next n k m e f = omega arith
 

@@ -15,7 +15,7 @@ use Rattle.usb_pcap.specs.{Item, Byte, Letter, decimal_in, if_found, is_digit, n
 use Rattle.usb_pcap.specs.{strip, strip_any, with_digit, AreUnits, IsUnit, IsOneOf, IsPiece, Piece}
 use Rattle.usb_pcap.specs.{behind_bytes, behind_escape, behind_item, behind_items, behind_piece}
 use Rattle.usb_pcap.specs.{behind_endpoint, is_escape, is_plain, value_of}
-use Rattle.usb_request.specs.{is_endpoint_address}
+use Rattle.usb_request.proofs.Interface.{address_byte}
 use Rattle.hex.specs.Hex.{encode_with}
 use Rattle.usb_port.specs.{IsPortNumber, number_text, path_of, path_text}
 use Rattle.usb_port.proofs.Interface.{number_text-below, number_text-from, reads_back, some_if}
@@ -568,14 +568,11 @@ piece_bytes-complete text rest (inr (n, first, more, is, are, e)) stop =
     ∙ ap (option_map (λ r. behind_items Byte (length r) r))
     (item-complete Byte first (more ++ rest) is) ∙ ap Some all)
 
-address_few : (a : ℕ) → is_endpoint_address a ≡ true → a < 256
-address_few a h = grind (arith, nat_tests)
-
 piece_endpoint-complete : (text rest : List ℕ) → IsPiece Piece.endpoint text
     → behind_endpoint (text ++ rest) ≡ Some rest
 unfolding encode_with
 piece_endpoint-complete _ rest (a, named, e) =
-    let few = address_few a named in
+    let few = address_byte a named in
     let high = digit_spelled (a / 16) (omega (arith, few)) in
     let low = digit_spelled (a % 16) (omega arith) in
     let whole : a / 16 * 16 + a % 16 ≡ a = omega arith in

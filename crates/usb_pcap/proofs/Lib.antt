@@ -1,3 +1,4 @@
+pub mod Interface
 mod Texts
 mod Reading
 mod Packets

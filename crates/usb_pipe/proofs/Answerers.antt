@@ -6,6 +6,7 @@ use Rattle.std.proofs.Common.{◌≢◌, inl, inr, [], take, Result, Ok, Err}
 use Rattle.arrayvec.specs.ArrayVec.{ArrayVec}
 use Rattle.usb_packet.specs.{Toggle, One, flips}
 use Rattle.usb_request.specs.{bytes_of, setup_of, IsToHost, Setup}
+use Rattle.usb_request.proofs.Interface.{length-bytes_of}
 use Rattle.usb_device.specs.{State, Location, reach_on, state_on}
 use Rattle.usb_world.specs.{is_harmless, Relation, Was, World, Attempt}
 use Rattle.usb_tree.specs.{IsSettled}
@@ -26,7 +27,7 @@ use Rattle.usb_pipe.specs.declared.condition.Condition.TheVariants.{Broken}
 use Rattle.usb_pipe.specs.declared.fault.PipeFault.TheVariants as pipe_fault
 use Rattle.usb_pipe.proofs.BulkCalls.{poll_by, send_by, receive_by, end_of}
 use Rattle.usb_pipe.proofs.ControlSteps.{ended_settled, ended_unshared, host_harmless}
-use Rattle.usb_pipe.proofs.ControlSteps.{bytes_of-length, Requested, requested_leaves}
+use Rattle.usb_pipe.proofs.ControlSteps.{Requested, requested_leaves}
 
 -- Devices at the target's address
 
@@ -189,7 +190,7 @@ no_set_up_had : (t : Target) (request : Setup) (why : PipeFault) (old new : Worl
     → IsSettled old.roots
     → IsTransferAnswer why → NoSetUp t request old why new → new.shared ≡ false → HadOne t old
 no_set_up_had t request why old new same addressed settled y x single =
-    had_one (who_set_up t (bytes_of request) (Err x.fault) old new (bytes_of-length request)
+    had_one (who_set_up t (bytes_of request) (Err x.fault) old new (length-bytes_of request)
     (grind arith) settled (given_fault why x.fault x.told y)
     x.set_up single)
 

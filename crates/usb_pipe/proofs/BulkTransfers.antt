@@ -10,6 +10,7 @@ use Rattle.std.proofs.Common.{take-append-drop}
 use Rattle.std.specs.Global.{Vec}
 use Rattle.std.specs.Int.{div_ceil}
 use Rattle.usb_packet.specs.{Toggle, other, flips}
+use Rattle.usb_packet.proofs.Interface.{flips_next}
 use Rattle.usb_tree.specs.{IsSettled}
 use Rattle.usb_world.specs.{World, EachWas, Relation}
 use Rattle.usb_world.proofs.Interface.{each_joined, each_none, each_wider}
@@ -34,7 +35,7 @@ use Rattle.usb_pipe.proofs.Answerers.{who_sends, who_receives}
 use Rattle.usb_pipe.proofs.BulkCalls.{ready_or, send_by, receive_by, gave_settled, received_settled}
 use Rattle.usb_pipe.proofs.BulkCalls.{end_of}
 use Rattle.usb_pipe.proofs.ControlSteps.{ended_unshared, ended_damages, never_three}
-use Rattle.usb_pipe.proofs.MovedPackets.{flips_more, gave_packets, all_packets}
+use Rattle.usb_pipe.proofs.MovedPackets.{gave_packets, all_packets}
 use Rattle.usb_pipe.proofs.NextPackets.{CameFrom, no_bytes, none_came_from, one_came_then}
 use Rattle.usb_pipe.proofs.NextPackets.{one_there}
 use Rattle.usb_pipe.proofs.TransactionFaults.{Fell, fell_same_fault}
@@ -43,7 +44,7 @@ use Rattle.usb_pipe.proofs.TransferLosses.{send_losses, receive_losses}
 -- the other toggle is that of the next packet
 turned_on : (n : ℕ) (first toggle : Toggle) → toggle ≡ other (flips n first)
     → toggle ≡ flips (n + 1) first
-turned_on n first toggle e = grind (arith, flips_more)
+turned_on n first toggle e = grind (arith, flips_next)
 
 -- the packets of an endpoint have a maximum of their own
 pub listens_packet : (t : Target) (max : ℕ) (place : Location) (s u : State) → u.spec ≡ s.spec

@@ -1,11 +1,12 @@
 -- The transactions of a control transfer: what each leaves of each device, and how they join.
-use Rattle.std.proofs.Common.{◌≡◌, ℕ, ◌&&◌, if◌then◌else◌, Bool, true, false, List, length, refl}
+use Rattle.std.proofs.Common.{◌≡◌, ℕ, ◌&&◌, if◌then◌else◌, Bool, true, false, List, refl}
 use Rattle.std.proofs.Common.{subst, ◌∙◌, ◌≢◌, zero, suc, ◌%◌, ◌==◌, not, ap, arith, ◌<◌, ◌≤◌, []}
 use Rattle.std.proofs.Common.{Result, Ok, Err}
 use Rattle.std.proofs.lemmas.Bool.Decides.{nat_tests}
 use Rattle.std.proofs.lemmas.Option.{same_Some}
 use Rattle.usb_packet.specs.{Toggle, Zero, One, other, flips}
 use Rattle.usb_request.specs.{bytes_of, setup_of, IsToHost, Setup}
+use Rattle.usb_request.proofs.Interface.{length-bytes_of}
 use Rattle.usb_device.specs.{OnlyControl, OnlyStage, State, toggle_at, Location}
 use Rattle.usb_world.specs.{is_harmless, Relation, EachWas, Was, World, Attempt}
 use Rattle.usb_tree.specs.{IsSettled}
@@ -128,17 +129,13 @@ pub record Requested (t : Target) (request : Setup) (result : Result (List ℕ) 
   pub why : NoThreeDamaged old → SetupFailure t result j s v
   pub kept : begins_no_stretch request ≡ true → TransNotOfBus result → new.losses ≡ old.losses
 
-pub bytes_of-length : (request : Setup) → length (bytes_of request) ≡ 8
-unfolding bytes_of
-bytes_of-length request = refl
-
 pub requested_leaves : (t : Target) (request : Setup) (result : Result (List ℕ) TransFault)
     (old new : World) → setup_of (bytes_of request) ≡ request → IsSettled old.roots
     → SetUp t request old result new → new.shared ≡ false
     → EachSpared t request (Requested t request result old new) old new
 requested_leaves t request result old new same settled x single j v on there spared =
     let bytes : List ℕ = bytes_of request in
-    let a = set_up_told t bytes result old new (bytes_of-length request) settled x single j v on
+    let a = set_up_told t bytes result old new (length-bytes_of request) settled x single j v on
     there (grind arith) in
     was_then a (grind (arith, ended_by, set_up_losses))
 

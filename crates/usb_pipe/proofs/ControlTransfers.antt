@@ -14,6 +14,7 @@ use Rattle.std.proofs.lemmas.Bool.Decides.{nat_tests}
 use Rattle.std.proofs.lemmas.List.{take_all, length-take}
 use Rattle.std.proofs.lemmas.Nat.{div-add-mod'}
 use Rattle.usb_packet.specs.{Toggle, One, other, flips}
+use Rattle.usb_packet.proofs.Interface.{flips_next}
 use Rattle.usb_request.specs.{bytes_of, setup_of, IsToHost, Setup, GET_STATUS, CLEAR_FEATURE}
 use Rattle.usb_request.specs.{SET_FEATURE, SET_ADDRESS, GET_DESCRIPTOR, GET_CONFIGURATION}
 use Rattle.usb_request.specs.{SET_CONFIGURATION, DEVICE_IN, DEVICE_OUT, ENDPOINT_OUT, HUB_IN}
@@ -58,7 +59,6 @@ use Rattle.usb_pipe.proofs.ControlSteps.{ControlOutAsked, put_leaves, ended_dama
 use Rattle.usb_pipe.proofs.ControlSteps.{request_type-other, sound_in, ControlInAsked, Requested}
 use Rattle.usb_pipe.proofs.ControlSteps.{Only, only_first, RequestReached, reached_first}
 use Rattle.usb_pipe.proofs.ControlSteps.{reached_last, reached_more, either_way, host_stretch}
-use Rattle.usb_pipe.proofs.MovedPackets.{flips_more}
 use Rattle.usb_pipe.proofs.TransactionFaults.{fell, Fell}
 use Rattle.usb_transaction.specs.Losses as transaction
 use Rattle.usb_transaction.specs.declared.fault.TransFault.TheVariants as trans
@@ -905,7 +905,7 @@ onward_more {t} {wanted} {old} {mid} {new} {got = got} {kept} {toggle} {next} by
       packets = o.packets + 1;
       goes = rw whole (packet bytes o.goes (subst (λ x. Asks t x mid (Ok bytes) new) o.turned asks)
           (grind arith));
-      turned = grind (arith, flips_more);
+      turned = grind (arith, flips_next);
       few = on.1;
       spends = grind (arith, full_packet, spends_then, spends_wider);
       sound = λ _. o.sound worked.sound;

@@ -9,6 +9,7 @@ use Rattle.std.proofs.lemmas.Bool.Decides.{nat_tests}
 use Rattle.std.proofs.lemmas.List.Quantifiers.{position-Some}
 use Rattle.std.proofs.lemmas.Option.{get_or_from_slice_get}
 use Rattle.usb_packet.specs.{One, flips}
+use Rattle.usb_packet.proofs.Interface.{flips_next}
 use Rattle.usb_port.specs.{PortState}
 use Rattle.usb_request.specs.{Setup, bytes_of, setup_of, IsToDevice, DEVICE_IN, DEVICE_OUT}
 use Rattle.usb_request.specs.{ENDPOINT_OUT, HUB_IN, PORT_IN, PORT_OUT, GET_DESCRIPTOR, GET_STATUS}
@@ -24,7 +25,7 @@ use Rattle.usb_device.specs.{WritingAt, WriteAt, WriteEnded, level, ahead, OnlyC
 use Rattle.usb_world.specs.{Course, World, is_harmless}
 use Rattle.usb_world.proofs.Interface.{course_joined}
 use Rattle.usb_tree.specs.{IsSettled}
-use Rattle.usb_tree.proofs.Interface.{decided}
+use Rattle.usb_tree.proofs.Interface.{decided, and_none}
 use Rattle.usb_transaction.specs.{Target, TransFault, AcceptedAt, EachSpared, Answerer}
 use Rattle.usb_transaction.specs.{AttemptsMade, Expects, IsNotOfBus as TransNotOfBus, WriteEnds}
 use Rattle.usb_transaction.specs.{WriteOut, WriteStatusEnds, begins_no_stretch, data_write}
@@ -44,7 +45,6 @@ use Rattle.usb_pipe.proofs.ControlSteps.{only_first, reached_first, reached_last
 use Rattle.usb_pipe.proofs.ControlSteps.{sound_told}
 use Rattle.usb_pipe.proofs.ControlTransfers.{at_least_8}
 use Rattle.usb_pipe.proofs.DataWrites.{asked_behind, gave_behind, put_behind, who_puts}
-use Rattle.usb_pipe.proofs.MovedPackets.{flips_more}
 use Rattle.usb_pipe.proofs.TransactionFaults.{Fell, fell_same_fault}
 
 -- What a request with data to the device asks: its data, or a refusal
@@ -56,9 +56,6 @@ IsWriting o = ⊥
 
 not_so : (b : Bool) (x y : Outcome) → b ≡ false → IsWriting y → IsWriting (if b then x else y)
 not_so b x y e h = rw e h
-
-and_last : (a b : Bool) → b ≡ false → (a && b) ≡ false
-and_last a b e = grind arith
 
 -- a request of the device's own whose data go to it
 
@@ -88,7 +85,7 @@ module _ (s : Spec) (g : Registers) (r : Setup) (way : IsToDevice r)
     (some : (r.length == 0) ≡ false) where
   no_endpoint : (f : ServedEndpoint → Outcome) (o : Option ServedEndpoint)
       → IsWriting (on_endpoint f (if r.value == ENDPOINT_HALT && r.length == 0 then o else None))
-  no_endpoint f o = grind (arith, and_last)
+  no_endpoint f o = grind (arith, and_none)
 
   -- a request whose data go to the host is another
   no_read : (type request : ℕ) (x y : Outcome) → 128 ≤ type → IsWriting y
@@ -102,7 +99,7 @@ module _ (s : Spec) (g : Registers) (r : Setup) (way : IsToDevice r)
       (no_read DEVICE_IN GET_STATUS _ _ (omega arith)
       (no_read DEVICE_IN GET_CONFIGURATION _ _ (omega arith)
       (either_way IsWriting (Is r DEVICE_OUT SET_ADDRESS) _ _
-      (grind (arith, and_last, either_way, not_so))
+      (grind (arith, and_none, either_way, not_so))
       (either_way IsWriting (Is r DEVICE_OUT SET_CONFIGURATION) _ _
       (grind (arith, either_way, not_so))
       (no_read INTERFACE_IN GET_STATUS _ _ (omega arith)
@@ -150,7 +147,7 @@ so_far-first wanted kept = refl
 
 so_far-more : (wanted : ℕ) (kept : Bool) (n : ℕ) (sent bytes : List ℕ)
     → written_on (so_far wanted kept n sent) bytes ≡ so_far wanted kept (n + 1) (sent ++ bytes)
-so_far-more wanted kept n sent bytes = grind (arith, flips_more)
+so_far-more wanted kept n sent bytes = grind (arith, flips_next)
 
 -- it refused; or it has the bytes of n packets
 data DataFar (wanted n : ℕ) (sent : List ℕ) (first : Stage) (s v : State) : Type 0 where

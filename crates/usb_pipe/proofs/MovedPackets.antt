@@ -1,7 +1,7 @@
 -- How the packets of a bulk transfer join.
 use Rattle.std.proofs.Common.{◌≡◌, ◌≢◌, ◌∙◌, ◌⊎◌, inl, inr, refl, ap, subst, arith, ℕ, zero, suc}
 use Rattle.std.proofs.Common.{◌+◌, ◌-◌, ◌*◌, ◌<◌, ◌≤◌, min, List, [], ◌++◌, length, take, drop}
-use Rattle.std.proofs.Common.{Option, None, Result, Ok, Err, IsErr, IsErrAnd, add-one, append_assoc}
+use Rattle.std.proofs.Common.{Option, None, Result, Ok, Err, IsErr, IsErrAnd, append_assoc}
 use Rattle.std.proofs.Common.{append-nil, length-append, length-drop, length-take, take-append-drop}
 use Rattle.std.specs.Global.{Vec}
 use Rattle.std.specs.Int.{div_ceil}
@@ -9,6 +9,7 @@ use Rattle.std.proofs.lemmas.Grind.{div_ceil_times}
 use Rattle.std.proofs.lemmas.List.{take_min}
 use Rattle.std.proofs.lemmas.Nat.{div-mul-add, le-div}
 use Rattle.usb_packet.specs.{Toggle, other, flips}
+use Rattle.usb_packet.proofs.Interface.{flips_next}
 use Rattle.usb_world.specs.{World}
 use Rattle.usb_bus.specs.{StepRun}
 use Rattle.usb_bus.proofs.Interface.{went_none, went_then, went_wider}
@@ -20,11 +21,6 @@ use Rattle.usb_pipe.specs.Moves.{start, packet}
 use Rattle.usb_pipe.specs.declared.fault.PipeFault.TheVariants.{Memory}
 
 -- Toggles
-
-pub flips_more : (n : ℕ) (first toggle next : Toggle) → toggle ≡ flips n first → next ≡ other toggle
-    → next ≡ flips (n + 1) first
-unfolding flips
-flips_more n first toggle next e f = rw (add-one n) (f ∙ ap other e)
 
 -- n packets were moved
 pub record Moved (n : ℕ) (first toggle : Toggle) (old : World) (t : Option (List ℕ)) (now : World)
@@ -54,7 +50,7 @@ module _ {n : ℕ} {first toggle : Toggle} {old mid : World} {t r : Option (List
   moved_more : (next : Toggle) {new : World} {s : Option (List ℕ)}
       → StepRun transaction_bound mid r new s → AttemptsMade 1 mid new → next ≡ other toggle
       → Moved (n + 1) first next old t new s
-  moved_more next w worked e = grind (arith, moved_went, flips_more)
+  moved_more next w worked e = grind (arith, moved_went, flips_next)
 
   worked_then : {k : ℕ} {new : World} → AttemptsMade k mid new → AttemptsMade k old new
   worked_then w = grind arith
@@ -317,7 +313,7 @@ module _ (t : Target) (ep : ℕ) (first : Toggle) {old : World} {text : Option (
     room_received last (Err why) err said x e = record {
       ends = grind (arith, worked_then);
       moves = grind (arith, c.came, c.moved.turned, x.heard, x.short);
-      behind = grind (arith, flips_more);
+      behind = grind (arith, flips_next);
       most = tt;
       turned = tt;
       halted = λ h. cc (said, h);

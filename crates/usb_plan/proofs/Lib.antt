@@ -1,3 +1,4 @@
+pub mod Interface
 mod DigitPairs
 mod Entries
 mod Steps

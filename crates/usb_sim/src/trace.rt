@@ -5,11 +5,10 @@ ghost use Rattle.usb_world.specs.Trace.{attempt_line, pre_text, mark_text, host_
 
 use arrayvec::ArrayString;
 use usb_device::{AnswerPid, HeardPid};
-use usb_exchange::{ExchangeRoom, ExchangeRoom, OutgoingRoom, OutgoingRoom};
+use usb_exchange::{ExchangeRoom, OutgoingRoom};
 use usb_function::Hearing;
 use usb_packet::{push_decimal, push_packet, push_payload};
 use usb_world::{Mark, Outgoing};
-use usb_world_steps::{ExchangeRoom, OutgoingRoom};
 
 /// Room for the longest line of an attempt.
 pub type Line = ArrayString<700>;

@@ -3,10 +3,10 @@ use Rattle.std.proofs.Common.{◌≡◌, ◌∙◌, refl, sym, ap, subst, ℕ, �
 use Rattle.std.proofs.Common.{Bool, true, false, List, [], ◌++◌, length, drop}
 use Rattle.std.proofs.Common.{None, Ok, Err, arith}
 use Rattle.std.proofs.Common.{nat_eq, ◌≢◌}
-use Rattle.std.proofs.lemmas.Bool.{eq-eqb, eqb-false, eqb-true}
+use Rattle.std.proofs.lemmas.Bool.{eq-eqb, eqb-true}
 use Rattle.usb_watch.specs.{OutPipe, Pipe}
 use Rattle.usb_packet.specs.{Toggle, Zero, One, flips, other}
-use Rattle.std.proofs.Common.{add-one, length-append, length-drop, lt_of_mul-lt-mul_right, min}
+use Rattle.std.proofs.Common.{length-drop, lt_of_mul-lt-mul_right, min}
 use Rattle.std.proofs.lemmas.Grind.{div_ceil_times}
 use Rattle.std.proofs.lemmas.List.{drop_min, drop-drop}
 use Rattle.std.specs.Int.{div_ceil}
@@ -113,19 +113,6 @@ all_moved total rest moved max least left none less =
     ceil_is (length total) max moved least
     (omega (arith, left_size total rest (moved * max) left, none)) less
 
-pub next_size : (moved max : ℕ) (got bytes : List ℕ) → length got ≡ moved * max
-    → length bytes ≡ max → length (got ++ bytes) ≡ (moved + 1) * max
-next_size moved max got bytes e f = omega (arith, length-append got bytes, e, f)
-
-pub flips_none : (toggle : Toggle) → toggle ≡ flips 0 toggle
-unfolding flips
-flips_none toggle = refl
-
-pub flips_next : (n : ℕ) (first due next : Toggle) → due ≡ flips n first → next ≡ other due
-    → next ≡ flips (n + 1) first
-unfolding flips
-flips_next n first due next e f = rw (add-one n) (f ∙ ap other e)
-
 -- ---- the end of a row of INs
 
 pub full_moves : (max moved : ℕ) (first due : Toggle) (outcome : Outcome) (bytes : List ℕ)
@@ -205,10 +192,6 @@ row_failed plan most moved r0 r r1 w0 w w1 old j k got q f told so less is step 
     },
   );
 }
-
--- whether bytes are left
-pub nonzero : (n : ℕ) (b : Bool) → b ≡ nat_eq n 0 → b ≡ false → 0 < n
-nonzero n b is e = let no : n ≢ 0 = eqb-false n 0 (sym is ∙ e) in omega arith
 
 pub zero_of : (n : ℕ) (b : Bool) → b ≡ nat_eq n 0 → b ≡ true → n ≡ 0
 zero_of n b is e = eqb-true n 0 (sym is ∙ e)

@@ -13,7 +13,7 @@ use Rattle.usb_device.specs.{RememberedPacket, Spec, State, Reply, Ports, Place,
 use Rattle.usb_device.specs.{taken, empty, full, before, acted, all_off, all_forgotten, forgotten}
 use Rattle.usb_device.specs.{answer_of, effect_of, after_packet, reply_to, received, unread, fresh}
 use Rattle.usb_device.specs.{reset_state, replaced, changed, changed_at, called, state_at, state_on}
-use Rattle.usb_device.specs.{new_ports, first_ports, Location, hears, row_of, in_row, ack_row}
+use Rattle.usb_device.specs.{first_ports, Location, hears, row_of, in_row, ack_row}
 use Rattle.usb_device.specs.{out_row, unless_busy, begun, setup_row, token_row, payload_row}
 use Rattle.usb_device.specs.{data_row, after_memory, answered, Outcome, Write, WriteData, judged}
 use Rattle.usb_device.specs.{max_packet, write_row, writing, BulkIn, BulkOut, Changes, halts}
@@ -36,7 +36,7 @@ use Rattle.usb_world.specs.{place_of_answer, ports_in, reply_of, reply_out, repo
 use Rattle.usb_world.specs.{sent_as, token_of, token_out, with_attempt}
 use Rattle.usb_world.proofs.Interface.{MadeOrNot, OverEvents, attempt_cases, call_state}
 use Rattle.usb_world.proofs.Interface.{happened_by, over_ready, over_taken, ready_settled}
-use Rattle.usb_world.proofs.Interface.{settled_after, settled_memory}
+use Rattle.usb_world.proofs.Interface.{settled_after, settled_memory, new_bare}
 use Rattle.usb_hub.specs.{ControlCourse, IsControlStep}
 use Rattle.usb_streams.specs.{IsUntouched, KeepsStreams, MovesNothing}
 
@@ -414,15 +414,9 @@ out_kept (Some s) (Some v) forgot x =
     let y = x (subst AwaitsControl (sym (forgot s refl)) tt) in
     inl (record { sink = y.sink; place = y.place })
 
-none_new : (n j : ℕ) (p : List ℕ) → state_at (new_ports n) j p ≡ None
-unfolding state_at new_ports
-none_new zero j p = refl
-none_new (suc n) zero p = refl
-none_new (suc n) (suc j) p = none_new n j p
-
 none_first : (spec : Spec) (j : ℕ) (p : List ℕ) → state_at (first_ports spec.hub) j p ≡ None
 unfolding state_at
-none_first spec j p = grind (arith, none_new)
+none_first spec j p = grind (arith, new_bare)
 
 -- a device that is put somewhere is untouched
 row_new : {A B X : Type 0} (none : A) (seen : A → X) (new : B → A)

@@ -15,7 +15,7 @@ use Rattle.usb_table.specs.{At, AreFunctionPipes, IsPlace, OnlySinkOf, PipeDid, 
 use Rattle.usb_table.specs.{TableFault, ThroughIf, TransferFault, end_under, first_number}
 use Rattle.usb_table.specs.{first_pipe, lost_at, moves_bulk, only_if, pipe_at, pipe_if, pipe_to}
 use Rattle.usb_table.specs.{through, with_pipe, with_rest}
-use Rattle.usb_table.proofs.Interface.{path_itself}
+use Rattle.usb_table.proofs.Interface.{path_itself, only_some}
 use Rattle.usb_streams.specs.{endpoint_at, first_of, has_way, is_of, is_this, pipe_of}
 
 -- Endpoints of the device
@@ -142,22 +142,11 @@ pub numbered : (device : Accepted) (below d : Bool) (e : ℕ) (pipes : FunctionP
 numbered device below d e pipes pipe are found =
     let known = at_place device below d e pipes pipe are found in known.number
 
--- a pipe that passes a test
-only_found : (test : PipeState → Bool) (o : Option PipeState) (pipe : PipeState)
-    → only_if test o ≡ Some pipe → (o ≡ Some pipe) × (test pipe ≡ true)
-only_found test None pipe found = absurd (cc found)
-only_found test (Some one) pipe found = by_test (test one) refl found
-  where
-    by_test : (b : Bool) → test one ≡ b → (if b then Some one else None) ≡ Some pipe
-        → (Some one ≡ Some pipe) × (test pipe ≡ true)
-    by_test true is same = let it : one ≡ pipe = cc same in (same, ap test (sym it) ∙ is)
-    by_test false is same = absurd (cc same)
-
 -- the first bulk one stands at the number of the first
 pub first_stands : (d : Bool) (pipes : FunctionPipes) (n : ℕ) (pipe : PipeState)
     → first_number d pipes ≡ Some n → first_pipe d pipes ≡ Some pipe
     → (pipe_at d n pipes ≡ Some pipe) × (moves_bulk pipe ≡ true)
-first_stands d pipes n pipe is found = only_found moves_bulk (pipe_at d n pipes) pipe
+first_stands d pipes n pipe is found = only_some moves_bulk (pipe_at d n pipes) pipe
     (subst (λ o. only_if moves_bulk (pipe_if d o pipes) ≡ Some pipe) is found)
 
 -- a transfer through the endpoint of a choice goes through this pipe, of a direction

@@ -15,4 +15,4 @@ pub use Rattle.usb_table.proofs.entries.Ranges.{FoundPort, known_port-without, p
 pub use Rattle.usb_table.proofs.transfers.Restarts.{cleared_restarts, cleared_restarts_of}
 pub use Rattle.usb_table.proofs.transfers.FreeRequests.{spares-same, spares-stage, spares-then}
 pub use Rattle.usb_table.proofs.transfers.PlainRequests.{read_spares, StillEnds, write_still}
-pub use Rattle.usb_table.proofs.levels.StandingPipes.{empty_or_not}
+pub use Rattle.usb_table.proofs.levels.StandingPipes.{empty_or_not, only_some}

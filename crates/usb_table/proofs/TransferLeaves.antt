@@ -27,13 +27,12 @@ use Rattle.usb_table.proofs.levels.StandingPipes.{far_end, in_place, polls_picks
 use Rattle.usb_table.proofs.levels.StandingPipes.{receives_picks, receives_way, sends_picks}
 use Rattle.usb_table.proofs.levels.StandingPipes.{sends_way, some_bytes, to_picks}
 use Rattle.usb_table.proofs.transfers.Restarts.{cleared_rest, cleared_single, in_turn_moves}
-use Rattle.std.proofs.lemmas.Grind.{common_steps}
 use Rattle.std.specs.Global.{Vec}
-use Rattle.std.specs.Int.{div_ceil}
 use Rattle.arrayvec.specs.ArrayVec.{ArrayVec}
 use Rattle.usb_world.proofs.Interface.{course_joined, each_joined, spends_none, spends_wider}
 use Rattle.usb_device.specs.{Location, State}
 use Rattle.usb_pipe.proofs.Interface.{clear_leaves, packet_leaves, receive_leaves, send_leaves}
+use Rattle.usb_pipe.proofs.Interface.{few_packets}
 use Rattle.usb_table.proofs.levels.FittingPipes.{PipesMove, clear_moves, given_moves, send_moves}
 use Rattle.usb_table.proofs.levels.FittingPipes.{EachMoves, call_each}
 use Rattle.usb_bus.specs.{Traced}
@@ -213,10 +212,6 @@ one_leaves {device = device} {pipe = pipe} {left} e w n L {old} {answer} {result
       moves = inr (device, e, call_each pipe left w.of old answer new L kept leaves moves);
     }
 
--- each packet but an empty one has a byte
-packets_few : (bytes max : ℕ) → 1 ≤ max → div_ceil bytes max ≤ bytes
-packets_few bytes max least = grind (arith, common_steps)
-
 -- Halts that are cleared, one and then the other
 
 -- two calls, between which the bus was at work
@@ -351,7 +346,7 @@ module _ (path : List ℕ) (old new : Table) (before after : World) (text now : 
       through_one (sends_through choice) (sends_miss choice) (sends_picks choice)
       (λ p. SentThrough p bytes) (λ p o r l w z. z.same) _ result
       (λ device pipes pipe left e w x.
-      let few = packets_few (length bytes) pipe.max (some_bytes pipe w.of) in
+      let few = few_packets (length bytes) pipe.max (some_bytes pipe w.of) in
       let placed = in_place device (is_below_hub path) pipes w.of.are in
       one_leaves e w _ (SendLeaves bytes pipe x.answer left) (grind (arith, spends_wider)) x.told
       (search (far_end, send_keeps))

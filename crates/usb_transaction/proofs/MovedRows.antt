@@ -1,13 +1,14 @@
 -- Rows of packets: each that one attempt moved is a transaction, and so is the one that went on.
 use Rattle.std.proofs.Common.{◌≡◌, ◌≢◌, ◌∙◌, refl, ap, subst, ℕ, zero, suc, ◌+◌, ◌*◌, ◌%◌, ◌<◌, ◌≤◌}
 use Rattle.std.proofs.Common.{List, [], ◌++◌, length, take, drop, Option, Result, Ok, Err, arith}
-use Rattle.std.proofs.Common.{add-one, append-nil, length-append, length-take, false}
+use Rattle.std.proofs.Common.{append-nil, length-append, length-take, false}
 use Rattle.std.proofs.Math.Seq.{drop-append-add}
 use Rattle.std.specs.Int.{div_ceil}
 use Rattle.std.proofs.lemmas.Grind.{div_ceil_times}
 use Rattle.std.proofs.lemmas.List.{take_all}
 use Rattle.arrayvec.specs.ArrayVec.{ArrayVec}
 use Rattle.usb_packet.specs.{Toggle, flips, other, speed_has_pre, speed_is_low}
+use Rattle.usb_packet.proofs.Interface.{flips_next}
 use Rattle.usb_world.specs.{Attempt, BusFault, Destination, IsAttempt, Outcome, World}
 use Rattle.usb_world.specs.declared.types.Outcome.TheVariants.{Payload, Ack}
 use Rattle.usb_tree.specs.{IsSettled}
@@ -38,11 +39,6 @@ flips_even (suc (suc n)) t e = other_twice (flips n t) ∙ flips_even n t (omega
 pub flips_odd : (n : ℕ) (t : Toggle) → n % 2 ≢ 0 → flips n t ≡ other t
 unfolding flips
 flips_odd n t e = grind (arith, flips_even)
-
-pub flips_more : (n : ℕ) (first toggle next : Toggle) → toggle ≡ flips n first → next ≡ other toggle
-    → next ≡ flips (n + 1) first
-unfolding flips
-flips_more n first toggle next e f = rw (add-one n) (f ∙ ap other e)
 
 -- The first attempt of a transaction moved its packet
 
@@ -209,7 +205,7 @@ module _ {t : Target} {ep : ℕ} {first : Toggle} {most : ℕ} {old : World}
       came = (answered_says end says).1;
       kept = kept;
       count = refl;
-      turned = grind (arith, flips_more);
+      turned = grind (arith, flips_next);
     },
     answered_went end says (omega arith),
   )
@@ -423,7 +419,7 @@ module _ {t : Target} {ep : ℕ} {first : Toggle} {total : List ℕ} {old : Worl
           so_far = row_so_far e.0;
           went = gone;
           count = refl;
-          turned = grind (arith, flips_more);
+          turned = grind (arith, flips_next);
         },
         outs_more end front says (omega arith),
       )

@@ -9,6 +9,7 @@ use Rattle.std.proofs.lemmas.Bool.Decides.{nat_tests}
 use Rattle.usb_packet.specs.{Toggle, Zero, One}
 use Rattle.usb_port.specs.{path_of}
 use Rattle.usb_request.specs.{DIRECTION_IN, Setup, setup_of}
+use Rattle.usb_request.proofs.Interface.{same_setup}
 use Rattle.usb_wire.specs.{Answer, Roots, RootsAndRows, second_answer, version_field, Ack, Nak}
 use Rattle.usb_wire.specs.{Stall, Nothing, Data, Done, Show, End, Send}
 use Rattle.usb_wire.specs.{Receive, Clear, Said, Changed, WireFault, LineTooLong, BadCharacter}
@@ -33,7 +34,6 @@ use Rattle.usb_wire.specs.declared.question.Asked.TheVariants.{Hello, Attempt, P
 use Rattle.usb_wire.specs.Reading.{◌>>=◌}
 use Rattle.usb_wire.proofs.FieldLemmas.{spelled-value, value-hex}
 use Rattle.usb_wire.proofs.SaidLaws.{bytes_of_word-data, false_not, request_word}
-use Rattle.usb_wire.proofs.SetupLemmas.{setup_of-bytes_of}
 
 -- ---- faults of readings one after the other
 
@@ -227,7 +227,7 @@ counted_as setup bytes s ys read given =
       kind.0,
       request.value,
       (spelled-value bytes ys payload.value).count,
-      setup_of-bytes_of s,
+      same_setup s,
     ) refl
 
 fault_in-write : (setup bytes : List ℕ) → fault_in (write_of_words setup bytes)

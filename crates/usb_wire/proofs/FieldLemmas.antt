@@ -31,6 +31,7 @@ use Rattle.usb_packet.specs.{hex_text}
 use Rattle.usb_port.specs.{IsPortNumber, number_text, path_text}
 use Rattle.usb_port.proofs.Interface.{number_text-below, number_text-from}
 use Rattle.usb_request.specs.{is_endpoint_address}
+use Rattle.usb_request.proofs.Interface.{address_byte}
 use Rattle.usb_wire.specs.{address_spelled, address_named, address_text, hex_length, hex_value}
 use Rattle.usb_wire.specs.{is_dash, is_decimal, is_hex, number_within}
 use Rattle.usb_wire.specs.{BadHex, BadLength, bytes_of_word, count_in, status_of_word}
@@ -184,9 +185,6 @@ address_in word (Some bytes) a e = spelled_address word bytes a e
 pub address_named-word : (word : List ℕ) (a : ℕ) → address_named word ≡ Some a
     → IsEndpointWord word a
 address_named-word word a e = address_in word (hex_value word) a e
-
-address_byte : (a : ℕ) → is_endpoint_address a ≡ true → a < 256
-address_byte a h = grind (arith, nat_tests)
 
 pub small_address : (a : ℕ) → is_endpoint_address a ≡ true → IsBytes (a ∷ [])
 small_address a h zero = address_byte a h

@@ -19,6 +19,7 @@ use Rattle.usb_packet.proofs.SpellingLemmas.{IsBytes-none}
 use Rattle.usb_port.specs.{PortCall, SetPower, SetReset, ClearEnable, ClearPower}
 use Rattle.usb_port.specs.{ClearConnectionChange, ClearEnableChange, ClearResetChange}
 use Rattle.usb_request.specs.{Setup as SetupData, bytes_of}
+use Rattle.usb_request.proofs.Interface.{length-bytes_of}
 use Rattle.usb_wire.specs.{WireFault, LineTooLong, BadCharacter, Endpoint, Question}
 use Rattle.usb_wire.specs.{hex_value, after_pre, asked_in, behind_pre_word}
 use Rattle.usb_wire.specs.{call_in, cut_at, data_behind, endpoint_in, in_question, out_question}
@@ -39,7 +40,7 @@ use Rattle.usb_wire.proofs.ReadLaws.{IsVisibleWord, bytes_word, decimal-is_word,
 use Rattle.usb_wire.proofs.ReadLaws.{read_number}
 use Rattle.usb_wire.proofs.SaidLaws.{IsDataWord, bytes_of_word-data}
 use Rattle.usb_wire.proofs.SaidLaws.{number_of_word-ok as number_read, same_Ok, word_is}
-use Rattle.usb_wire.proofs.SetupLemmas.{IsBytes-bytes_of, length-bytes_of}
+use Rattle.usb_wire.proofs.SetupLemmas.{IsBytes-bytes_of}
 use Rattle.usb_wire.proofs.SetupLemmas.{setup_in_bytes-bytes_of, setup_in_bytes-some}
 use Rattle.usb_wire.proofs.WordLemmas.{HasNoSpace-visible, all_printable-append}
 use Rattle.usb_wire.proofs.WordLemmas.{all_printable-visible, all_visible, is_visible}

@@ -14,6 +14,7 @@ use Rattle.usb_port.specs.{IsPath, path_text}
 use Rattle.usb_port.proofs.Interface.{length-path_text, reads_back}
 use Rattle.usb_request.specs.{DIRECTION_IN, IsToDevice, IsToHost, Setup, bytes_of}
 use Rattle.usb_request.specs.{is_endpoint_address}
+use Rattle.usb_request.proofs.Interface.{length-bytes_of}
 use Rattle.usb_wire.specs.{ClearOf, Poll, ReceiveFrom, SendTo, clear_of_answer, endpoint_named}
 use Rattle.usb_wire.specs.{address_text, poll_answer, receive_from_answer}
 use Rattle.usb_wire.specs.{send_to_answer, send_to_limit, Interface, interface_answer}
@@ -37,7 +38,7 @@ use Rattle.usb_wire.proofs.FieldLemmas.{address_named-text, small_address}
 use Rattle.usb_wire.proofs.FieldLemmas.{hex_value-hex_text, hex_value-length, hex_value-within}
 use Rattle.usb_wire.proofs.FieldLemmas.{spelled-value}
 use Rattle.usb_wire.proofs.FieldLemmas.{status_of_word-value, within-decimal}
-use Rattle.usb_wire.proofs.SetupLemmas.{IsBytes-bytes_of, length-bytes_of}
+use Rattle.usb_wire.proofs.SetupLemmas.{IsBytes-bytes_of}
 use Rattle.usb_wire.proofs.SetupLemmas.{setup_in_bytes-bytes_of}
 use Rattle.usb_wire.proofs.WordLemmas.{HasNoSpace-visible, all_printable-append}
 use Rattle.usb_wire.proofs.WordLemmas.{all_printable-visible, all_visible, words_cut, words_none}

@@ -7,6 +7,7 @@ use Rattle.hex.specs.Hex.{IsBytes, encode_with}
 use Rattle.usb_packet.specs.{hex_text}
 use Rattle.usb_packet.proofs.SpellingLemmas.{IsBytes-cons, IsBytes-none}
 use Rattle.usb_request.specs.{Setup, bytes_of, setup_of}
+use Rattle.usb_request.proofs.Interface.{same_setup, length-bytes_of}
 use Rattle.usb_wire.specs.{IsSetupData, setup_in_bytes}
 
 record WordParts (c d : ℕ) : Type 0 where
@@ -40,24 +41,12 @@ setup_in_bytes-some xs s small e =
     let found = cond_some (length xs == 8) (setup_of xs) s e in
     subst (HasFields xs) found.1 (eight_bytes xs (eqb-true (length xs) 8 found.0) small)
 
-pub setup_of-bytes_of : (s : Setup) → setup_of (bytes_of s) ≡ s
-unfolding bytes_of setup_of
-setup_of-bytes_of s =
-    let value : s.value % 256 + 256 * (s.value / 256) ≡ s.value = omega arith in
-    let index : s.index % 256 + 256 * (s.index / 256) ≡ s.index = omega arith in
-    let count : s.length % 256 + 256 * (s.length / 256) ≡ s.length = omega arith in
-    rw (value, index, count) refl
-
-pub length-bytes_of : (s : Setup) → length (bytes_of s) ≡ 8
-unfolding bytes_of
-length-bytes_of s = refl
-
 pub length-setup_text : (s : Setup) → length (hex_text (bytes_of s)) ≡ 16
 unfolding bytes_of encode_with
 length-setup_text s = refl
 
 pub setup_in_bytes-bytes_of : (s : Setup) → setup_in_bytes (bytes_of s) ≡ Some s
-setup_in_bytes-bytes_of s = rw (length-bytes_of s) (ap Some (setup_of-bytes_of s))
+setup_in_bytes-bytes_of s = rw (length-bytes_of s) (ap Some (same_setup s))
 
 pub IsBytes-bytes_of : (s : Setup) → IsSetupData s → IsBytes (bytes_of s)
 unfolding bytes_of

@@ -60,19 +60,19 @@ answer_in_digits setup digits (Look path) = codes "look " ++ path_text path
 answer_in_digits setup digits News = codes "news"
 
 -- the answer has the host make a call at a path; of a private function
-abbrev pub is_call : Answer → Bool
-is_call (Send path bytes) = true
-is_call (Receive path packets) = true
-is_call (Clear path) = true
-is_call (SendTo path endpoint bytes) = true
-is_call (ReceiveFrom path endpoint packets) = true
-is_call (Poll path endpoint) = true
-is_call (ClearOf path endpoint) = true
-is_call (Interface path interface setting) = true
-is_call (ControlIn path request) = true
-is_call (ControlOut path write) = true
-is_call (Look path) = true
-is_call _ = false
+abbrev pub asks_call : Answer → Bool
+asks_call (Send path bytes) = true
+asks_call (Receive path packets) = true
+asks_call (Clear path) = true
+asks_call (SendTo path endpoint bytes) = true
+asks_call (ReceiveFrom path endpoint packets) = true
+asks_call (Poll path endpoint) = true
+asks_call (ClearOf path endpoint) = true
+asks_call (Interface path interface setting) = true
+asks_call (ControlIn path request) = true
+asks_call (ControlOut path write) = true
+asks_call (Look path) = true
+asks_call _ = false
 
 -- the line of what is said, with those digits
 abbrev pub said_in_digits : List ℕ → List ℕ → Said → List ℕ

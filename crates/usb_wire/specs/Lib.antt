@@ -13,7 +13,7 @@ pub use Questions.{IsEndpoint, IsMost, IsQuestion, IsQuestionLine, IsRow, betwee
 pub use Questions.{data_with, direction_text, ins_text, is_outs, kind_asked, outs_text}
 pub use Questions.{question_bytes, question_in_digits, question_line, speed_text, token_text}
 pub use Answers.{AreAtMost, HasRoom, IsData, IsSaidLine, IsSetupData, MayAnswer, MayPush, MaySay}
-pub use Answers.{answer_bytes, answer_in_digits, answer_setup, is_call, row_limit, said_bytes}
+pub use Answers.{answer_bytes, answer_in_digits, answer_setup, asks_call, row_limit, said_bytes}
 pub use Answers.{said_in_digits, said_line, said_setup, send_limit, send_room, send_to_limit}
 pub use Answers.{write_limit, write_text}
 pub use Words.{AreWords, all_printable, is_printable, words}

@@ -1,10 +1,10 @@
 //! What the controller side says, and its lines.
-ghost use Rattle.std.specs.Prelude.{◌≡◌, ◌∷◌, ◌++◌, ◌+◌, ◌*◌, ◌<◌, ◌≤◌, [], codes, decimal, length};
+ghost use Rattle.std.specs.Prelude.{◌≡◌, ◌∷◌, ◌++◌, ◌+◌, ◌*◌, ◌<◌, ◌≤◌, [], codes, decimal, length, true};
 ghost use Rattle.hex.specs.Hex.{encode_upper};
 ghost use Rattle.usb_packet.specs.Text.{hex_text};
 ghost use Rattle.usb_port.specs.Path.{path_text};
 ghost use Rattle.usb_request.specs.Layout.{bytes_of};
-ghost use Rattle.usb_wire.specs.Answers.{is_call, said_line, write_text};
+ghost use Rattle.usb_wire.specs.Answers.{asks_call, said_line, write_text};
 ghost use Rattle.usb_wire.specs.Fields.{address_text};
 
 use crate::question::{DataPacket, push_data};
@@ -191,7 +191,7 @@ fn push_answer(line: &mut ArrayString<1026>, answer: &Answer)
 /// A call that the host is to make at a path.
 fn push_call(line: &mut ArrayString<1026>, answer: &Answer)
     requires empty { line.old.bytes ≡ [] }
-    requires call { is_call answer.now ≡ true }
+    requires call { asks_call answer.now ≡ true }
     ensures { line.new.bytes ≡ said_line (Said.Answered answer.now) }
 {
     match answer {

@@ -60,8 +60,10 @@ pub use Rattle.usb_world.proofs.holders.OneDevice.{token_calls}
 pub use Rattle.usb_world.proofs.holders.OneHolder.{is_state, remembers, third}
 pub use Rattle.usb_world.proofs.ports.PortRequests.{Allows, AllowsOut, PayloadAllows}
 pub use Rattle.usb_world.proofs.ports.PortRequests.{payload_allowed, sent_allowed}
-pub use Rattle.usb_world.proofs.events.PluggedDevices.{devices_left, events_went, plugged_by-next}
-pub use Rattle.usb_world.proofs.events.PluggedDevices.{undisturbed_keeps, found_same, self_found}
+pub use Rattle.usb_world.proofs.events.PluggedDevices.{devices_left, events_went, found_same}
+pub use Rattle.usb_world.proofs.events.PluggedDevices.{insert_here, insert_other, new_bare}
+pub use Rattle.usb_world.proofs.events.PluggedDevices.{plugged_by-next, self_found}
+pub use Rattle.usb_world.proofs.events.PluggedDevices.{undisturbed_keeps}
 pub use Rattle.usb_world.proofs.ports.PortCalls.{call_reach, call_state}
 pub use Rattle.usb_world.proofs.ways.Ways.{same_number-is, same_is, at_or_below_way, reach_on_way}
 pub use Rattle.usb_world.proofs.ways.Ways.{way_apart, way_itself, way_parent, way_rest}

@@ -1,5 +1,5 @@
 -- A row of ports that begins with a place.
-use Rattle.std.proofs.Common.{◌≡◌, ℕ, zero, suc, ◌+◌, ◌-◌, List, [], ◌∷◌, ◌++◌, Option, None, Some}
+use Rattle.std.proofs.Common.{◌≡◌, ℕ, zero, suc, ◌-◌, List, [], ◌∷◌, ◌++◌, Option, None, Some}
 use Rattle.std.proofs.Common.{slice_get, refl, ap, ◌∙◌, arith}
 use Rattle.usb_port.specs.{PortState, off, powered_off}
 use Rattle.usb_device.specs.{Ports, ended, vacant, taken, Plugged, empty, full, before, new_ports}

@@ -1,5 +1,5 @@
 -- The place of a number, in a row of ports.
-use Rattle.std.proofs.Common.{◌≡◌, ℕ, zero, suc, ◌-◌, ◌&&◌, if◌then◌else◌, Bool, true}
+use Rattle.std.proofs.Common.{◌≡◌, ℕ, zero, suc, ◌&&◌, if◌then◌else◌, Bool, true}
 use Rattle.std.proofs.Common.{false, List, ◌∷◌, Option, None}
 use Rattle.std.proofs.Common.{refl}
 use Rattle.usb_device.specs.{Ports, Plugged, empty, full, before}

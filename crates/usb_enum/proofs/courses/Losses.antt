@@ -16,9 +16,9 @@ use Rattle.usb_enum.specs.{FewLosses, NoNewStretch}
 use Rattle.std.specs.Global.{Vec}
 use Rattle.usb_request.specs.{Setup, bytes_of, clear_port_feature, get_device_descriptor}
 use Rattle.usb_request.specs.{get_port_status, set_port_feature}
+use Rattle.usb_request.proofs.Interface.{same_setup}
 use Rattle.usb_tree.proofs.Interface.{not-true}
 use Rattle.usb_transaction.specs.{Target, begins_no_stretch, in_attempt, out_attempt, setup_attempt}
-use Rattle.usb_address.proofs.Interface.{same_setup}
 use Rattle.usb_pipe.specs.{PipeFault, IsOfTransfer, IsBehind}
 use Rattle.usb_pipe.proofs.Interface.{read_attempts, write_attempts}
 use Rattle.usb_hub.specs.{HubPort, Root, External, PortRead, PortSet, PortCleared, Queried}

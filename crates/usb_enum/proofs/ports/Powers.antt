@@ -6,6 +6,7 @@ use Rattle.std.proofs.Common.{ap, sym, subst, ◌∙◌, arith}
 use Rattle.std.specs.Global.{Vec}
 use Rattle.usb_request.specs.{PORT_POWER, SET_ADDRESS, DEVICE_OUT, set_port_feature}
 use Rattle.usb_request.specs.{set_configuration, get_hub_descriptor, get_status, Setup}
+use Rattle.usb_request.proofs.Interface.{same_setup}
 use Rattle.usb_port.specs.{PortState, SetPower}
 use Rattle.usb_device.specs.{Registers, Is, port_named, State, Hub, Ports, ended, vacant, taken}
 use Rattle.usb_device.specs.{port_of, all_off, place_at, Location, path_to, state_on, port_there}
@@ -21,7 +22,7 @@ use Rattle.usb_pipe.specs.{PipeFault}
 use Rattle.usb_pipe.proofs.Interface.{who_writes}
 use Rattle.usb_address.specs.{AddressMap, MapHolds, WhileBusWorks, KeepsAddresses}
 use Rattle.usb_address.proofs.Interface.{KeepsClaim, NoPower, claimed_path, quiet_follows}
-use Rattle.usb_address.proofs.Interface.{read_keeps, same_setup, stays_unpowered}
+use Rattle.usb_address.proofs.Interface.{read_keeps, stays_unpowered}
 use Rattle.usb_hub.specs.{PortCallDone, TouchesNoPort, Queried, Commanded, ConfigurationAsked}
 use Rattle.usb_hub.specs.{WentOff}
 use Rattle.usb_hub.proofs.Interface.{AsksFor, hub_done, hub_named, hub_rests, place_below}

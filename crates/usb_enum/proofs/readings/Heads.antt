@@ -6,6 +6,7 @@ use Rattle.std.proofs.Common.{None, MatchResult}
 use Rattle.std.proofs.lemmas.List.{take-take}
 use Rattle.std.specs.Global.{Vec}
 use Rattle.usb_request.specs.{get_device_descriptor}
+use Rattle.usb_request.proofs.Interface.{same_setup}
 use Rattle.usb_descriptor.specs.{device_head_of, is_max_packet, DescriptorFault, device_spelled}
 use Rattle.usb_world.specs.{World, EachWas, BusFault}
 use Rattle.usb_world.proofs.Interface.{each_wider}
@@ -27,7 +28,6 @@ use Rattle.std.specs.Result.{result_eq}
 use Rattle.usb_tree.specs.{address_of}
 use Rattle.usb_tree.proofs.Interface.{decided}
 use Rattle.usb_address.specs.{AddressMap, MapHolds}
-use Rattle.usb_address.proofs.Interface.{same_setup}
 use Rattle.usb_pipe.proofs.Interface.{who_read_had}
 use Rattle.usb_pipe.specs.declared.fault.PipeFault.TheVariants as pipe
 use Rattle.usb_enum.specs.declared.cause.Request.TheVariants as request

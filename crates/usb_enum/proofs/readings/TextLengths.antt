@@ -9,6 +9,7 @@ use Rattle.std.proofs.lemmas.Option.{get_or_from_slice_get, same_Some, slice_get
 use Rattle.std.specs.Global.{Vec}
 use Rattle.std.specs.List.{sum_by, filter}
 use Rattle.usb_request.specs.{Setup, IsToHost, get_configuration_descriptor}
+use Rattle.usb_request.proofs.Interface.{same_setup}
 use Rattle.usb_device.specs.{State, said_length, said_lengths, Spec, IsSpec, Location, path_to}
 use Rattle.usb_device.specs.{reach_on, state_on, state_there}
 use Rattle.usb_world.specs.{after_taking, Was, EachWas, World, Action, Plug, Unplug, Event}
@@ -20,7 +21,6 @@ use Rattle.usb_transaction.specs.{Target, Answerer, HadOne, is_at}
 use Rattle.usb_pipe.specs.{control_bound}
 use Rattle.usb_pipe.proofs.Interface.{who_reads, bound_wide}
 use Rattle.usb_address.specs.{AddressMap, MapHolds, Enumerating, WhileBusWorks, KeepsAddresses}
-use Rattle.usb_address.proofs.Interface.{same_setup}
 use Rattle.usb_hub.specs.{HubPort, KeepsDevices, config_given, TextAsked, ConfigAsked, Queried}
 use Rattle.usb_enum.specs.{Addressed, Stop, IsSpare, read_bound, text_bound, texts_bound}
 use Rattle.usb_enum.specs.{pass_bound, configured_by, Learned, DeviceFact, AtPath, HasTaken}

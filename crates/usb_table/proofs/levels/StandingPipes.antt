@@ -154,7 +154,7 @@ at_first is_in pipes = pipe_if is_in (first_number is_in pipes) pipes
 number_picks : (is_in : Bool) → Picks (at_first is_in)
 number_picks is_in = grind (arith, at_picks, first_with)
 
-only_some : (test : PipeState → Bool) (o : Option PipeState) (pipe : PipeState)
+pub only_some : (test : PipeState → Bool) (o : Option PipeState) (pipe : PipeState)
     → only_if test o ≡ Some pipe → (o ≡ Some pipe) × (test pipe ≡ true)
 only_some test o pipe h = grind arith
 

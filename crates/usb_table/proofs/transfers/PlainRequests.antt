@@ -4,6 +4,7 @@ use Rattle.std.proofs.Common.{◌≡◌, refl, arith, true, false, ℕ, ◌==◌
 use Rattle.std.proofs.Common.{Result, Ok, Err, is_ok, Bool, subst, is_some, OnOk, ◌≢◌, length, ◌+◌}
 use Rattle.std.proofs.Common.{sym}
 use Rattle.usb_request.specs.{Setup, IsToHost, IsToDevice, is_reserved}
+use Rattle.usb_request.proofs.Interface.{same_setup}
 use Rattle.usb_device.specs.{Location, State, accepted, begun, BulkIn, BulkOut, Changes, ending}
 use Rattle.usb_device.specs.{first_stage, OnlyControl, OnlyStage, Outcome, outcome, Stage}
 use Rattle.usb_device.specs.{answers_taken, takes, tells_halt, halted, halts, in_end, no_in, no_out}
@@ -42,7 +43,7 @@ use Rattle.usb_device.specs.Request.{answers}
 use Rattle.usb_device.proofs.Interface.{at_each}
 use Rattle.usb_transaction.proofs.Interface.{spared_all}
 use Rattle.usb_pipe.proofs.Interface.{first_stage-address, given_registers, host_harmless}
-use Rattle.usb_address.proofs.Interface.{put_keeps, read_keeps, reads_other, same_setup}
+use Rattle.usb_address.proofs.Interface.{put_keeps, read_keeps, reads_other}
 use Rattle.usb_address.proofs.Interface.{write_keeps}
 use Rattle.usb_hub.proofs.Interface.{put_backlog, put_rests, reads_backlog, reads_rests}
 use Rattle.usb_hub.proofs.Interface.{write_backlog, write_rests, write_so}

@@ -87,7 +87,7 @@ unfolding ports_in
 attempt_row a d k = grind (arith, row_of-after, row_of-forgotten)
 
 -- nothing stands at a new port
-new_bare : (n j : ℕ) (p : List ℕ) → state_at (new_ports n) j p ≡ None
+pub new_bare : (n j : ℕ) (p : List ℕ) → state_at (new_ports n) j p ≡ None
 unfolding new_ports state_at
 new_bare (suc n) (suc j) p = new_bare n j p
 new_bare n j p = refl
@@ -161,12 +161,13 @@ path_cmp-other q e n = ⊎_elim (λ y. false_true (sym n ∙ ap (same_path e) (f
 
 -- What is plugged at a path
 
-insert_here : (tree : PluggedMap) (e : List ℕ) (d : ℕ) → index_at (insert_entry path_cmp tree e d) e
-    ≡ Some d
+pub insert_here : (tree : PluggedMap) (e : List ℕ) (d : ℕ)
+    → index_at (insert_entry path_cmp tree e d) e ≡ Some d
 insert_here [] e d = rw (self_found e) refl
 insert_here (x ∷ tree) e d = grind (arith, insert_here tree e d, self_found)
 
-insert_other : (tree : PluggedMap) (e : List ℕ) (d : ℕ) (q : List ℕ) → is_eq (path_cmp q e) ≡ false
+pub insert_other : (tree : PluggedMap) (e : List ℕ) (d : ℕ) (q : List ℕ)
+    → is_eq (path_cmp q e) ≡ false
     → index_at (insert_entry path_cmp tree e d) q ≡ index_at tree q
 insert_other [] e d q n = rw n refl
 insert_other (x ∷ tree) e d q n = split (path_cmp e x.0) refl (insert_other tree e d q n)

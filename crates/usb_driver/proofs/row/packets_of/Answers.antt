@@ -1,6 +1,7 @@
 use Rattle.std.proofs.Common.{◌<◌, ◌∙◌, ◌∷◌, ◌++◌, [], ap, length, subst, sym, List}
+use Rattle.usb_packet.proofs.Interface.{nonzero}
 use Rattle.usb_driver.specs.{Answer}
-use Rattle.usb_driver.proofs.RowLaws.{Cut, cut_more, cut_none, nonzero}
+use Rattle.usb_driver.proofs.RowLaws.{Cut, cut_more, cut_none}
 use Rattle.usb_driver.proofs.row.packets_of.Goals as goal
 
 pub packets-init : goal.packets-init

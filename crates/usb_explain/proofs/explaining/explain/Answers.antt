@@ -1,8 +1,9 @@
 use Rattle.std.proofs.Common.{◌≡◌, [], ◌++◌, take, arith, length-append}
 use Rattle.std.proofs.lemmas.List.{length-take}
 use Rattle.std.proofs.KnownBytes.{Consumes-nil, Consumes-trans}
+use Rattle.usb_pcap.proofs.Interface.{read_none}
 use Rattle.usb_watch.specs.{inner_of}
-use Rattle.usb_explain.proofs.Lines.{all_read, fault_of_front, not_read, nothing_read}
+use Rattle.usb_explain.proofs.Lines.{all_read, fault_of_front, not_read}
 use Rattle.usb_explain.proofs.Lines.{reaches_first, read_stopped, read_too_long}
 use Rattle.usb_explain.proofs.explaining.explain.Goals as goal
 
@@ -28,7 +29,7 @@ returns-in-Ok-eq0-clause-explains g c =
     let zero : c.in-Ok-eq0.field-0 ≡ 0 = omega arith in
     all_read _ (g.R.Read.remaining (inner_of c.args.reader.now))
     (g.R.Read.remaining (inner_of c.read.new.self)) _ _ done c.end.result
-    (nothing_read (g.R.Read.remaining (inner_of c.args.reader.now))
+    (read_none (g.R.Read.remaining (inner_of c.args.reader.now))
     (g.R.Read.remaining (inner_of c.reads.reader))
     (g.R.Read.remaining (inner_of c.read.new.self)) done _ _ read zero bytes.0)
     (bytes.1 zero (omega arith)) (c.end.ensures.explains _ _ _ done reached)

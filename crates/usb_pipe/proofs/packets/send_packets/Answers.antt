@@ -1,7 +1,8 @@
-use Rattle.std.proofs.Common.{rules, ◌≡◌, ◌∙◌, sym, Bool, nat_eq, ℕ, ◌<◌, length, arith, false}
+use Rattle.std.proofs.Common.{rules, ◌≡◌, ◌∙◌, sym, ℕ, ◌<◌, length, arith, false}
 use Rattle.std.proofs.Common.{true, ◌≢◌}
-use Rattle.std.proofs.lemmas.Bool.{eqb-true, eqb-false}
+use Rattle.std.proofs.lemmas.Bool.{eqb-true}
 use Rattle.std.proofs.lemmas.List.{nil_from_length}
+use Rattle.usb_packet.proofs.Interface.{nonzero}
 use Rattle.usb_pipe.proofs.MovedPackets.{one_packet_less, moving_none, going_more, all_sent}
 use Rattle.usb_pipe.proofs.MovedPackets.{lost_sent}
 use Rattle.usb_pipe.proofs.packets.send_packets.Goals as goal
@@ -12,9 +13,6 @@ packets-init g c = (
   λ known. moving_none c.args.target c.args.ep _ c.args.bytes.now _ _,
   search rules,
 )
-
-nonzero : (n : ℕ) (b : Bool) → b ≡ nat_eq n 0 → b ≡ false → 0 < n
-nonzero n b is e = let no : n ≢ 0 = eqb-false n 0 (sym is ∙ e) in omega arith
 
 pub packets-smaller : goal.packets-smaller
 packets-smaller g c =

@@ -1,7 +1,8 @@
-use Rattle.std.proofs.Common.{◌≡◌, ◌∙◌, ◌≢◌, refl, sym, rules, arith, ℕ, ◌<◌, ◌≤◌, length, Bool}
-use Rattle.std.proofs.Common.{false, nat_eq}
-use Rattle.std.proofs.lemmas.Bool.{eqb-true, eqb-false}
+use Rattle.std.proofs.Common.{◌≡◌, ◌∙◌, ◌≢◌, refl, sym, rules, arith, ℕ, ◌<◌, ◌≤◌, length}
+use Rattle.std.proofs.Common.{false}
+use Rattle.std.proofs.lemmas.Bool.{eqb-true}
 use Rattle.std.proofs.lemmas.List.{nil_from_length}
+use Rattle.usb_packet.proofs.Interface.{nonzero}
 use Rattle.usb_pipe.proofs.MovedPackets.{all_sent, moving_none}
 use Rattle.usb_pipe.proofs.MovedRows.{fewer_packets, going_row, lost_row, rows_less}
 use Rattle.usb_pipe.proofs.rows.send_rows.Goals as goal
@@ -12,9 +13,6 @@ rows-init g c = (
   λ known. moving_none c.args.target c.args.ep _ c.args.bytes.now _ _,
   refl,
 )
-
-nonzero : (n : ℕ) (b : Bool) → b ≡ nat_eq n 0 → b ≡ false → 0 < n
-nonzero n b is e = let no : n ≢ 0 = eqb-false n 0 (sym is ∙ e) in omega arith
 
 pub rows-preserved : goal.rows-preserved
 rows-preserved g c =

@@ -1,6 +1,7 @@
 use Rattle.std.proofs.Common.{◌≡◌, ◌∙◌, ◌+◌, ◌*◌, ap, ◌++◌, length, length-append, arith, true}
 use Rattle.std.proofs.lemmas.Result.{err_from_is_err_and}
-use Rattle.usb_transaction.proofs.MovedRows.{InsBegun, few_answered, flips_more, in_fits, in_is}
+use Rattle.usb_packet.proofs.Interface.{flips_next}
+use Rattle.usb_transaction.proofs.MovedRows.{InsBegun, few_answered, in_fits, in_is}
 use Rattle.usb_transaction.proofs.MovedRows.{ins_came, ins_cut, ins_lost, ins_whole, row_room}
 use Rattle.usb_transaction.proofs.rows.data_in_row.Given as given
 use Rattle.usb_transaction.proofs.rows.data_in_row.Goals as goal
@@ -107,6 +108,6 @@ returns-in_ok-last-in-Answered-clause-fits g c =
         c.attempt_ins-moved.ensures.fits.1
             ∙ ap (λ k. moved * k) c.destination.ensures.max,
       );
-      turned = flips_more moved c.args.toggle.now c.toggle_behind.result c.data_in_from.new.toggle
+      turned = flips_next moved c.args.toggle.now c.toggle_behind.result c.data_in_from.new.toggle
           c.toggle_behind.ensures c.in_ok-last-in-Answered.ensures.toggle;
     }

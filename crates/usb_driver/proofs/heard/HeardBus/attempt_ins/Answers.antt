@@ -1,7 +1,8 @@
 use Rattle.std.proofs.Common.{rules, ◌∙◌, ap, length, arith, Ok, Err, refl}
+use Rattle.usb_packet.proofs.Interface.{flips_next, flips_none, next_size}
 use Rattle.usb_driver.specs.HeardRows.{none_heard}
-use Rattle.usb_driver.proofs.RowLaws.{ends_answered, ends_faulted, flips_next, flips_none}
-use Rattle.usb_driver.proofs.RowLaws.{heard_more, next_size}
+use Rattle.usb_driver.proofs.RowLaws.{ends_answered, ends_faulted}
+use Rattle.usb_driver.proofs.RowLaws.{heard_more}
 use Rattle.usb_driver.proofs.heard.HeardBus.attempt_ins.Goals as goal
 
 pub packets-init : goal.packets-init

@@ -1,6 +1,7 @@
 use Rattle.std.proofs.Common.{rules, ◌≡◌, ◌∙◌, ◌-◌, ◌++◌, ap, sym, refl, length, arith}
+use Rattle.usb_packet.proofs.Interface.{flips_next, flips_none, next_size}
 use Rattle.usb_stream.specs.{bytes_in, ins_plan, kept_of}
-use Rattle.usb_stream.proofs.Rows.{flips_next, flips_none, full_moves, ins_as_planned, next_size}
+use Rattle.usb_stream.proofs.Rows.{full_moves, ins_as_planned}
 use Rattle.usb_stream.proofs.Rows.{none_so_far, not_full, one_so_far, row_answered, row_failed}
 use Rattle.usb_stream.proofs.Rows.{row_whole_at}
 use Rattle.usb_stream.proofs.bus.StreamBusBus.attempt_ins.Goals as goal

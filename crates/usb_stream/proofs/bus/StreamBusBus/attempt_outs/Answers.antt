@@ -1,9 +1,10 @@
 use Rattle.std.proofs.Common.{rules, ◌≡◌, ◌∙◌, ◌<◌, ◌*◌, ◌+◌, ◌++◌, ap, sym, refl, length, arith}
 use Rattle.std.proofs.Common.{min, []}
 use Rattle.std.specs.Int.{div_ceil}
+use Rattle.usb_packet.proofs.Interface.{flips_next, flips_none, nonzero}
 use Rattle.usb_stream.specs.{bytes_in, kept_of, outs_plan}
-use Rattle.usb_stream.proofs.Rows.{all_moved, few_moved, flips_next, flips_none, left_size}
-use Rattle.usb_stream.proofs.Rows.{none_so_far, nonzero, one_so_far, outs_as_planned, rest_first}
+use Rattle.usb_stream.proofs.Rows.{all_moved, few_moved, left_size}
+use Rattle.usb_stream.proofs.Rows.{none_so_far, one_so_far, outs_as_planned, rest_first}
 use Rattle.usb_stream.proofs.Rows.{rest_more, row_answered}
 use Rattle.usb_stream.proofs.Rows.{row_failed, row_whole, some_left, zero_of}
 use Rattle.usb_stream.proofs.bus.StreamBusBus.attempt_outs.Goals as goal
