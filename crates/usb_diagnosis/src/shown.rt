@@ -5,7 +5,7 @@ ghost use Rattle.std.specs.Str.{chars};
 ghost use Rattle.usb_diagnosis.specs.Shown.{char_shown, dots, text_shown};
 
 use std::alloc::{AllocError, Global};
-use usb_sim::ends_line;
+use usb_watch::ends_line;
 
 /// How many characters of a text are shown.
 const MOST_SHOWN: usize = 60;

@@ -4,7 +4,7 @@ use crate::marks::{Anchor, Layout};
 use crate::place::Spot;
 use crate::shown::{letters_of, push_number};
 use std::alloc::{AllocError, Global};
-use usb_sim::ends_line;
+use usb_watch::ends_line;
 
 /// How many characters of a line are shown at most.
 const MOST_COLUMNS: usize = 100;

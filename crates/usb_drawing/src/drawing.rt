@@ -7,8 +7,8 @@ use crate::art::Style;
 use crate::listing::drawing_lines;
 use std::alloc::{AllocError, Global};
 use std::io::{Read, Write};
+use usb_scene::Plan;
 use usb_serve::{Item, ItemLines, ServeFault, item_lines, plan_of, write_items};
-use usb_sim::Plan;
 use usb_text::Lines;
 use usb_watch::Watched;
 

@@ -12,7 +12,7 @@ use std::alloc::{AllocError, Global};
 use usb_enum::{Finding, HubFacts};
 use usb_port::PortPath;
 use usb_resources::supply;
-use usb_sim::Plan;
+use usb_scene::Plan;
 use usb_text::{Lines, push_decimal, push_path};
 
 /// The lines of a drawn listing: its number, then a line for each entry, which says by its art what the entry is

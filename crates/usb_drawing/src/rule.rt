@@ -8,8 +8,7 @@ use std::alloc::{AllocError, Global};
 use usb_enum::{Cause, Finding, Request};
 use usb_port::PortPath;
 use usb_remarks::{Remark, push_remark, remark_of};
-use usb_scene::DeviceSpec;
-use usb_sim::Plan;
+use usb_scene::{DeviceSpec, Plan};
 use usb_world::{Action, Change, Event};
 
 /// Adds the rule that the bytes of the device at a path break, if it is refused for them. The listing was made

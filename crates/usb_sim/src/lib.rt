@@ -19,7 +19,6 @@ mod trace;
 mod tracer;
 
 pub use laws::{plug_is_one_line, trace_fault, untraced_fault};
-pub use shown::ends_line;
 pub use sim::{FollowFault, SimBus};
 pub use trace::{Line, push_attempt};
 pub use tracer::{Trace, Tracer, Untraced};

@@ -2,12 +2,13 @@
 ghost use Rattle.std.specs.Prelude.{◌≡◌, ◌++◌, ◌<◌, ◌^◌, flat_map, IsTrue, IfOk, OnOk};
 ghost use Rattle.std.specs.Str.{chars};
 ghost use Rattle.usb_bus.specs.Lines.{shown_names};
-ghost use Rattle.usb_watch.specs.Shown.{ends_line, is_escaped, escaped, shown_char, shown_name};
+ghost use Rattle.usb_watch.specs.Shown.{is_escaped, escaped, shown_char, shown_name};
 
 use std::alloc::{AllocError, Global};
 use std::marker::Model;
 use usb_packet::hex_digits;
 use usb_scene::DeviceSpec;
+use usb_watch::ends_line;
 
 /// A device's name as it is in a line of the trace.
 #[derive(Debug, Drop)]
@@ -90,14 +91,6 @@ fn is_marked(letter: char) -> bool
     ensures range { IsTrue result → letter < 2 ^ 16 }
 {
     ends_line(letter) || letter == '\\'
-}
-
-/// Whether a character may end a line: a control character, or the separator of lines or of paragraphs.
-pub fn ends_line(letter: char) -> bool
-    ensures value { result ≡ ends_line letter }
-    ensures range { IsTrue result → letter < 2 ^ 16 }
-{
-    letter.is_control() || letter == '\u{2028}' || letter == '\u{2029}'
 }
 
 /// Adds a number as `\u` and four digits.

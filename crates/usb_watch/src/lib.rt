@@ -15,7 +15,9 @@
 #![tactic(auto)]
 
 mod line;
+mod shown;
 mod watched;
 
 pub use line::{Line, LineFault, put_lines, read_line, skip_line};
+pub use shown::ends_line;
 pub use watched::{Watched, WriteFailed, put_piece, put_pieces};
