@@ -1,6 +1,5 @@
 //! Readers and writers that fail at each place in turn, then values that no command prints.
 mod buffered;
-mod conduct;
 mod drawing;
 mod ends;
 mod entry;

@@ -1,10 +1,12 @@
 //! Lines with numbers and paths that no run reaches, and readings of texts that no line has.
 use super::frail::{Frail, Trouble};
+use arrayvec::ArrayVec;
 use std::test::Fail;
-use usb_bus::Watched;
-use usb_conduct::{Remark, data_line, empty_line, remark_line};
+use usb_bus::{Attempt, Destination, Outcome, Watched};
+use usb_conduct::{Outs, Remark, data_line, empty_line, remark_line};
 use usb_judge::{Cause, Judgement};
 use usb_listing::{ListingFault, read_bytes};
+use usb_packet::{Speed, Toggle};
 use usb_pcap::{PcapFault, capture};
 use usb_port::PortPath;
 use usb_verdict::{ReportedListing, Tally, fault_line, judgement_line};
@@ -75,6 +77,35 @@ fn what_no_line_of_a_listing_has(rt: HostRuntime) -> Result<(), Fail> {
     let taken = listing.take(rt.alloc(), "end");
     assert!(rt; matches!(taken, Err(ListingFault::NoLine)) && listing.ports().is_empty());
     assert!(rt; matches!(read_bytes(rt.alloc(), ""), Err(ListingFault::BadHex)));
+    Ok(())
+}
+
+/// A packet whose ACK was lost is sent again. A NAK does not tell that it was not taken, so what comes after is not
+/// judged.
+#[test]
+fn a_nak_leaves_a_packet_without_an_answer(rt: HostRuntime) -> Result<(), Fail> {
+    let mut bytes = ArrayVec::new();
+    let _ = bytes.try_extend_from_slice(&[7; 4]);
+    let attempt = Attempt::Out {
+        to: Destination {
+            address: 3,
+            number: 2,
+            speed: Speed::Full,
+            max: 64,
+        },
+        toggle: Toggle::Zero,
+        bytes,
+    };
+    let mut outs = Outs::new(rt.alloc());
+    for (outcome, taken) in [
+        (Outcome::Nothing, 12),
+        (Outcome::Nothing, 12),
+        (Outcome::Nak, 8),
+        (Outcome::Ack, 8),
+    ] {
+        assert_eq!(rt; outs.before(&attempt), None);
+        assert_eq!(rt; outs.after(&attempt, &outcome, 8, taken)?, None);
+    }
     Ok(())
 }
 
