@@ -1,4 +1,5 @@
 //! A host against the controller side that plays a plan, where each side sees of the other what that one has flushed.
+use super::frail::Late;
 use super::plans::{PLUG_THERMOMETER, THERMOMETER};
 use std::alloc::{AllocError, Global};
 use std::cell::RefCell;
@@ -37,35 +38,6 @@ const TOLD: &str = "listing 1\n\
                     1 config 0 0902120001010080320904000000FF000000 *\n\
                     end\n";
 
-/// A writer that keeps what it takes until it is flushed.
-#[derive(Drop)]
-struct Buffered {
-    waiting: Vec<u8>,
-    flushed: Vec<u8>,
-}
-
-impl Buffered {
-    fn new(alloc: Global) -> Buffered {
-        Buffered {
-            waiting: Vec::new(alloc),
-            flushed: Vec::new(alloc),
-        }
-    }
-}
-
-impl Write for Buffered {
-    fn write(&mut self, buf: &[u8]) -> io::Result<usize> {
-        self.waiting.extend_from_slice(buf)?;
-        Ok(buf.len())
-    }
-
-    fn flush(&mut self) -> io::Result<()> {
-        self.flushed.extend_from_slice(self.waiting.as_slice())?;
-        self.waiting.clear();
-        Ok(())
-    }
-}
-
 /// A controller side, and the lines between it and a host.
 #[derive(Drop)]
 struct Link {
@@ -85,7 +57,11 @@ impl Link {
     fn take(&mut self) -> io::Result<()> {
         let lines = mem::replace(&mut self.waiting, Vec::new(self.alloc));
         let mut reader = Watched::new(lines.as_slice());
-        let mut writer = Watched::new(Buffered::new(self.alloc));
+        let mut writer = Watched::new(Late {
+            kept: Vec::new(self.alloc),
+            flushed: Vec::new(self.alloc),
+            flushes_left: u64::MAX,
+        });
         if serve(&mut self.far, &mut reader, &mut writer).is_err() {
             return Err(Error::from(ErrorKind::Other));
         }

@@ -62,3 +62,8 @@ pub(super) fn ended<R: Read + Drop>(bus: StreamBus<R, Frail>, given: String) -> 
         fault,
     }
 }
+
+/// How many newlines a text has.
+pub(super) fn newlines(text: &[u8]) -> usize {
+    text.iter().filter(|byte| **byte == b'\n').count()
+}

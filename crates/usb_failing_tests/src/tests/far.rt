@@ -1,7 +1,7 @@
 //! A controller side that plays a plan, where its reader or its writer fails, and as a loop over its pieces.
 ghost use Rattle.usb_wire.specs.Questions.{IsQuestion};
 
-use super::ends::frail;
+use super::ends::{frail, newlines};
 use super::frail::Cut;
 use super::plans::{BULK, PLUG_BULK};
 use std::alloc::{AllocError, Global};
@@ -224,7 +224,7 @@ fn cut(rt: HostRuntime) -> Result<(), Fail> {
         let whole = play(rt.alloc(), row.plan, host, u64::MAX)?;
         for count in first..host.len() {
             let front = &host[..count];
-            let line = newlines(front).saturating_add(1);
+            let line = (newlines(front) as u64).saturating_add(1);
             let in_line = front.last().is_some_and(|byte| *byte != b'\n');
             let gone = if in_line {
                 Err((line, FarFault::HostGone))
@@ -267,10 +267,6 @@ fn writes(rt: HostRuntime) -> Result<(), Fail> {
         }
     }
     Ok(())
-}
-
-fn newlines(text: &[u8]) -> u64 {
-    text.iter().filter(|byte| **byte == b'\n').count() as u64
 }
 
 fn text_of(bytes: &[u8]) -> &str {

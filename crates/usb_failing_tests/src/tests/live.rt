@@ -1,5 +1,5 @@
 //! A host before a controller side, where its reader or its writer fails: what it says is a prefix of its course.
-use super::ends::frail;
+use super::ends::{frail, newlines};
 use super::frail::Cut;
 use std::alloc::Global;
 use std::io::Read;
@@ -53,10 +53,6 @@ fn play<R: Read + Drop>(alloc: Global, reader: R, writes: u64) -> Played {
         host: writer.into_inner().taken,
         ended,
     }
-}
-
-fn newlines(text: &[u8]) -> usize {
-    text.iter().filter(|byte| **byte == b'\n').count()
 }
 
 /// The input fails, or ends, after each number of bytes: nothing is reported unless the end takes the place of `end`.

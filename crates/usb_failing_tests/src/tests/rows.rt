@@ -1,14 +1,12 @@
 //! A test is a loop over rows: what a controller side of version 1 or 2 says, and what rows of attempts ask and give.
-ghost use Rattle.std.specs.Prelude.{◌≡◌, ◌≤◌};
-ghost use Rattle.usb_packet.specs.declared.Speed.TheVariants.{Full};
-
 use super::ends::{Played, answer_of, ended, opened};
 use super::frail::Cut;
+use super::stream::to;
 use arrayvec::ArrayVec;
 use std::alloc::{AllocError, Global};
 use std::io::{Read, Write};
 use std::test::Fail;
-use usb_bus::{Bus, BusFault, Destination, ROW_ROOM, RowDone, RowEnd};
+use usb_bus::{Bus, BusFault, ROW_ROOM, RowDone, RowEnd};
 use usb_packet::{Speed, Toggle};
 use usb_stream::{LiveFault, StreamBus};
 use usb_wire::{Said, WireFault, said_line};
@@ -262,18 +260,6 @@ const ROWS: &[Row] = &[
     },
 ];
 
-/// Endpoint 1 of the device at address 1.
-fn to(max: u8) -> Destination
-    ensures { result ≡ record { address = 1; number = 1; speed = Full; max = max } }
-{
-    Destination {
-        address: 1,
-        number: 1,
-        speed: Speed::Full,
-        max,
-    }
-}
-
 /// All rows over a reader, and a writer that fails after n writes.
 fn play<R: Read + Drop>(
     alloc: Global,
@@ -285,13 +271,14 @@ fn play<R: Read + Drop>(
     let mut given = String::new(alloc);
     let mut bus = opened(alloc, reader, writes, limit);
     for row in asked {
-        make(&mut bus, &mut given, *row)?;
+        make(alloc, &mut bus, &mut given, *row)?;
     }
     Ok(ended(bus, given))
 }
 
 /// Makes a row of attempts; what it gives is put after what the others gave.
 fn make<R: Read + Drop, W: Write + Drop>(
+    alloc: Global,
     bus: &mut StreamBus<R, W>,
     given: &mut String,
     asked: Asked,
@@ -302,49 +289,37 @@ fn make<R: Read + Drop, W: Write + Drop>(
             if max < 1 || max > 64 || most > 64 {
                 return Ok(());
             }
-            bus.attempt_ins(to(max), toggle, most, &mut got)
+            bus.attempt_ins(to(1, 1, Speed::Full, max), toggle, most, &mut got)
         }
         Asked::Outs(max, toggle, bytes) => {
             if max < 1 || max > 64 || bytes.len() > 64 * usize::from(max) {
                 return Ok(());
             }
-            bus.attempt_outs(to(max), toggle, bytes)
+            bus.attempt_outs(to(1, 1, Speed::Full, max), toggle, bytes)
         }
     };
-    push_done(given, done, got.as_slice())
+    push_done(alloc, given, done, got.as_slice())
 }
 
-fn push_done(given: &mut String, done: RowDone, got: &[u8]) -> Result<(), AllocError> {
-    push_count(given, done.moved)?;
-    given.push_str(" of ")?;
-    push_hex(given, got)?;
+/// How many packets a row moved, what it got, and how it ended.
+fn push_done(
+    alloc: Global,
+    given: &mut String,
+    done: RowDone,
+    got: &[u8],
+) -> Result<(), AllocError> {
+    let bytes = hex::encode_upper(alloc, got)?;
+    let bytes = if got.is_empty() { "-" } else { bytes.as_str() };
+    given.push_str(format!(in alloc; "{} of {bytes} ", done.moved)?.as_str())?;
     match done.end {
-        RowEnd::Whole => given.push_str(" whole; "),
+        RowEnd::Whole => given.push_str("whole; "),
         RowEnd::Answered(outcome) => {
-            given.push(' ')?;
             given.push_str(said_line(&Said::Answered(answer_of(outcome))).as_str())?;
             given.push_str("; ")
         }
-        RowEnd::Faulted(BusFault::Limit) => given.push_str(" limit; "),
-        RowEnd::Faulted(BusFault::Memory | BusFault::Failed) => given.push_str(" failed; "),
+        RowEnd::Faulted(BusFault::Limit) => given.push_str("limit; "),
+        RowEnd::Faulted(BusFault::Memory | BusFault::Failed) => given.push_str("failed; "),
     }
-}
-
-/// A number below 10.
-fn push_count(given: &mut String, count: u8) -> Result<(), AllocError> {
-    given.push(char::from(b'0' + count.min(9)))
-}
-
-fn push_hex(given: &mut String, bytes: &[u8]) -> Result<(), AllocError> {
-    if bytes.is_empty() {
-        return given.push('-');
-    }
-    for byte in bytes {
-        for digit in usb_packet::hex_digits(*byte) {
-            given.push(char::from(digit))?;
-        }
-    }
-    Ok(())
 }
 
 #[test]

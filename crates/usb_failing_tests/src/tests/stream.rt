@@ -1,9 +1,9 @@
-//! A test is a loop over rows: what a controller side says, and what the bus over it asks and gives.
+//! What a controller side says, and what the bus over it asks and gives, where a reader or a writer fails.
 ghost use Rattle.std.specs.Prelude.{◌≡◌};
 ghost use Rattle.usb_world.specs.PlainAttempts.{attempt_data};
 ghost use Rattle.usb_world.specs.Worlds.{IsAttempt};
 
-use super::ends::{Played, answer_of, ended, opened};
+use super::ends::{Played, answer_of, ended, newlines, opened};
 use super::frail::Cut;
 use arrayvec::ArrayVec;
 use std::alloc::{AllocError, Global};
@@ -13,7 +13,7 @@ use usb_bus::{Attempt, Bus, Destination, Outcome};
 use usb_packet::{Speed, Toggle};
 use usb_request::feature::{C_PORT_CONNECTION, PORT_RESET};
 use usb_stream::{LiveFault, StreamBus};
-use usb_wire::{Answer, Said, WireFault, said_line};
+use usb_wire::{Answer, Said, said_line};
 
 /// All that the bus of these tests says.
 const HOST: &str = "usbplan live 1\n\
@@ -41,101 +41,8 @@ const FAR: &str = "roots 2\n\
 const GIVEN: &str =
     "roots 2; ACK; DATA1 1122; none; NAK; port 1 03011000; port 2 00010000; send 1.2 FF; told; ";
 
-/// What a controller side says, how many questions may be asked, how many lines of the host go out, and why no more do.
-#[derive(Clone, Copy)]
-struct Row {
-    far: &'static str,
-    limit: u64,
-    lines: usize,
-    fault: Option<LiveFault>,
-}
-
-const FAULTS: &[Row] = &[
-    Row {
-        far: FAR,
-        limit: 9,
-        lines: 11,
-        fault: None,
-    },
-    Row {
-        far: FAR,
-        limit: 8,
-        lines: 8,
-        fault: Some(LiveFault::LimitReached),
-    },
-    Row {
-        far: FAR,
-        limit: 0,
-        lines: 0,
-        fault: Some(LiveFault::LimitReached),
-    },
-    Row {
-        far: "",
-        limit: 9,
-        lines: 1,
-        fault: Some(LiveFault::Gone),
-    },
-    Row {
-        far: "roots 2",
-        limit: 9,
-        lines: 1,
-        fault: Some(LiveFault::Gone),
-    },
-    Row {
-        far: "roots 8\n",
-        limit: 9,
-        lines: 1,
-        fault: Some(LiveFault::Line(WireFault::BadNumber)),
-    },
-    // statuses come behind the hello alone
-    Row {
-        far: "port 1 00000000\nroots 2\n",
-        limit: 9,
-        lines: 1,
-        fault: Some(LiveFault::Line(WireFault::NoAnswer)),
-    },
-    Row {
-        far: "roots 2\nport 3 00000000\nACK\n",
-        limit: 9,
-        lines: 2,
-        fault: Some(LiveFault::Line(WireFault::BadNumber)),
-    },
-    Row {
-        far: "roots 2\nok\n",
-        limit: 9,
-        lines: 2,
-        fault: Some(LiveFault::Line(WireFault::NoAnswer)),
-    },
-    Row {
-        far: "roots 2\nDATA1 1\n",
-        limit: 9,
-        lines: 2,
-        fault: Some(LiveFault::Line(WireFault::BadHex)),
-    },
-    Row {
-        far: "roots 2\nACK\r\n",
-        limit: 9,
-        lines: 2,
-        fault: Some(LiveFault::Line(WireFault::BadCharacter)),
-    },
-    // the end is what is wanted where the input ends in its place
-    Row {
-        far: "roots 2\nACK\nNAK\nSTALL\nnone\nok\nok\nok\n",
-        limit: 9,
-        lines: 11,
-        fault: None,
-    },
-    // the restart of an endpoint has one answer
-    Row {
-        far: "roots 2\nACK\nNAK\nSTALL\nnone\nok\nok\nACK\n",
-        limit: 9,
-        lines: 8,
-        fault: Some(LiveFault::Line(WireFault::NoAnswer)),
-    },
-];
-
 /// An endpoint of the device at an address.
-fn to(address: u8, number: u8, speed: Speed, max: u8) -> Destination
+pub(super) fn to(address: u8, number: u8, speed: Speed, max: u8) -> Destination
     ensures { result ≡ record { address = address; number = number; speed = speed; max = max } }
 {
     Destination {
@@ -209,14 +116,9 @@ fn push_said(given: &mut String, said: &Said) -> Result<(), AllocError> {
 }
 
 /// All that a bus is asked over a reader, whose writer fails after n writes.
-fn play<R: Read + Drop>(
-    alloc: Global,
-    reader: R,
-    writes: u64,
-    limit: u64,
-) -> Result<Played, AllocError> {
+fn play<R: Read + Drop>(alloc: Global, reader: R, writes: u64) -> Result<Played, AllocError> {
     let mut given = String::new(alloc);
-    let mut bus = opened(alloc, reader, writes, limit);
+    let mut bus = opened(alloc, reader, writes, 9);
     push_said(&mut given, &Said::Answered(Answer::Roots(bus.root_ports())))?;
     make(&mut bus, &mut given, &setup([0x80, 6, 0, 1, 0, 0, 8, 0]))?;
     make(&mut bus, &mut given, &take(true))?;
@@ -240,26 +142,17 @@ fn play<R: Read + Drop>(
     Ok(ended(bus, given))
 }
 
-fn newlines(text: &[u8]) -> usize {
-    text.iter().filter(|byte| **byte == b'\n').count()
-}
-
 /// How many of the first lines of `HOST` ask for attempts: its second to its fifth do.
 fn attempts_of(lines: usize) -> u128 {
     lines.clamp(1, 5) as u128 - 1
 }
 
 #[test]
-fn courses(rt: HostRuntime) -> Result<(), Fail> {
-    let whole = play(rt.alloc(), FAR.as_bytes(), u64::MAX, 9)?;
+fn course(rt: HostRuntime) -> Result<(), Fail> {
+    let whole = play(rt.alloc(), FAR.as_bytes(), u64::MAX)?;
     assert_eq!(rt; str::from_utf8(whole.host.as_slice()).ok(), Some(HOST));
     assert_eq!(rt; whole.given.as_str(), GIVEN);
-    for row in FAULTS {
-        let played = play(rt.alloc(), row.far.as_bytes(), u64::MAX, row.limit)?;
-        assert_eq!(rt; played.fault, row.fault, "{}", row.far);
-        assert_eq!(rt; newlines(played.host.as_slice()), row.lines, "{}", row.far);
-        assert_eq!(rt; played.attempts, attempts_of(row.lines), "{}", row.far);
-    }
+    assert_eq!(rt; (whole.fault, whole.attempts), (None, 4));
     Ok(())
 }
 
@@ -268,12 +161,14 @@ fn courses(rt: HostRuntime) -> Result<(), Fail> {
 fn cut(rt: HostRuntime) -> Result<(), Fail> {
     for count in 0..FAR.len() {
         let front = &FAR.as_bytes()[..count];
-        let ended = play(rt.alloc(), front, u64::MAX, 9)?;
-        let failed = play(rt.alloc(), Cut(front), u64::MAX, 9)?;
+        let ended = play(rt.alloc(), front, u64::MAX)?;
+        let failed = play(rt.alloc(), Cut(front), u64::MAX)?;
         // in place of what is wanted the end of the input is the end
         let is_end = front.ends_with(b"ok\nok\nok\n");
         let gone = if is_end { None } else { Some(LiveFault::Gone) };
         assert_eq!(rt; ended.fault, gone, "{count} bytes");
+        let lines = newlines(ended.host.as_slice());
+        assert_eq!(rt; ended.attempts, attempts_of(lines), "{count} bytes");
         assert_eq!(rt; failed.fault, Some(LiveFault::Read), "{count} bytes");
         assert!(rt;
             HOST.as_bytes().starts_with(failed.host.as_slice()),
@@ -291,7 +186,7 @@ fn cut(rt: HostRuntime) -> Result<(), Fail> {
 #[test]
 fn writes(rt: HostRuntime) -> Result<(), Fail> {
     for writes in 0..10usize {
-        let played = play(rt.alloc(), FAR.as_bytes(), writes as u64, 9)?;
+        let played = play(rt.alloc(), FAR.as_bytes(), writes as u64)?;
         assert_eq!(rt; played.fault, Some(LiveFault::Write), "{writes} writes");
         assert_eq!(rt; newlines(played.host.as_slice()), writes, "{writes} writes");
         assert_eq!(rt; played.attempts, attempts_of(writes + 1), "{writes} writes");
