@@ -1,0 +1,20 @@
+//! Readers and writers that fail at each place in turn, then values that no command prints.
+mod buffered;
+mod drawing;
+mod ends;
+mod entry;
+mod explain;
+mod far;
+mod frail;
+mod items;
+mod live;
+mod outputs;
+mod page;
+mod plans;
+mod readers;
+mod rows;
+mod served;
+mod status;
+mod stream;
+mod values;
+mod writers;

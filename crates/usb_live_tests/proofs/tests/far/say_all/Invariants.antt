@@ -1,6 +1,0 @@
-use Rattle.usb_wire.specs.{IsQuestion}
-use Rattle.usb_live_tests.proofs.tests.far.say_all.Given as goal
-
--- a question is left
-abbrev pub invariant-attempts : goal.invariant-attempts
-invariant-attempts l = IsQuestion l.asked
