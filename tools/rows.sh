@@ -75,9 +75,10 @@ read_line() {
     [[ -f "${rest:2}" && -r "${rest:2}" ]] || refuse_row "the file '${rest:2}' cannot be read"
     read_escaped "${rest:2}"
   elif [[ "$rest" =~ $form ]]; then
-    count=${BASH_REMATCH[1]:-1} rest=${BASH_REMATCH[2]}
+    count=${BASH_REMATCH[1]} rest=${BASH_REMATCH[2]}
     [[ "$rest" =~ $escapes ]] || refuse_row "an escape that is none of \\n, \\t, \\r, \\\\ and \\x with two digits"
-    repeat "$count" "$rest"
+    escaped=$rest
+    [ -z "$count" ] || repeat "$count" "$rest"
   else
     refuse_row "a sign that is not followed by a blank"
   fi
