@@ -63,22 +63,25 @@ repeat() {
   done
 }
 
+# The forms of a line after its sign: a text a number of times, and the escapes of a text.
+times_form='^\*([1-9][0-9]{0,5})? (.*)$' escapes_form='^([^\\]|\\[ntr\\]|\\x[0-9A-Fa-f]{2})*$'
+
 # Sets `escaped`: what a line adds to its stream.
 read_line() {
-  local rest=${1:1} count form='^\*([1-9][0-9]{0,5})? (.*)$' escapes='^([^\\]|\\[ntr\\]|\\x[0-9A-Fa-f]{2})*$'
-  if [ "${rest:-" "}" = " " ]; then
-    escaped='\n'
-  elif [[ "$rest" == " "* ]]; then
+  local rest=${1:1} count shown
+  if [[ "$rest" == " "* ]]; then
     rest=${rest:1}
     escaped=${rest//\\/\\\\}'\n'
+  elif [ -z "$rest" ]; then
+    escaped='\n'
   elif [[ "$1" == ['<@']"${1:0:1} "* ]]; then
-    [[ -f "${rest:2}" && -r "${rest:2}" ]] || refuse_row "the file '${rest:2}' cannot be read"
+    show_name "${rest:2}"
+    [[ -f "${rest:2}" && -r "${rest:2}" ]] || refuse_row "the file '$shown' cannot be read"
     read_escaped "${rest:2}"
-  elif [[ "$rest" =~ $form ]]; then
-    count=${BASH_REMATCH[1]} rest=${BASH_REMATCH[2]}
-    [[ "$rest" =~ $escapes ]] || refuse_row "an escape that is none of \\n, \\t, \\r, \\\\ and \\x with two digits"
-    escaped=$rest
-    [ -z "$count" ] || repeat "$count" "$rest"
+  elif [[ "$rest" =~ $times_form ]]; then
+    count=${BASH_REMATCH[1]} escaped=${BASH_REMATCH[2]}
+    [[ "$escaped" =~ $escapes_form ]] || refuse_row "an escape that is none of \\n, \\t, \\r, \\\\ and \\x with two digits"
+    [ -z "$count" ] || repeat "$count" "$escaped"
   else
     refuse_row "a sign that is not followed by a blank"
   fi
@@ -92,28 +95,19 @@ begin_row() {
   begun=$number input='' plan='' output='' errors='' status=''
 }
 
-# Adds a line to the row.
+# Sets the row's status.
+add_status() {
+  [ -n "$begun" ] || refuse_row "a line before the first command"
+  [ -z "$status" ] || refuse_row "a second status"
+  [[ "$1" =~ ^=\ (0|[1-9][0-9]{0,2})$ ]] || refuse_row "not a status"
+  status=${1:2}
+}
+
+# Adds a line to its stream of the row.
 add_line() {
   local escaped
-  case "$1" in
-    '' | '#'*) return ;;
-    '$'*)
-      end_row
-      begin_row "$1"
-      return
-      ;;
-  esac
   [ -n "$begun" ] || refuse_row "a line before the first command"
-  case "$1" in
-    '='*)
-      [ -z "$status" ] || refuse_row "a second status"
-      [[ "$1" =~ ^=\ (0|[1-9][0-9]{0,2})$ ]] || refuse_row "not a status"
-      status=${1:2}
-      return
-      ;;
-    ['<@>!']*) read_line "$1" ;;
-    *) refuse_row "a sign that is none of # \$ < @ > ! =" ;;
-  esac
+  read_line "$1"
   case "$1" in
     '<'*) input+=$escaped ;;
     '@'*) plan+=$escaped ;;
@@ -132,6 +126,10 @@ run_row() {
   [ "${named:+x}" = "${plan:+x}" ] || number=$begun refuse_row "either lines with @ or a word @, and not both"
   code=0
   printf %b "$input" >"$room/in"
+  if [ -z "$named" ]; then
+    "$program" "${words[@]:1}" <"$room/in" >"$room/out" 2>"$room/err" || code=$?
+    return
+  fi
   printf %b "$plan" >"$room/plan"
   "$program" "${words[@]:1}" <"$room/in" >"$room/out" 2>"$room/err" 3<"$room/plan" || code=$?
 }
@@ -234,7 +232,16 @@ test_rows() {
   fi
   mapfile -t lines <"$rows"
   for number in "${!lines[@]}"; do
-    add_line "${lines[number]}"
+    case "${lines[number]}" in
+      '' | '#'*) ;;
+      ['<@>!']*) add_line "${lines[number]}" ;;
+      '$'*)
+        end_row
+        begin_row "${lines[number]}"
+        ;;
+      '='*) add_status "${lines[number]}" ;;
+      *) refuse_row "a sign that is none of # \$ < @ > ! =" ;;
+    esac
   done
   number=${#lines[@]}
   end_row
