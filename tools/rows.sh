@@ -64,7 +64,7 @@ repeat() {
 }
 
 # The forms of a line after its sign: a text a number of times, and the escapes of a text.
-times_form='^\*([1-9][0-9]{0,5})? (.*)$' escapes_form='^([^\\]|\\[ntr\\]|\\x[0-9A-Fa-f]{2})*$'
+times_form='^\*([1-9][0-9]{0,6})? (.*)$' escapes_form='^([^\\]|\\[ntr\\]|\\x[0-9A-Fa-f]{2})*$'
 
 # Sets `escaped`: what a line adds to its stream.
 read_line() {
@@ -174,7 +174,7 @@ put_outcome() {
 
 # Shows how a row differs from what it says.
 show_row() {
-  local told
+  local told shown
   failed=$((failed + 1))
   printf %b "$output" >"$room/wanted_out"
   printf %b "$errors" >"$room/wanted_err"
@@ -182,7 +182,8 @@ show_row() {
   printf '%s' "${told[@]/%/$'\n'}" >"$room/wanted"
   put_outcome "$room/out" "$room/err" "$code"
   printf '%s' "${told[@]/%/$'\n'}" >"$room/got"
-  show_difference "$folder/$rows:$((begun + 1))" "${lines[begun]:2}" "$room/wanted" "$room/got"
+  show_name "$folder/$rows"
+  show_difference "$shown:$((begun + 1))" "${lines[begun]:2}" "$room/wanted" "$room/got"
 }
 
 # Writes a row anew: its lines of output, and its status, are those of the outcome. Comments stay.
