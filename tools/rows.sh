@@ -47,19 +47,29 @@ read_escaped() {
   escaped+=${part//\\/\\\\}
 }
 
-# Sets `escaped`: a text this many times, `{n}` in it the number.
+# Sets `escaped`: a text this many times.
 repeat() {
-  local count=$1 text=$2 i
+  local count=$1 text=$2
   escaped=
-  if [[ "$text" == *'{n}'* ]]; then
-    for ((i = 1; i <= count; i++)); do
-      escaped+=${text//'{n}'/$i}
-    done
+  while [ "$count" -gt 0 ]; do
+    [ $((count % 2)) = 0 ] || escaped+=$text
+    text+=$text count=$((count / 2))
+  done
+}
+
+# Sets `escaped`: a text this many times, with the number in place of `{n}`.
+repeat_numbered() {
+  local count=$1 text=$2 form numbers=() i
+  form=${text//\\/\\\\}
+  form=${form//%/%%}
+  if [[ "$text" != *'{n}'*'{n}'* ]]; then
+    mapfile -t numbers < <(seq "$count")
+    printf -v escaped "${form/'{n}'/%d}" "${numbers[@]}"
     return
   fi
-  for ((i = count; i > 0; i /= 2)); do
-    [ $((i % 2)) = 0 ] || escaped+=$text
-    text+=$text
+  escaped=
+  for ((i = 1; i <= count; i++)); do
+    escaped+=${text//'{n}'/$i}
   done
 }
 
@@ -81,7 +91,11 @@ read_line() {
   elif [[ "$rest" =~ $times_form ]]; then
     count=${BASH_REMATCH[1]} escaped=${BASH_REMATCH[2]}
     [[ "$escaped" =~ $escapes_form ]] || refuse_row "an escape that is none of \\n, \\t, \\r, \\\\ and \\x with two digits"
-    [ -z "$count" ] || repeat "$count" "$escaped"
+    case "$count:$escaped" in
+      :*) ;;
+      *'{n}'*) repeat_numbered "$count" "$escaped" ;;
+      *) repeat "$count" "$escaped" ;;
+    esac
   else
     refuse_row "a sign that is not followed by a blank"
   fi
