@@ -1,6 +1,7 @@
-//! Plays the rows of `data/` where a text in and a text out is not enough: each plan by a host over two pipes and by a
-//! driver of records, its run explained, listings that are judged, and plans with places. Prints a line for each row that
-//! is not as expected, and both numbers. `usbplan test` compares the texts of `tree` and `run`.
+//! Plays the rows of `data/` where that takes code: each plan by a host over two pipes and by a
+//! driver of records, its run explained, listings that are judged, and plans with places. Prints a
+//! line for each row that is not as expected, and both numbers. `usbplan test` compares the texts
+//! of `tree` and `run`.
 #![tactic(auto)]
 
 mod driven;
