@@ -21,15 +21,17 @@ use usb_places::Places;
 use usb_serve::plan_of;
 use usb_sim::Plan;
 
-/// A line for each row of a plan: its NAME. The plan is NAME.toml; NAME.run.txt and NAME.tree.txt are what is written
-/// of it; NAME.status has the exit status and, on a second line, the fault that is reported.
+/// A line for each row of a plan: its NAME. The plan is NAME.toml; NAME.run.txt and NAME.tree.txt
+/// are what is written of it; NAME.status has the exit status and, on a second line, the fault that
+/// is reported.
 const NAMES: &str = "names.txt";
 
-/// A line for each plan that has places instead of numbers: the NAME of the row whose course it is to have. It is NAME.when.toml.
+/// A line for each plan that has places instead of numbers: the NAME of the row whose course it is
+/// to have. It is NAME.when.toml.
 const PLACED: &str = "placed.txt";
 
-/// A line for each listing that is not of what is plugged: the NAME of its row, its lines, and what is judged of it, after a
-/// tab each.
+/// A line for each listing that is not of what is plugged: the NAME of its row, its lines, and what
+/// is judged of it, after a tab each.
 const MUTATED: &str = "mutated.tsv";
 
 /// The most events of a plan that is driven: each question is made on a copy of the host.
@@ -124,9 +126,9 @@ fn is_judged<R: Files + Print + AllocGlobal>(rt: &R, line: &str) -> io::Result<b
     Ok(as_wanted)
 }
 
-/// Whether a host against the controller side of a row's plan reports what is expected in mode Tree, but for the bound
-/// and for what refused devices said, and is judged right.
-/// Rows that do not end well are left out.
+/// Whether a host against the controller side of a row's plan reports what is expected in mode
+/// Tree, but for the bound and for what refused devices said, and is judged right. Rows that do not
+/// end well are left out.
 fn is_told_live<R: Files + Print + AllocGlobal>(rt: &R, name: &str) -> io::Result<bool> {
     let alloc = rt.alloc();
     let Some(plan) = plan_in(rt, name)? else {
@@ -215,7 +217,8 @@ fn is_said(line: &str) -> bool {
     line.split(' ').nth(1) == Some("said")
 }
 
-/// Whether a row's run, explained, has each of its lines, with words after each SETUP and after no other line.
+/// Whether a row's run, explained, has each of its lines, with words after each SETUP and after no
+/// other line.
 fn is_explained<R: Files + Print + AllocGlobal>(rt: &R, name: &str) -> io::Result<bool> {
     let alloc = rt.alloc();
     let text = fs::read_to_string(rt, format!(in alloc; "{name}.run.txt")?)?;

@@ -8,8 +8,8 @@ use usb_places::{Deed, Places, PlacesFault, Seen, Token, Try};
 use usb_port::{PortCall, PortPath};
 use usb_request::Setup;
 
-/// Lines of a plan behind a plug of the function, lines of what a host does, and what is known of the plan before them and
-/// behind each of them that is a place.
+/// Lines of a plan behind a plug of the function, lines of what a host does, and what is known of
+/// the plan before them and behind each of them that is a place.
 struct Row {
     plan: &'static str,
     host: &'static str,
@@ -172,8 +172,8 @@ fn attempt_of(line: &str, token: Token) -> Deed {
     Deed::Attempt(tried, PortPath::from_text(word(line, 3)))
 }
 
-/// The deed of a line: `S ADDRESS ENDPOINT PATH SETUP`, `O ADDRESS ENDPOINT`, `I ADDRESS ENDPOINT`, `R PORT`, `C PORT`, `P
-/// PORT` or `W`.
+/// The deed of a line: `S ADDRESS ENDPOINT PATH SETUP`, `O ADDRESS ENDPOINT`, `I ADDRESS ENDPOINT`,
+/// `R PORT`, `C PORT`, `P PORT` or `W`.
 fn deed_of(line: &str) -> Deed {
     let port = number(line, 1);
     match word(line, 0) {
@@ -201,7 +201,8 @@ fn push_known(alloc: Global, text: &mut String, places: &Places) -> Result<(), A
     text.push_str("\n")
 }
 
-/// How far a run is: the attempts that were made, those made when the last event came, and the events that came.
+/// How far a run is: the attempts that were made, those made when the last event came, and the
+/// events that came.
 #[derive(Clone, Copy)]
 struct Progress {
     attempts: u32,
@@ -241,7 +242,8 @@ impl Progress {
     }
 }
 
-/// Sees the deed of a line, adds what is known then if it is a place, and returns how far the run is behind it.
+/// Sees the deed of a line, adds what is known then if it is a place, and returns how far the run
+/// is behind it.
 fn see_line(
     alloc: Global,
     text: &mut String,
@@ -256,8 +258,8 @@ fn see_line(
     Ok(progress.behind(&seen.deed))
 }
 
-/// What is known of a plan before the lines, and behind each that is a place. `E` is an event that came, `F` one that
-/// came in the attempt before.
+/// What is known of a plan before the lines, and behind each that is a place. `E` is an event that
+/// came, `F` one that came in the attempt before.
 fn known_of(alloc: Global, text: &str, lines: &str) -> Result<String, PlacesFault> {
     let mut places = Places::read(alloc, text)?;
     let mut known = String::new(alloc);
