@@ -13,7 +13,7 @@ complete -c usbplan -n '__fish_use_subcommand' -f -a pcap -d 'Write the packets 
 complete -c usbplan -n '__fish_use_subcommand' -f -a device -d 'Write the tables of a plan for real devices'
 complete -c usbplan -n '__fish_use_subcommand' -f -a far -d 'Answer a host as the devices of a plan would'
 complete -c usbplan -n '__fish_use_subcommand' -f -a live -d 'Run the host against another program'
-complete -c usbplan -n '__fish_use_subcommand' -f -a test -d 'Compare what the plans of a folder write with texts'
+complete -c usbplan -n '__fish_use_subcommand' -f -a test -d 'Compare what the plans of folders write with texts, and run rows'
 complete -c usbplan -n '__fish_use_subcommand' -f -a help -d 'Print help'
 complete -c usbplan -n '__fish_seen_subcommand_from help' -f -a "$commands"
 complete -c usbplan -n '__fish_seen_subcommand_from draw' -l ascii -d 'Plain letters'
@@ -24,5 +24,5 @@ complete -c usbplan -n '__fish_seen_subcommand_from far' -x -l rounds -d 'Most a
 complete -c usbplan -n '__fish_seen_subcommand_from live' -x -l limit -d 'Most questions'
 complete -c usbplan -n '__fish_seen_subcommand_from live' -l wide-hubs -d 'Hubs of up to 15 ports'
 complete -c usbplan -n '__fish_seen_subcommand_from explain' -x -l only -a 'all setup damage' -d 'What of the run'
-complete -c usbplan -n '__fish_seen_subcommand_from test' -l accept -d 'Write the texts anew'
+complete -c usbplan -n '__fish_seen_subcommand_from test' -l accept -d 'Write texts and rows anew'
 complete -c usbplan -n '__fish_seen_subcommand_from test' -f -a '(__fish_complete_directories)'

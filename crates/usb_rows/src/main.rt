@@ -1,6 +1,7 @@
-//! Runs the rows of `data/`: plans, each in both modes, explained, by a host over two pipes, and by
-//! a driver of records, packets in digits, listings that are judged, and plans with places. Prints a line for each that is not as expected, and
-//! both numbers.
+//! Plays the rows of `data/` where that takes code: each plan by a host over two pipes and by a
+//! driver of records, its run explained, listings that are judged, and plans with places. Prints a
+//! line for each row that is not as expected, and both numbers. `usbplan test` compares the texts
+//! of `tree` and `run`.
 #![tactic(auto)]
 
 mod driven;
@@ -12,29 +13,25 @@ mod record;
 use driven::told_of;
 use judged::judgements_of;
 use live::course_of;
-use std::alloc::{AllocError, Global};
 use std::rt::Files;
 use std::{fs, io, str};
 use usb_explain::{Only, explain};
 use usb_places::Places;
-use usb_run::Mode;
-use usb_serve::{ServeFault, plan_of, serve};
+use usb_serve::plan_of;
 use usb_sim::Plan;
-use usb_text::packet_line;
 use usb_watch::Watched;
 
-/// A line for each row of a plan: its NAME. The plan is NAME.toml; NAME.run.txt and NAME.tree.txt are what is written
-/// of it; NAME.status has the exit status and, on a second line, the fault that is reported.
+/// A line for each row of a plan: its NAME. The plan is NAME.toml; NAME.run.txt and NAME.tree.txt
+/// are what is written of it; NAME.status has the exit status and, on a second line, the fault that
+/// is reported.
 const NAMES: &str = "names.txt";
 
-/// A line for each packet: digits, and after a tab each its lines or the fault that is reported.
-const PACKETS: &str = "packets.tsv";
-
-/// A line for each plan that has places instead of numbers: the NAME of the row whose course it is to have. It is NAME.when.toml.
+/// A line for each plan that has places instead of numbers: the NAME of the row whose course it is
+/// to have. It is NAME.when.toml.
 const PLACED: &str = "placed.txt";
 
-/// A line for each listing that is not of what is plugged: the NAME of its row, its lines, and what is judged of it, after a
-/// tab each.
+/// A line for each listing that is not of what is plugged: the NAME of its row, its lines, and what
+/// is judged of it, after a tab each.
 const MUTATED: &str = "mutated.tsv";
 
 /// The most events of a plan that is driven: each question is made on a copy of the host.
@@ -59,7 +56,6 @@ impl Tally {
 fn main(rt: HostRuntime) -> io::Result<()> {
     let mut tally = Tally { rows: 0, differ: 0 };
     serve_plans(&rt, &mut tally)?;
-    read_packets(&rt, &mut tally)?;
     judge_listings(&rt, &mut tally)?;
     play_places(&rt, &mut tally)?;
     println!(rt; "{} rows, {} differ", tally.rows, tally.differ)
@@ -68,12 +64,10 @@ fn main(rt: HostRuntime) -> io::Result<()> {
 fn serve_plans<R: Files + Print + AllocGlobal>(rt: &R, tally: &mut Tally) -> io::Result<()> {
     let names = fs::read_to_string(rt, NAMES)?;
     'names: for name in names.lines() {
-        let run = is_as_wanted(rt, name, Mode::Run)?;
-        let tree = is_as_wanted(rt, name, Mode::Tree)?;
         let live = is_told_live(rt, name)?;
         let driven = is_driven(rt, name)?;
         let explained = is_explained(rt, name)?;
-        tally.count(run && tree && live && driven && explained);
+        tally.count(live && driven && explained);
     }
     Ok(())
 }
@@ -132,40 +126,9 @@ fn is_judged<R: Files + Print + AllocGlobal>(rt: &R, line: &str) -> io::Result<b
     Ok(as_wanted)
 }
 
-/// Whether a row's plan is served as expected. Prints a line where it is not.
-fn is_as_wanted<R: Files + Print + AllocGlobal>(
-    rt: &R,
-    name: &str,
-    mode: Mode,
-) -> io::Result<bool> {
-    let alloc = rt.alloc();
-    let word = mode_word(mode);
-    let plan = fs::open(rt, format!(in alloc; "{name}.toml")?)?;
-    let text = fs::read_to_string(rt, format!(in alloc; "{name}.{word}.txt")?)?;
-    let status = fs::read_to_string(rt, format!(in alloc; "{name}.status")?)?;
-    let (ended, writer) = serve(
-        alloc,
-        mode,
-        &mut Watched::new(plan),
-        Watched::new(Vec::new(alloc)),
-    );
-    let fault = fault_text(alloc, ended)?;
-    if fault.as_str() != wanted_fault(status.as_str()) {
-        println!(rt; "{name} {word}: told {fault}")?;
-        return Ok(false);
-    }
-    let written = writer.into_inner();
-    if written.as_slice() != text.as_bytes() {
-        let line = first_other_line(written.as_slice(), text.as_str());
-        println!(rt; "{name} {word}: line {line} is another")?;
-        return Ok(false);
-    }
-    Ok(true)
-}
-
-/// Whether a host against the controller side of a row's plan reports what is expected in mode Tree, but for the bound
-/// and for what refused devices said, and is judged right.
-/// Rows that do not end well are left out.
+/// Whether a host against the controller side of a row's plan reports what is expected in mode
+/// Tree, but for the bound and for what refused devices said, and is judged right. Rows that do not
+/// end well are left out.
 fn is_told_live<R: Files + Print + AllocGlobal>(rt: &R, name: &str) -> io::Result<bool> {
     let alloc = rt.alloc();
     let Some(plan) = plan_in(rt, name)? else {
@@ -254,7 +217,8 @@ fn is_said(line: &str) -> bool {
     line.split(' ').nth(1) == Some("said")
 }
 
-/// Whether a row's run, explained, has each of its lines, with words after each SETUP and after no other line.
+/// Whether a row's run, explained, has each of its lines, with words after each SETUP and after no
+/// other line.
 fn is_explained<R: Files + Print + AllocGlobal>(rt: &R, name: &str) -> io::Result<bool> {
     let alloc = rt.alloc();
     let text = fs::read_to_string(rt, format!(in alloc; "{name}.run.txt")?)?;
@@ -298,57 +262,10 @@ fn unbound(text: &str) -> &str {
     }
 }
 
-/// The number, from 1, of the first line that is another, or that one of the texts has alone.
-fn first_other_line(written: &[u8], wanted: &str) -> usize {
-    let lines = str::from_utf8(written).unwrap_or("").lines();
-    let same = lines
-        .zip(wanted.lines())
-        .take_while(|(line, wanted)| line == wanted);
-    same.count().saturating_add(1)
-}
-
-fn mode_word(mode: Mode) -> &'static str {
-    match mode {
-        Mode::Run => "run",
-        Mode::Tree => "tree",
-    }
-}
-
-/// The fault that is reported, empty if there is none.
-fn fault_text(alloc: Global, ended: Result<(), ServeFault>) -> Result<String, AllocError> {
-    match ended {
-        Ok(()) => Ok(String::new(alloc)),
-        Err(fault) => format!(in alloc; "{fault}"),
-    }
-}
-
 /// The second line of a row's status, empty if there is none.
 fn wanted_fault(status: &str) -> &str {
     match status.lines().nth(1) {
         Some(fault) => fault,
         None => "",
-    }
-}
-
-fn read_packets<R: Files + Print + AllocGlobal>(rt: &R, tally: &mut Tally) -> io::Result<()> {
-    let packets = fs::read_to_string(rt, PACKETS)?;
-    'packets: for packet in packets.lines() {
-        let mut columns = packet.split('\t');
-        let digits = columns.next().unwrap_or("");
-        let told = packet_text(rt.alloc(), digits)?;
-        let as_wanted = told.lines().eq(columns);
-        if !as_wanted {
-            println!(rt; "packet {digits}: {told}")?;
-        }
-        tally.count(as_wanted);
-    }
-    Ok(())
-}
-
-/// The lines of the packet that the digits spell, or the fault that is reported.
-fn packet_text(alloc: Global, digits: &str) -> Result<String, AllocError> {
-    match packet_line(alloc, digits) {
-        Ok(lines) => Ok(lines),
-        Err(fault) => format!(in alloc; "{fault}"),
     }
 }
