@@ -1,7 +1,7 @@
 //! Calls of a device, packet by packet: `device ..`. It is one of those that the lines of the row's plan describe.
 use crate::described::{device_in, spec_in, tell};
 use crate::packets::{read_packet, tell_bytes};
-use crate::words::{CallFault, Told, bytes, digits, small};
+use crate::words::{CallFault, Told, behind, bytes, digits, small};
 use std::alloc::{AllocError, Global};
 use usb_device::EndpointNumber;
 use usb_device_steps::{Device, Devices, HubSpec, Parent};
@@ -22,14 +22,21 @@ impl Bench {
     }
 
     /// Makes a call, and adds what it answers.
-    pub(crate) fn play(&mut self, lines: &str, words: &[&str], out: &mut String) -> Told {
+    pub(crate) fn play(
+        &mut self,
+        lines: &str,
+        words: &[&str],
+        text: &str,
+        out: &mut String,
+    ) -> Told {
         let alloc = self.alloc;
         match words {
-            ["open", name] => {
-                self.device = Some(device_in(alloc, lines, name)?);
+            ["open", ..] => {
+                self.device = Some(device_in(alloc, lines, behind(text, 2))?);
                 Ok(())
             }
-            ["described", name] => {
+            ["described", ..] => {
+                let name = behind(text, 2);
                 tell(alloc, &spec_in(alloc, lines, name)?, out)?;
                 writeln!(
                     out,

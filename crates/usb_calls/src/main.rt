@@ -1,6 +1,6 @@
-//! Plays the rows of `data/`: calls of the crates below a host, and of hosts and drivers, with what
-//! each answers (`docs` of the language: `data/README.txt`). Prints a line for each call that
-//! answers otherwise, and how many rows there were and how many of them differed.
+//! Plays the rows of `data/`: calls, each with what it answers. A row has a plan, or devices that lines describe, and
+//! what its calls make of it (`row`, `stage`). The first word of a call says which module reads the others. Prints a
+//! line for each call that answers otherwise, and how many rows there were and how many of them differed.
 #![tactic(auto)]
 
 mod attempts;
@@ -8,6 +8,7 @@ mod described;
 mod descriptors;
 mod device;
 mod ended;
+mod faults;
 mod frail;
 mod halting;
 mod host;

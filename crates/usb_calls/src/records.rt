@@ -180,11 +180,11 @@ fn question_of(alloc: Global, words: &[&str]) -> Result<Question, CallFault> {
     match words {
         ["set", port, feature] => Ok(Question::Set {
             port: small(port)?,
-            feature: short(feature)?,
+            feature: small(feature)?,
         }),
         ["clear", port, feature] => Ok(Question::Clear {
             port: small(port)?,
-            feature: short(feature)?,
+            feature: small(feature)?,
         }),
         ["restart", address, endpoint] => Ok(Question::Restart {
             address: small(address)?,

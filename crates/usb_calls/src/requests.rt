@@ -99,7 +99,9 @@ impl Addresses {
             ["take"] => match self.pool.take() {
                 Some(address) => {
                     writeln!(out, "{} {}", address.number(), self.pool.is_free(address))?;
-                    self.taken.push(address)?;
+                    if self.taken.push(address).is_err() {
+                        return Err(CallFault::Memory);
+                    }
                 }
                 None => out.push_str("none\n")?,
             },

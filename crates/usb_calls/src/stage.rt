@@ -13,7 +13,8 @@ use crate::requests::Addresses;
 use crate::transfers::Pipes;
 use crate::words::{CallFault, Told, behind, number, words_of};
 use crate::{
-    attempts, descriptors, frail, host, hub, packets, records, requests, transfers, tree, wire,
+    attempts, descriptors, faults, frail, host, hub, packets, records, requests, transfers, tree,
+    wire,
 };
 use std::alloc::Global;
 use usb_bus::Watched;
@@ -72,15 +73,6 @@ pub(crate) fn play(stage: &mut Stage, text: &str, out: &mut String) -> Told {
         return Err(CallFault::Words);
     };
     match *area {
-        "port" => stage.places.play_port(stage.alloc, rest, out),
-        "path" => stage.places.play_path(rest, text, out),
-        "address" => stage.addresses.play(rest, out),
-        "power" => requests::tell_power(rest, out),
-        "request" => requests::play(stage.alloc, rest, out),
-        "read" => descriptors::play(stage.alloc, rest, out),
-        "wire" => wire::play(stage.alloc, rest, text, out),
-        "record" => records::play(stage.alloc, rest, out),
-        "driver" => play_driver(stage, rest, out),
         "bus" => play_bus(stage, rest, text, out),
         "transaction" => play_transaction(stage, rest, out),
         "pipe" => play_pipe(stage, rest, out),
@@ -88,10 +80,28 @@ pub(crate) fn play(stage: &mut Stage, text: &str, out: &mut String) -> Told {
         "host" => play_host(stage, rest, out),
         "odd" => play_odd(stage, rest, out),
         "trace" => play_trace(stage, rest, out),
-        "device" => stage.device.play(stage.plan.as_str(), rest, out),
+        "driver" => play_driver(stage, rest, out),
+        "device" => stage.device.play(stage.plan.as_str(), rest, text, out),
         "ports" => play_ports(stage, rest, out),
-        "packet" => packets::play(stage.alloc, rest, out),
-        "piece" | "torn" => play_frail(stage, words.as_slice(), text, out),
+        "port" => stage.places.play_port(stage.alloc, rest, out),
+        "path" => stage.places.play_path(rest, text, out),
+        "address" => stage.addresses.play(rest, out),
+        _ => play_leaf(stage.alloc, words.as_slice(), text, out),
+    }
+}
+
+/// A call for which nothing of the row counts.
+fn play_leaf(alloc: Global, words: &[&str], text: &str, out: &mut String) -> Told {
+    match words {
+        ["packet", rest @ ..] => packets::play(alloc, rest, out),
+        ["request", rest @ ..] => requests::play(alloc, rest, out),
+        ["power", rest @ ..] => requests::tell_power(rest, out),
+        ["read", rest @ ..] => descriptors::play(alloc, rest, out),
+        ["wire", rest @ ..] => wire::play(alloc, rest, text, out),
+        ["record", rest @ ..] => records::play(alloc, rest, out),
+        ["fault", rest @ ..] => faults::play(rest, out),
+        ["piece", at_once, writes, ..] => frail::put(alloc, at_once, writes, behind(text, 3), out),
+        ["torn", given] => frail::read(alloc, given, out),
         _ => Err(CallFault::Words),
     }
 }
@@ -268,16 +278,5 @@ fn play_driver(stage: &mut Stage, words: &[&str], out: &mut String) -> Told {
             stage.desk.open(&plan, most)
         }
         _ => stage.desk.play(words, out),
-    }
-}
-
-/// A call of a writer or of a reader that fails.
-fn play_frail(stage: &mut Stage, words: &[&str], text: &str, out: &mut String) -> Told {
-    match words {
-        ["piece", at_once, writes, ..] => {
-            frail::put(stage.alloc, at_once, writes, behind(text, 3), out)
-        }
-        ["torn", given] => frail::read(stage.alloc, given, out),
-        _ => Err(CallFault::Words),
     }
 }
