@@ -196,7 +196,8 @@ fn take<T: Trace>(
     })
 }
 
-/// The first event comes: root port 1 has power, what is plugged there is reset, and no change is left there.
+/// The first event comes: root port 1 has power, what is plugged there is reset, and no change is
+/// left there.
 fn plugged<T: Trace>(bus: &mut SimBus<T>) -> Result<(), BusFault> {
     set(bus, 1, PORT_POWER);
     bus.apply_next_event()?;

@@ -1,5 +1,5 @@
-//! Devices that lines describe, also such as no plan can have. A device begins with a line `name ..`; behind it come
-//! its other lines, in any order.
+//! Devices that lines describe, also such as no plan can have. A device begins with a line `name
+//! ..`; behind it come its other lines, in any order.
 ghost use Rattle.std.specs.Prelude.{◌≤◌, IfOk};
 
 use crate::words::{CallFault, bytes, digits, short, small, words_of};
@@ -15,15 +15,22 @@ struct Described {
     descriptor: Vec<u8>,
     configs: ConfigTexts,
     strings: StringTexts,
+    hub: Option<HubSpec>,
+    source: Vec<u8>,
+    requests: OwnRequests,
+    quirks: Quirks,
+}
+
+/// Its power, and how its answers differ from those of another device.
+#[derive(Clone, Copy)]
+struct Quirks {
     self_powered: bool,
     busy: bool,
     silent: bool,
     naks: u8,
     stalls: Stalls,
-    hub: Option<HubSpec>,
-    source: Vec<u8>,
+    /// 0 if it never halts.
     halt_after: u16,
-    requests: OwnRequests,
 }
 
 impl Described {
@@ -33,15 +40,17 @@ impl Described {
             descriptor: Vec::new(alloc),
             configs: ConfigTexts::new(alloc),
             strings: StringTexts::new(alloc),
-            self_powered: false,
-            busy: false,
-            silent: false,
-            naks: 0,
-            stalls: Stalls::none(),
             hub: None,
             source: Vec::new(alloc),
-            halt_after: 0,
             requests: OwnRequests::new(alloc),
+            quirks: Quirks {
+                self_powered: false,
+                busy: false,
+                silent: false,
+                naks: 0,
+                stalls: Stalls::none(),
+                halt_after: 0,
+            },
         }
     }
 
@@ -49,16 +58,16 @@ impl Described {
     fn take(&mut self, alloc: Global, words: &[&str]) -> Result<(), CallFault> {
         match words {
             ["low"] => self.low = true,
-            ["self_powered"] => self.self_powered = true,
-            ["busy"] => self.busy = true,
-            ["silent"] => self.silent = true,
-            ["naks", count] => self.naks = small(count)?.min(200),
-            ["halt_after", packets] => self.halt_after = short(packets)?,
+            ["self_powered"] => self.quirks.self_powered = true,
+            ["busy"] => self.quirks.busy = true,
+            ["silent"] => self.quirks.silent = true,
+            ["naks", count] => self.quirks.naks = small(count)?.min(200),
+            ["halt_after", packets] => self.quirks.halt_after = short(packets)?,
             ["descriptor", data] => self.descriptor = bytes(alloc, data)?,
             ["source", data] => self.source = bytes(alloc, data)?,
             ["hub", ports] => self.hub = Some(HubSpec::usual(alloc, ports_of(ports)?)?),
             ["hub", ports, data] => self.hub = Some(odd_hub(alloc, ports, data)?),
-            ["stalls", request] => refuse(&mut self.stalls, request)?,
+            ["stalls", request] => refuse(&mut self.quirks.stalls, request)?,
             _ => return self.take_more(alloc, words),
         }
         Ok(())
@@ -96,15 +105,10 @@ impl Described {
             descriptor,
             configs,
             strings,
-            self_powered,
-            busy,
-            silent,
-            naks,
-            stalls,
             hub,
             source,
-            halt_after,
             requests,
+            quirks,
         } = self;
         if name.is_empty() {
             return Err(CallFault::Words);
@@ -115,17 +119,21 @@ impl Described {
             .with_strings(strings)
             .with_source(text(source, alloc))
             .with_requests(requests);
-        let spec = with_ports(spec, hub)
-            .with_self_powered(self_powered)
-            .with_busy(busy)
-            .with_silent(silent)
-            .with_naks(naks.min(200))
-            .with_stalls(stalls);
-        Ok(if halt_after >= 1 {
-            spec.with_halt_after(halt_after)
-        } else {
-            spec
-        })
+        Ok(with_quirks(with_ports(spec, hub), quirks))
+    }
+}
+
+fn with_quirks(spec: DeviceSpec, quirks: Quirks) -> DeviceSpec {
+    let spec = spec
+        .with_self_powered(quirks.self_powered)
+        .with_busy(quirks.busy)
+        .with_silent(quirks.silent)
+        .with_naks(quirks.naks.min(200))
+        .with_stalls(quirks.stalls);
+    if quirks.halt_after >= 1 {
+        spec.with_halt_after(quirks.halt_after)
+    } else {
+        spec
     }
 }
 

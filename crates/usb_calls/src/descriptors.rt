@@ -84,8 +84,8 @@ fn config_total(bytes: &[u8]) -> Result<Numbers, DescriptorFault> {
     Ok(list(&[config_head(bytes)?]))
 }
 
-/// What is read of a configuration: its fields, the number and the maximum packet of an endpoint, if there is one, or 1
-/// for yes.
+/// What is read of a configuration: its fields, the number and the maximum packet of an endpoint,
+/// if there is one, or 1 for yes.
 fn told_by_config(reader: &[&str], config: &ConfigView<'_>) -> Result<Numbers, CallFault> {
     let told = match reader {
         ["config"] => return Ok(config_fields(config)),
@@ -158,8 +158,8 @@ fn first_language(bytes: &[u8]) -> Result<Numbers, DescriptorFault> {
     })
 }
 
-/// Adds the item of this place from 0: its bytes, those of its view, and the fields in the order of the bytes; of an
-/// endpoint then its number, and 1 for IN, and its type.
+/// Adds the item of this place from 0: its bytes, those of its view, and the fields in the order of
+/// the bytes; of an endpoint then its number, and 1 for IN, and its type.
 fn tell_item(alloc: Global, bytes: &[u8], place: u64, out: &mut String) -> Told {
     let Ok(config) = read_config(bytes) else {
         return Err(CallFault::Words);
@@ -240,7 +240,8 @@ fn settings_of(words: &[&str]) -> Result<Settings, CallFault> {
     Ok(settings)
 }
 
-/// Adds the number, the direction, the kind and the maximum packet of each endpoint that a pipe can use.
+/// Adds the number, the direction, the kind and the maximum packet of each endpoint that a pipe can
+/// use.
 fn tell_usable(bytes: &[u8], low: bool, settings: &Settings, out: &mut String) -> Told {
     let Ok(config) = read_config(bytes) else {
         return Err(CallFault::Words);

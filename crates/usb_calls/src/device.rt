@@ -1,4 +1,5 @@
-//! Calls of a device, packet by packet: `device ..`. It is one of those that the lines of the row's plan describe.
+//! Calls of a device, packet by packet: `device ..`. It is one of those that the lines of the row's
+//! plan describe.
 use crate::described::{device_in, spec_in, tell};
 use crate::packets::{read_packet, tell_bytes};
 use crate::words::{CallFault, Told, behind, bytes, digits, small};
@@ -35,38 +36,43 @@ impl Bench {
                 self.device = Some(device_in(alloc, lines, behind(text, 2))?);
                 Ok(())
             }
-            ["described", ..] => {
-                let name = behind(text, 2);
-                tell(alloc, &spec_in(alloc, lines, name)?, out)?;
-                writeln!(
-                    out,
-                    "plugged low {}",
-                    device_in(alloc, lines, name)?.is_low()
-                )?;
-                Ok(())
-            }
-            ["named", name, among] => {
-                let mut devices = Devices::new(alloc);
-                devices.push(spec_in(alloc, lines, among)?)?;
-                writeln!(
-                    out,
-                    "{} of {}",
-                    devices.is_named(name),
-                    devices.as_slice().len()
-                )?;
-                Ok(())
-            }
-            ["agrees", ports, data] => {
-                let data = bytes(alloc, data)?;
-                writeln!(out, "{}", HubSpec::agrees(small(ports)?, data.as_slice()))?;
-                Ok(())
-            }
             _ => match &mut self.device {
                 Some(device) => called(alloc, device, lines, words, out),
-                None => Err(CallFault::Words),
+                None => describe(alloc, lines, words, text, out),
             },
         }
     }
+}
+
+/// A call of what describes devices.
+fn describe(alloc: Global, lines: &str, words: &[&str], text: &str, out: &mut String) -> Told {
+    match words {
+        ["described", ..] => {
+            let name = behind(text, 2);
+            tell(alloc, &spec_in(alloc, lines, name)?, out)?;
+            writeln!(
+                out,
+                "plugged low {}",
+                device_in(alloc, lines, name)?.is_low()
+            )?;
+        }
+        ["named", name, among] => {
+            let mut devices = Devices::new(alloc);
+            devices.push(spec_in(alloc, lines, among)?)?;
+            writeln!(
+                out,
+                "{} of {}",
+                devices.is_named(name),
+                devices.as_slice().len()
+            )?;
+        }
+        ["agrees", ports, data] => {
+            let data = bytes(alloc, data)?;
+            writeln!(out, "{}", HubSpec::agrees(small(ports)?, data.as_slice()))?;
+        }
+        _ => return Err(CallFault::Words),
+    }
+    Ok(())
 }
 
 /// A call of the device.
@@ -192,7 +198,8 @@ fn answers(
     gets(alloc, device, &["IN", at.as_str()], out)
 }
 
-/// The device takes an address, which it does at the ACK. Adds what it answers otherwise than it is to.
+/// The device takes an address, which it does at the ACK. Adds what it answers otherwise than it is
+/// to.
 fn takes(alloc: Global, device: &mut Device, address: &str, out: &mut String) -> Told {
     let data = format!(in alloc; "0005{:02X}0000000000", small(address)?)?;
     gives(alloc, device, &["SETUP", "0.0"], "none", out)?;

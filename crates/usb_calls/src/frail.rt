@@ -69,7 +69,8 @@ impl Read for Torn<'_> {
     }
 }
 
-/// A piece of text for a watched writer: adds how it ended, the mark, the calls, and the bytes taken.
+/// A piece of text for a watched writer: adds how it ended, the mark, the calls, and the bytes
+/// taken.
 pub(crate) fn put(
     alloc: Global,
     at_once: &str,
@@ -87,7 +88,8 @@ pub(crate) fn put(
     Ok(())
 }
 
-/// Two reads of a watched reader that fails once its bytes are gone: adds what each gives, and the mark.
+/// Two reads of a watched reader that fails once its bytes are gone: adds what each gives, and the
+/// mark.
 pub(crate) fn read(alloc: Global, given: &str, out: &mut String) -> Told {
     let given = bytes(alloc, given)?;
     let mut reader = Watched::new(Torn(given.as_slice()));

@@ -172,8 +172,8 @@ fn tell_names(out: &mut String, names: &[(bool, &str)]) -> Result<(), AllocError
     out.push_str("\n")
 }
 
-/// Enumerates what is at root port 1, which gives so much power. Adds what is found, what the device said, and what
-/// the port and the free addresses are then.
+/// Enumerates what is at root port 1, which gives so much power. Adds what is found, what the
+/// device said, and what the port and the free addresses are then.
 pub(crate) fn enumerated(
     alloc: Global,
     bus: &mut TestBus,
@@ -227,7 +227,8 @@ fn tell_finding(alloc: Global, out: &mut String, finding: &Finding) -> Result<()
     }
 }
 
-/// Adds the address, the speed and the descriptors of a device, and whether there is a product string.
+/// Adds the address, the speed and the descriptors of a device, and whether there is a product
+/// string.
 fn tell_device(alloc: Global, out: &mut String, device: &Accepted) -> Result<(), AllocError> {
     let speed = if device.low { "low" } else { "full" };
     let bytes = hex::encode_upper(alloc, device.bytes.as_slice())?;

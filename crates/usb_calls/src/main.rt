@@ -1,6 +1,7 @@
-//! Plays the rows of `data/`: calls, each with what it answers. A row has a plan, or devices that lines describe, and
-//! what its calls make of it (`row`, `stage`). The first word of a call says which module reads the others. Prints a
-//! line for each call that answers otherwise, and how many rows there were and how many of them differed.
+//! Plays the rows of `data/`: calls, each with what it answers. A row has a plan, or devices that
+//! lines describe, and what its calls make of it (`row`, `stage`). The first word of a call says
+//! which module reads the others. Prints a line for each call that answers otherwise, and how many
+//! rows there were and how many of them differed.
 #![tactic(auto)]
 
 mod attempts;

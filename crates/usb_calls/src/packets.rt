@@ -27,7 +27,8 @@ fn payload(alloc: Global, toggle: Toggle, data: &str) -> Result<ArrayVec<u8, 67>
     Ok(encode(&Packet::Payload { toggle, bytes }))
 }
 
-/// The bytes of a packet in words: a token with its endpoint, data, `ACK`, or bytes whatever they spell.
+/// The bytes of a packet in words: a token with its endpoint, data, `ACK`, or bytes whatever they
+/// spell.
 pub(crate) fn read_packet(alloc: Global, words: &[&str]) -> Result<ArrayVec<u8, 67>, CallFault> {
     match words {
         ["SETUP", at] => token(TokenKind::SetupTok, at),
@@ -79,6 +80,14 @@ pub(crate) fn play(alloc: Global, words: &[&str], out: &mut String) -> Told {
                 awaited.is_same(given.other())
             )?;
         }
+        _ => return check(alloc, words, out),
+    }
+    Ok(())
+}
+
+/// Adds the check field of a token's eleven bits, or of data.
+fn check(alloc: Global, words: &[&str], out: &mut String) -> Told {
+    match words {
         ["check5", field] => {
             let field = short(field)?;
             if field >= 2048 {

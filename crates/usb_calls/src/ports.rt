@@ -1,4 +1,5 @@
-//! A port step by step, its calls by their features, what its status says, and paths of ports: `port ..`, `path ..`.
+//! A port step by step, its calls by their features, what its status says, and paths of ports:
+//! `port ..`, `path ..`.
 use crate::words::{CallFault, Told, behind, path, short, small, status_bytes};
 use std::alloc::{AllocError, Global};
 use usb_port::{Port, PortCall, PortPath, PortStatus};
@@ -92,7 +93,8 @@ fn take_step(port: &mut Port, step: &str) -> Result<bool, CallFault> {
     Ok(true)
 }
 
-/// Adds the calls that set and clear a feature, and whether the one that clears it clears a change of connection.
+/// Adds the calls that set and clear a feature, and whether the one that clears it clears a change
+/// of connection.
 fn tell_feature(out: &mut String, feature: u16) -> Result<(), AllocError> {
     let clears = PortCall::of_clear(feature).map(PortCall::clears_connection_change);
     writeln!(

@@ -1,5 +1,5 @@
-//! A bus around another one, with a hub at address 1 that reports a change until that is cleared, or for good, and a
-//! root port whose change of connection no clearing takes away.
+//! A bus around another one, with a hub at address 1 that reports a change until that is cleared,
+//! or for good, and a root port whose change of connection no clearing takes away.
 ghost use Rattle.std.specs.Prelude.{◌≡◌, false, Some, IfErr};
 ghost use Rattle.usb_bus.specs.Traces.{Spends};
 ghost use Rattle.usb_world.specs.PlainAttempts.{attempt_data};
@@ -15,8 +15,8 @@ use usb_request::feature::{C_PORT_CONNECTION, PORT_RESET};
 /// The hub's address: it is found first.
 const HUB: u8 = 1;
 
-/// Setup data of GetHubStatus (11.24.2.6), of GetPortStatus (11.24.2.7) and SetPortFeature(PORT_RESET) of port 1
-/// (11.24.2.13), and of SET_CONFIGURATION (9.4.7).
+/// Setup data of GetHubStatus (11.24.2.6), of GetPortStatus (11.24.2.7) and
+/// SetPortFeature(PORT_RESET) of port 1 (11.24.2.13), and of SET_CONFIGURATION (9.4.7).
 const HUB_STATUS: [u8; 8] = [0xa0, 0, 0, 0, 0, 0, 4, 0];
 
 const PORT_STATUS: [u8; 8] = [0xa3, 0, 0, 0, 1, 0, 4, 0];
@@ -28,7 +28,8 @@ const CONFIGURE: [u8; 8] = [0, 9, 1, 0, 0, 0, 0, 0];
 /// A change, by the feature that clears it.
 #[derive(Clone, Copy, Debug, PartialEq, Eq)]
 enum Told {
-    /// Of port 1 of the hub (11.24.2.7.2). With that of its enable the port is disabled, until it is reset.
+    /// Of port 1 of the hub (11.24.2.7.2). With that of its enable the port is disabled, until it
+    /// is reset.
     Port(u8),
     /// Of the hub itself (11.24.2.6).
     Hub(u8),

@@ -1,4 +1,5 @@
-//! Records of a driver, and a driver whose questions go to a simulated bus by their bytes: `record ..`, `driver ..`.
+//! Records of a driver, and a driver whose questions go to a simulated bus by their bytes: `record
+//! ..`, `driver ..`.
 use crate::words::{
     CallFault, Told, bytes, digits, endpoint, number, path, setup_data, short, small, speed,
     status_bytes, toggle,
@@ -50,7 +51,8 @@ pub(crate) fn play(alloc: Global, words: &[&str], out: &mut String) -> Told {
     }
 }
 
-/// Adds what is read of a record that is cut: a line for each stretch of lengths of which the same is read.
+/// Adds what is read of a record that is cut: a line for each stretch of lengths of which the same
+/// is read.
 fn tell_cuts(alloc: Global, is_want: bool, record: &[u8], out: &mut String) -> Told {
     let mut last = String::new(alloc);
     for end in 0..record.len() {
@@ -123,6 +125,12 @@ fn said_of_endpoint(alloc: Global, want: &Want) -> Result<String, AllocError> {
         Want::ClearHaltOf { path, endpoint } => {
             format!(in alloc; "clear halt of {} {}\n", path.text(), endpoint.get())
         }
+        other => said_of_request(alloc, other),
+    }
+}
+
+fn said_of_request(alloc: Global, want: &Want) -> Result<String, AllocError> {
+    match want {
         Want::SetInterface {
             path,
             interface,
@@ -190,6 +198,17 @@ fn question_of(alloc: Global, words: &[&str]) -> Result<Question, CallFault> {
             address: small(address)?,
             endpoint: small(endpoint)?,
         }),
+        ["INs", at, how, most, pid, packets] => Ok(Question::Ins {
+            to: destination(at, how, most)?,
+            toggle: toggle(pid)?,
+            most: small(packets)?,
+        }),
+        _ => attempt_of(alloc, words),
+    }
+}
+
+fn attempt_of(alloc: Global, words: &[&str]) -> Result<Question, CallFault> {
+    match words {
         ["SETUP", at, how, most, data] => Ok(Question::Attempt(Attempt::Setup {
             to: destination(at, how, most)?,
             bytes: setup_data(alloc, data)?,
@@ -202,11 +221,6 @@ fn question_of(alloc: Global, words: &[&str]) -> Result<Question, CallFault> {
         ["IN", at, how, most] => Ok(Question::Attempt(Attempt::In {
             to: destination(at, how, most)?,
         })),
-        ["INs", at, how, most, pid, packets] => Ok(Question::Ins {
-            to: destination(at, how, most)?,
-            toggle: toggle(pid)?,
-            most: small(packets)?,
-        }),
         _ => Err(CallFault::Words),
     }
 }
@@ -254,8 +268,8 @@ impl Desk {
         }
     }
 
-    /// A driver before the bus of a plan, whose events have all come, and each of them was followed by rounds. It takes
-    /// at most so many bytes of a device.
+    /// A driver before the bus of a plan, whose events have all come, and each of them was followed
+    /// by rounds. It takes at most so many bytes of a device.
     pub(crate) fn open(&mut self, plan: &Plan, words: &[&str]) -> Told {
         let most = match words {
             [most] => Some(usize::try_from(number(most)?).unwrap_or(usize::MAX)),
@@ -416,24 +430,26 @@ fn driver_call(
         },
         ["told"] => tell_records(alloc, driver.told(), out)?,
         ["answer", outcome @ ..] => {
-            let answer = Answer {
-                outcome: outcome_of(alloc, outcome)?,
-                statuses: shown,
-            };
+            let answer = answer_in(alloc, outcome, shown)?;
             tell(out, driver.answer(answer))?;
         }
         ["row", before, outcome @ ..] => {
             let before = bytes(alloc, before)?;
-            let answer = Answer {
-                outcome: outcome_of(alloc, outcome)?,
-                statuses: shown,
-            };
+            let answer = answer_in(alloc, outcome, shown)?;
             tell(out, driver.answer_row(before.as_slice(), answer))?;
         }
         ["until", "short", "in"] => *asked = until_short_in(driver, shown)?,
         _ => return Err(CallFault::Words),
     }
     Ok(())
+}
+
+/// The answer whose outcome words name.
+fn answer_in(alloc: Global, words: &[&str], shown: Statuses) -> Result<Answer, CallFault> {
+    Ok(Answer {
+        outcome: outcome_of(alloc, words)?,
+        statuses: shown,
+    })
 }
 
 /// Adds why a call was refused, if it was.
@@ -463,7 +479,8 @@ fn outcome_of(alloc: Global, words: &[&str]) -> Result<Outcome, CallFault> {
     }
 }
 
-/// Acknowledges each SETUP, and answers nothing to all else, in rounds, until an IN of less than 64 bytes is asked for.
+/// Acknowledges each SETUP, and answers nothing to all else, in rounds, until an IN of less than 64
+/// bytes is asked for.
 fn until_short_in(driver: &mut Driver, shown: Statuses) -> Result<[u8; 72], CallFault> {
     'questions: for _ in 0..100u8 {
         let ended = match driver.question() {

@@ -1,5 +1,5 @@
-//! Requests with the bytes that go over the bus, addresses, and the power of ports: `request ..`, `address ..`,
-//! `power ..`.
+//! Requests with the bytes that go over the bus, addresses, and the power of ports: `request ..`,
+//! `address ..`, `power ..`.
 ghost use Rattle.std.specs.Prelude.{◌≤◌, IfOk};
 
 use crate::words::{CallFault, Told, digits, feature, setup_data, short, small};

@@ -147,7 +147,8 @@ fn play_bus(stage: &mut Stage, words: &[&str], text: &str, out: &mut String) -> 
     Err(CallFault::Words)
 }
 
-/// A bus of the plan, before anything came, whose writer takes so many bytes at a time, and so many writes.
+/// A bus of the plan, before anything came, whose writer takes so many bytes at a time, and so many
+/// writes.
 fn open(stage: &mut Stage, at_once: usize, writes: u64, out: &mut String) -> Told {
     let plan = plan_in(stage.alloc, stage.plan.as_str(), out)?;
     let writer = Watched::new(Frail::new(stage.alloc, at_once, writes));
@@ -220,7 +221,8 @@ fn close(stage: &mut Stage) {
     }
 }
 
-/// A call of what is odd at a bus: changes that a hub or a root port reports for good, and a bus that fails.
+/// A call of what is odd at a bus: changes that a hub or a root port reports for good, and a bus
+/// that fails.
 fn play_odd(stage: &mut Stage, words: &[&str], out: &mut String) -> Told {
     if let Some(host) = &mut stage.host {
         return odd(host.bus_mut(), words, out);

@@ -68,8 +68,8 @@ fn small_target(address: u8) -> Target
     }
 }
 
-/// Makes a transaction. It answers with its bytes or its fault, the toggle after it, and the number of attempts of the
-/// caller is added.
+/// Makes a transaction. It answers with its bytes or its fault, the toggle after it, and the number
+/// of attempts of the caller is added.
 pub(crate) fn transact<B: Bus>(
     alloc: Global,
     bus: &mut B,
@@ -202,8 +202,8 @@ fn control<B: Bus>(
     Ok(done.map(|_| Vec::new(alloc)))
 }
 
-/// Reads the descriptors of a device without an address, gives it address 1, and configures it. The device descriptor
-/// is the answer.
+/// Reads the descriptors of a device without an address, gives it address 1, and configures it. The
+/// device descriptor is the answer.
 fn make_ready<B: Bus>(alloc: Global, bus: &mut B, target: Target) -> Result<Vec<u8>, PipeFault>
     requires { IsTarget target }
 {

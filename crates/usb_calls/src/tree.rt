@@ -1,5 +1,5 @@
-//! Packets on their way through a tree of devices: `ports ..`. The devices are those that the lines of the row's plan
-//! describe.
+//! Packets on their way through a tree of devices: `ports ..`. The devices are those that the lines
+//! of the row's plan describe.
 use crate::described::device_in;
 use crate::packets::read_packet;
 use crate::words::{CallFault, Told, path, small};

@@ -1,4 +1,5 @@
-//! Data that are refused memory are taken later, once: those of a bulk OUT endpoint, and those of a control write.
+//! Data that are refused memory are taken later, once: those of a bulk OUT endpoint, and those of a
+//! control write.
 ghost use Rattle.usb_packet.specs.Spelling.{HasFields};
 
 use super::plan;
@@ -88,7 +89,8 @@ fn configured(alloc: Global) -> Result<Device, Fail> {
     Ok(device)
 }
 
-/// Whether a bulk OUT endpoint takes data once, at once or after memory was refused, and the next data as ever.
+/// Whether a bulk OUT endpoint takes data once, at once or after memory was refused, and the next
+/// data as ever.
 fn takes_bulk(device: &mut Device) -> Result<bool, AllocError> {
     let sink = EndpointNumber::new(2);
     let out = token(OutTok, 1, 2);

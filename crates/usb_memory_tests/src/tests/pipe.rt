@@ -18,8 +18,8 @@ fn pipe() -> EndpointPipe
     EndpointPipe::new(TARGET, 2, usable, true)
 }
 
-/// What comes after a first packet for which memory was refused: what a second `receive` answers, how many attempts it
-/// makes, and how many bytes come once the pipe was cleared.
+/// What comes after a first packet for which memory was refused: what a second `receive` answers,
+/// how many attempts it makes, and how many bytes come once the pipe was cleared.
 fn behind_a_refusal(
     alloc: Global,
     bus: &mut TestBus,
