@@ -1,5 +1,5 @@
 //! Calls of a simulated bus: `bus ..`.
-ghost use Rattle.std.specs.Prelude.{◌<◌, ◌≤◌};
+ghost use Rattle.std.specs.Prelude.{IfOk};
 ghost use Rattle.usb_bus.specs.Rows.{IsDestination};
 
 use crate::words::{

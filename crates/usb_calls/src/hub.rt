@@ -1,6 +1,4 @@
 //! Requests to a hub and to a function, calls at root port 1, and what is found there: `hub ..`.
-ghost use Rattle.usb_transaction.specs.Transactions.{IsTarget};
-
 use crate::stage::TestBus;
 use crate::words::{CallFault, Told, digits, feature, number, short, small};
 use arrayvec::ArrayVec;

@@ -1,6 +1,4 @@
 //! Packets of a host, and the checks, digits and toggles of packets: `packet ..`.
-ghost use Rattle.usb_packet.specs.Spelling.{HasFields};
-
 use crate::words::{CallFault, Told, bytes, digits, endpoint, number, short, small, toggle};
 use arrayvec::{ArrayString, ArrayVec};
 use std::alloc::{AllocError, Global};

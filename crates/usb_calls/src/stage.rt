@@ -1,7 +1,4 @@
 //! What a row has so far, and what each call makes of it.
-ghost use Rattle.std.specs.Prelude.{◌≡◌, false};
-ghost use Rattle.usb_bus.specs.Watch.{has_failed};
-
 use crate::device::Bench;
 use crate::ended::Ended;
 use crate::frail::Frail;

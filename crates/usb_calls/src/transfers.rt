@@ -1,6 +1,5 @@
 //! Calls of transactions, of control transfers and of pipes: `transaction ..`, `control ..`,
 //! `pipe ..`, `status ..`.
-ghost use Rattle.std.specs.Prelude.{◌≡◌, ◌<◌};
 ghost use Rattle.usb_transaction.specs.Transactions.{IsTarget};
 
 use crate::words::{CallFault, Told, bytes, digits, endpoint, setup_data, short, small, toggle};
