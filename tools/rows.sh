@@ -139,6 +139,7 @@ run_row() {
   done
   [ "${named:+x}" = "${plan:+x}" ] || number=$begun refuse_row "either lines with @ or a word @, and not both"
   code=0
+  [ -z "$better" ] || prefer_better
   printf %b "$input" >"$room/in"
   if [ -z "$named" ]; then
     "$program" "${words[@]:1}" <"$room/in" >"$room/out" 2>"$room/err" || code=$?

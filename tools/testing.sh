@@ -131,6 +131,7 @@ want_fault() {
 is_wanted_end() {
   local fault
   code=0
+  [ -z "$better" ] || prefer_better
   "$program" "$1" "$2" </dev/null >"$room/text" 2>"$room/fault" || code=$?
   IFS= read -r -d '' fault <"$room/fault" || true
   [ "$code" = "$wanted_code" ] && [ "$fault" = "$wanted_fault" ]
@@ -230,15 +231,32 @@ test_folder() {
   empty=1
 }
 
-# Tests the folders, and ends. Status 1: one failed, or a folder has nothing to test.
-run_tests() {
-  local program=$1 top=$PWD folder sum empty='' passed=0 failed=0 accepted=0 bare=0
-  local -x LC_ALL=C CDPATH=
+# Sets `program`: a copy of a build, whose place another one may take while the tests run.
+take_program() {
+  program=$1
   [[ "$program" == /* ]] || program=$top/$program
+  if cp -- "$program" "$room/usbplan.new" 2>/dev/null && [ -x "$room/usbplan.new" ]; then
+    mv -f "$room/usbplan.new" "$room/usbplan"
+    program=$room/usbplan
+  fi
+}
+
+# Goes on with the better build, as soon as it is there.
+prefer_better() {
+  if [ -x "$better" ]; then
+    take_program "$better"
+    better=
+  fi
+}
+
+# Tests the folders with a build, and with a better one as soon as it is there, and ends. Status 1: a text or row failed,
+# or a folder has nothing to test.
+run_tests() {
+  local program better=${2-} top=$PWD folder sum empty='' passed=0 failed=0 accepted=0 bare=0
+  local -x LC_ALL=C CDPATH=
   room=$(mktemp -d) || exit 4
   trap 'rm -rf "$room"' EXIT
-  # a better build may come while the tests run, and take the place of this one
-  cp -- "$program" "$room/usbplan" 2>/dev/null && [ -x "$room/usbplan" ] && program=$room/usbplan
+  take_program "$1"
   for folder in "${folders[@]}"; do
     test_folder "$folder"
   done
