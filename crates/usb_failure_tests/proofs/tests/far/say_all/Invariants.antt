@@ -1,5 +1,5 @@
 use Rattle.usb_wire.specs.{IsQuestion}
-use Rattle.usb_failing_tests.proofs.tests.far.say_all.Given as goal
+use Rattle.usb_failure_tests.proofs.tests.far.say_all.Given as goal
 
 -- a question is left
 abbrev pub invariant-attempts : goal.invariant-attempts

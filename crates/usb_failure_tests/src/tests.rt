@@ -1,4 +1,4 @@
-//! Readers and writers that fail at each place in turn, then values that no command prints.
+//! One module a topic.
 mod buffered;
 mod drawing;
 mod ends;
@@ -8,8 +8,10 @@ mod far;
 mod frail;
 mod items;
 mod live;
+mod memory;
 mod outputs;
 mod page;
+mod plan;
 mod plans;
 mod readers;
 mod rows;

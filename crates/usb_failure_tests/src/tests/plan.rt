@@ -1,4 +1,4 @@
-//! One module a topic.
+//! Plans, what is wrong with them, and their places.
 mod places;
 mod reads;
 mod writing;
