@@ -7,7 +7,7 @@ use usb_port::PortPath;
 use usb_world::Attempt;
 
 /// An attempt that is about to be made.
-#[derive(Debug, Drop)]
+#[derive(Drop)]
 pub(crate) struct Coming {
     pub(crate) attempt: Attempt,
     /// The port of the device that holds its address; None if none does.

@@ -38,7 +38,7 @@ const ANYWHERE: Window = Window {
 };
 
 /// What a line reports of the first bulk IN endpoint of the device at a port.
-#[derive(Debug, Drop)]
+#[derive(Drop)]
 enum Report<'a> {
     /// These bytes came, in hexadecimal digits.
     Data(PortPath, &'a str),

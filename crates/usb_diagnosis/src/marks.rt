@@ -12,7 +12,7 @@ use toml_parser::text::{byte_at, first, skip, skip_blank, skip_ws};
 use toml_parser::{Key, ParseError, dotted_key, quoted, starts_string};
 
 /// Where something of a text begins: how many bytes are before it.
-#[derive(Clone, Copy, Debug)]
+#[derive(Clone, Copy)]
 pub(crate) struct Anchor {
     /// The key, or the head of a table.
     pub(crate) key: usize,
@@ -21,7 +21,7 @@ pub(crate) struct Anchor {
 }
 
 /// A statement of a document.
-#[derive(Debug, Drop)]
+#[derive(Drop)]
 struct Mark {
     anchor: Anchor,
     /// It begins an entry of the array at its path.
@@ -67,7 +67,7 @@ impl Mark {
 }
 
 /// A document's text with its statements.
-#[derive(Debug, Drop)]
+#[derive(Drop)]
 pub(crate) struct Layout<'a> {
     text: &'a str,
     marks: Vec<Mark>,

@@ -7,7 +7,7 @@ use crate::shown::push_number;
 use std::alloc::{AllocError, Global};
 
 /// Where in a file something stands, as far as that is known.
-#[derive(Clone, Copy, Debug, PartialEq, Eq)]
+#[derive(Clone, Copy, PartialEq, Eq)]
 pub(crate) enum Spot {
     /// Somewhere in the file.
     Unknown,

@@ -9,7 +9,7 @@ use usb_request::EndpointAddress;
 
 /// bInterfaceClass, bInterfaceSubClass and bInterfaceProtocol of an interface, and how the endpoints
 /// of it that are looked for move data.
-#[derive(Clone, Copy, Debug, PartialEq, Eq)]
+#[derive(Clone, Copy)]
 pub(crate) struct Kind {
     pub class: u8,
     pub subclass: u8,
@@ -18,7 +18,7 @@ pub(crate) struct Kind {
 }
 
 /// The most bytes of an endpoint's packets, 1 to 64.
-#[derive(Clone, Copy, Debug, PartialEq, Eq)]
+#[derive(Clone, Copy, Debug)]
 pub(crate) struct PacketSize {
     bytes: u8,
 }
@@ -61,14 +61,14 @@ impl PacketSize {
 }
 
 /// An endpoint, and the most bytes of its packets.
-#[derive(Clone, Copy, Debug, PartialEq, Eq)]
+#[derive(Clone, Copy, Debug)]
 pub(crate) struct End {
     pub address: EndpointAddress,
     pub most: PacketSize,
 }
 
 /// An interface, and its first endpoints of each direction that move data as was looked for.
-#[derive(Clone, Copy, Debug, PartialEq, Eq)]
+#[derive(Clone, Copy)]
 pub(crate) struct Interface {
     /// bInterfaceNumber.
     pub number: u8,

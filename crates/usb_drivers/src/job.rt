@@ -3,7 +3,7 @@
 use std::alloc::{AllocError, Global};
 
 /// What the program is to do over a live bus.
-#[derive(Clone, Copy, Debug, PartialEq, Eq)]
+#[derive(Clone, Copy)]
 pub(crate) enum Job {
     /// Say which keys are pressed, until there were so many.
     Keys(u32),

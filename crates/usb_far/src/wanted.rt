@@ -15,14 +15,14 @@ use usb_wire::{Answer, ControlWrite, SEND_LIMIT, SEND_ROOM, SEND_TO_LIMIT, WRITE
 const PART_SIZE: usize = 448;
 
 /// An answer to `wait`, and what is left to send after it.
-#[derive(Debug, Drop)]
+#[derive(Drop)]
 pub(crate) struct Wanted {
     pub(crate) answer: Answer,
     pub(crate) sending: Option<Sending>,
 }
 
 /// Bytes that are still to go to the device at a port.
-#[derive(Debug, Drop)]
+#[derive(Drop)]
 pub(crate) struct Sending {
     path: PortPath,
     /// None: to the first bulk endpoint.

@@ -12,7 +12,7 @@ use usb_stream::LiveFault;
 use usb_wire::{Answer, ControlWrite};
 
 /// What is requested, and was not reported yet.
-#[derive(Debug, Drop)]
+#[derive(Drop)]
 pub(crate) enum Owed {
     /// Nothing.
     Nothing,
@@ -25,7 +25,7 @@ pub(crate) enum Owed {
 }
 
 /// How a task is to end, if it does not fail.
-#[derive(Clone, Copy, Debug, PartialEq, Eq)]
+#[derive(Clone, Copy)]
 pub(crate) enum EndOwed {
     /// This number of bytes is sent.
     Sent(u64),

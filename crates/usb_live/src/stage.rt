@@ -7,7 +7,7 @@ use usb_stream::LiveFault;
 use usb_wire::Answer;
 
 /// How far a course is.
-#[derive(Clone, Copy, Debug, PartialEq, Eq)]
+#[derive(Clone, Copy)]
 pub(crate) enum Stage {
     /// The host asks and reports.
     Asks,

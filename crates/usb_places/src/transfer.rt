@@ -11,7 +11,7 @@ use usb_request::Setup;
 use usb_request::endpoint_address::DIRECTION_IN;
 
 /// How far a control transfer is.
-#[derive(Clone, Copy, Debug, PartialEq, Eq)]
+#[derive(Clone, Copy, Debug)]
 pub(crate) enum Stage {
     /// Its setup data were sent.
     Setup,

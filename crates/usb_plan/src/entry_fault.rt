@@ -10,7 +10,7 @@ use std::alloc::AllocError;
 
 /// What is wrong with an entry, in the order in which faults are reported. If memory was refused,
 /// nothing else is.
-#[derive(Clone, Copy, Debug, PartialEq, Eq, PartialOrd, Ord)]
+#[derive(Clone, Copy, PartialEq, Eq, PartialOrd, Ord)]
 pub(crate) enum EntryFault {
     Memory,
     OnlyFar,

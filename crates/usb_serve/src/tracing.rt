@@ -9,7 +9,7 @@ use usb_sim::{ExchangeRoom, Line, Trace, push_attempt};
 use usb_watch::WriteFailed;
 
 /// An output that has the lines.
-#[derive(Debug, Drop)]
+#[derive(Drop)]
 pub(crate) struct OutputTracer<W> {
     output: Output<W>,
     /// The line of the last attempt, whose room is used again.

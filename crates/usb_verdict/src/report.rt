@@ -17,7 +17,7 @@ pub struct ReportedListing {
 }
 
 /// What a line says of the device before it.
-#[derive(Debug, Drop)]
+#[derive(Drop)]
 enum Detail {
     /// The configuration that was chosen.
     Configuration(Vec<u8>),
