@@ -4,8 +4,8 @@ use Rattle.std.specs.Prelude.{Option}
 use Rattle.usb_world.specs.{World}
 use Rattle.usb_world.specs.declared.types.Attempt.{Attempt}
 use Rattle.usb_far.specs.{Played}
-use Rattle.usb_conduct.specs.{told_before}
-use Rattle.usb_conduct.specs.declared.remark.Remark.{Remark}
+use Rattle.usb_judge.specs.{told_before}
+use Rattle.usb_judge.specs.declared.remark.Remark.{Remark}
 use Rattle.usb_bench.specs.{BeforeJudged, IsSeen, Says, faults_with, next_number, remark_lines}
 use Rattle.usb_bench.specs.declared.coming.Coming.{Coming}
 use Rattle.usb_bench.specs.declared.judge.Judge.{Judge}

@@ -4,9 +4,10 @@ use Rattle.std.specs.Str.{IsUtf8}
 use Rattle.std.proofs.Common.{map, Ok, Err}
 use Rattle.usb_far.specs.{Played}
 use Rattle.usb_judge.specs.declared.listed.ListedPort.{ListedPort}
-use Rattle.usb_listing.specs.declared.fault.ListingFault.{ListingFault}
-use Rattle.usb_listing.specs.declared.fault.ListingFault.TheVariants.{Memory}
-use Rattle.usb_verdict.specs.{counted, fault_line_text, line_joined, port_said, with_wrong}
+use Rattle.usb_verdict.specs.declared.fault.ListingFault.{ListingFault}
+use Rattle.usb_verdict.specs.declared.fault.ListingFault.TheVariants.{Memory}
+use Rattle.usb_verdict.specs.{counted, fault_line_text, line_joined, with_wrong}
+use Rattle.usb_verdict.specs.Reports.{port_said}
 use Rattle.usb_verdict.specs.declared.tally.Tally.{Tally}
 use Rattle.usb_bench.specs.declared.judge.Block.{Block}
 use Rattle.usb_bench.specs.declared.judge.Block.TheVariants as block

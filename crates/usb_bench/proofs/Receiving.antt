@@ -2,9 +2,9 @@
 use Rattle.std.proofs.Common.{◌≡◌, List, ℕ, Option, Result, Ok, Err, Some, None, sym, subst, ◌∙◌}
 use Rattle.std.specs.Prelude.{IfNone, IfSome, OnOk}
 use Rattle.std.proofs.lemmas.Option.{same_Some}
-use Rattle.usb_listing.specs.{bytes_in}
-use Rattle.usb_conduct.specs.{HasNoPlace, IsAfter}
-use Rattle.usb_conduct.specs.declared.window.Window.{Window}
+use Rattle.usb_verdict.specs.{bytes_in}
+use Rattle.usb_judge.specs.{HasNoPlace, IsAfter}
+use Rattle.usb_judge.specs.declared.window.Window.{Window}
 use Rattle.usb_far.specs.{Played}
 use Rattle.usb_world.specs.{World}
 use Rattle.usb_bench.specs.{AfterDigits, AfterReport, Kept, ReadsReport, Report, ReportLine}

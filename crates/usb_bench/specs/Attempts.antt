@@ -17,13 +17,13 @@ use Rattle.usb_wire.specs.declared.question.Question.TheVariants.{Ins, Outs, Res
 use Rattle.usb_far.specs.{Played, destination_at}
 use Rattle.usb_far.specs.{Came}
 use Rattle.usb_far.specs.declared.reply.Came.TheVariants as came
-use Rattle.usb_judge.specs.{ArePlugged}
-use Rattle.usb_plugged.specs.{ListsOnce}
+use Rattle.usb_judge.specs.{ArePlugged, after_attempt, empty_text, holds, is_empty, is_fault}
+use Rattle.usb_judge.specs.{remark_text, told_after, told_before}
+use Rattle.usb_verdict.specs.{ListsOnce}
 use Rattle.usb_judge.specs.declared.plugged.PluggedDevice.{PluggedDevice}
-use Rattle.usb_conduct.specs.{after_attempt, empty_text, holds, is_empty, is_fault, judged}
-use Rattle.usb_conduct.specs.{remark_text, told_after, told_before}
-use Rattle.usb_conduct.specs.declared.remark.Remark.{Remark}
-use Rattle.usb_conduct.specs.declared.remark.Remark.TheVariants as remark
+use Rattle.usb_judge.specs.Holders.{judged}
+use Rattle.usb_judge.specs.declared.remark.Remark.{Remark}
+use Rattle.usb_judge.specs.declared.remark.Remark.TheVariants as remark
 use Rattle.usb_bench.specs.declared.coming.Coming.{Coming}
 use Rattle.usb_bench.specs.declared.judge.Judge.{Judge}
 use Rattle.usb_bench.specs.Received.{begun_anew, with_fault}

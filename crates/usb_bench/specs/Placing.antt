@@ -9,7 +9,7 @@ use Rattle.usb_wire.specs.{Question}
 use Rattle.usb_wire.specs.declared.question.Question.TheVariants.{Port, Wait}
 use Rattle.usb_far.specs.{Far, Follows, Played}
 use Rattle.usb_judge.specs.{ArePlugged}
-use Rattle.usb_plugged.specs.{ListsOnce}
+use Rattle.usb_verdict.specs.{ListsOnce}
 use Rattle.usb_judge.specs.declared.plugged.PluggedDevice.{PluggedDevice}
 use Rattle.usb_places.specs.{PlacesData, after_seen, finds, plan_in, seen_at, try_of}
 use Rattle.usb_places.specs.declared.seen.Deed.{Deed}

@@ -12,9 +12,9 @@ use Rattle.usb_world.specs.{World}
 use Rattle.usb_world.specs.declared.types.Attempt.{Attempt}
 use Rattle.usb_world.specs.declared.types.Attempt.TheVariants.{Setup, Out, In}
 use Rattle.usb_far.specs.{Played}
-use Rattle.usb_listing.specs.{bytes_in, cut_space}
-use Rattle.usb_conduct.specs.{HasNoPlace, IsAfter, after_clear, after_loss, at_plug, data_text}
-use Rattle.usb_conduct.specs.declared.window.Window.{Window}
+use Rattle.usb_verdict.specs.{bytes_in, cut_space}
+use Rattle.usb_judge.specs.{HasNoPlace, IsAfter, after_clear, after_loss, at_plug, data_text}
+use Rattle.usb_judge.specs.declared.window.Window.{Window}
 use Rattle.usb_bench.specs.declared.judge.Judge.{Judge}
 use Rattle.usb_bench.specs.declared.received.Receipt.{Receipt}
 use Rattle.usb_bench.specs.declared.received.Report.{Report as ReportRead}

@@ -8,10 +8,11 @@ use Rattle.usb_judge.specs.declared.judgement.Judgement.{Judgement}
 use Rattle.usb_judge.specs.declared.listed.Claim.{Claim}
 use Rattle.usb_judge.specs.declared.listed.Claim.TheVariants.{Device, Refused}
 use Rattle.usb_judge.specs.declared.listed.ListedPort.{ListedPort}
-use Rattle.usb_listing.specs.declared.fault.ListingFault.{ListingFault}
-use Rattle.usb_listing.specs.declared.fault.ListingFault.TheVariants.{NoLine}
-use Rattle.usb_verdict.specs.{counted, fault_line_text, judgement_text, line_joined, port_said}
-use Rattle.usb_verdict.specs.{refusal_text, with_wrong}
+use Rattle.usb_verdict.specs.declared.fault.ListingFault.{ListingFault}
+use Rattle.usb_verdict.specs.declared.fault.ListingFault.TheVariants.{NoLine}
+use Rattle.usb_verdict.specs.{counted, fault_line_text, judgement_text, line_joined, refusal_text}
+use Rattle.usb_verdict.specs.{with_wrong}
+use Rattle.usb_verdict.specs.Reports.{port_said}
 use Rattle.usb_verdict.specs.declared.tally.Tally.{Tally}
 use Rattle.usb_bench.specs.declared.judge.Block.{Block}
 use Rattle.usb_bench.specs.declared.judge.Block.TheVariants as block
@@ -27,7 +28,7 @@ opened line = if begins_with line (codes "listing ") then Some (block.Listing []
     else if bytes_eq line (codes "news") then Some block.News
     else None
 
--- why a line says nothing of a port: it is no text, or as usb_listing reads it
+-- why a line says nothing of a port: it is no text, or as usb_verdict reads it
 abbrev pub IsFaultOf : List ListedPort → List ℕ → ListingFault → Type 0
 IsFaultOf ports line f =
     (IsUtf8 line × (line_joined line (map port_said ports) ≡ Err f))

@@ -14,12 +14,11 @@ use crate::judge::Judge;
 use crate::received::begin_anew;
 use crate::said::put;
 use std::alloc::{AllocError, Global};
-use usb_conduct::{Remark, empty_line, judge_attempt, remark_line, resets_empty};
 use usb_far::{Came, FarEnd};
-use usb_judge::PluggedDevice;
-use usb_plugged::plugged;
+use usb_judge::{PluggedDevice, Remark, empty_line, judge_attempt, remark_line, resets_empty};
 use usb_port::{PortCall, PortPath};
 use usb_sim::{EndpointNumber, SimBus, Trace};
+use usb_verdict::plugged;
 use usb_wire::Question;
 use usb_world::Attempt;
 

@@ -2,7 +2,7 @@
 ghost use Rattle.std.specs.Prelude.{◌<◌};
 ghost use Rattle.usb_world.specs.PlainAttempts.{destination_of};
 
-use usb_conduct::Remark;
+use usb_judge::Remark;
 use usb_port::PortPath;
 use usb_world::Attempt;
 

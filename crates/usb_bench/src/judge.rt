@@ -5,7 +5,7 @@ ghost use Rattle.usb_bench.specs.Summaries.{is_right, summary_text};
 
 use crate::received::Receipt;
 use std::alloc::{AllocError, Global};
-use usb_conduct::Outs;
+use usb_judge::Outs;
 use usb_places::Places;
 use usb_verdict::{ReportedListing, Tally};
 

@@ -16,8 +16,8 @@ use std::alloc::{AllocError, Global};
 use usb_far::{FarEnd, Statuses};
 use usb_judge::PluggedDevice;
 use usb_places::{Deed, Places, Seen, Try};
-use usb_plugged::plugged;
 use usb_sim::{FollowFault, SimBus, Trace};
+use usb_verdict::plugged;
 use usb_wire::Question;
 
 impl Judge {

@@ -13,12 +13,12 @@ use crate::judge::Judge;
 use crate::said::put;
 use std::alloc::Global;
 use std::str;
-use usb_conduct::{Window, data_line};
 use usb_far::FarEnd;
-use usb_listing::{ListingFault, cut_space, read_bytes};
+use usb_judge::{Window, data_line};
 use usb_port::PortPath;
 use usb_request::request_code::{SET_ADDRESS, SET_CONFIGURATION, SET_INTERFACE};
 use usb_sim::{SimBus, Trace};
+use usb_verdict::{ListingFault, cut_space, read_bytes};
 use usb_world::Attempt;
 
 /// The most digits of a line that are read: of a line only the first 1,024 bytes are.

@@ -1,5 +1,5 @@
 //! A box, as its pointer and its allocator: two words, for a struct that crosses to C
-//! (`usb_handle`).
+//! (`usb_host_exports`).
 //!
 //! # What is proved
 //!

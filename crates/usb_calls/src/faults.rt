@@ -2,8 +2,7 @@
 use crate::words::{CallFault, Told};
 use usb_bus::BusFault;
 use usb_enum::{Cause, Request};
-use usb_pipe::PipeFault;
-use usb_transaction::TransFault;
+use usb_transfer::{PipeFault, TransFault};
 
 /// Adds the words of a fault that is named.
 pub(crate) fn play(words: &[&str], out: &mut String) -> Told {

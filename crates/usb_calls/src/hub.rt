@@ -10,10 +10,10 @@ use usb_hub::{
     get_device, get_status, get_string, hub_descriptor, hub_port_status, port_status, set_address,
     set_configuration, set_hub_port, set_port,
 };
+use usb_port::AddressPool;
 use usb_request::feature::{
     C_PORT_CONNECTION, C_PORT_ENABLE, C_PORT_RESET, PORT_ENABLE, PORT_POWER, PORT_RESET,
 };
-use usb_resources::AddressPool;
 
 const PORT: HubPort = HubPort::Root(1);
 

@@ -7,7 +7,7 @@ use crate::words::{
 use arrayvec::ArrayVec;
 use std::alloc::{AllocError, Global};
 use usb_bus::Destination;
-use usb_driver::{
+use usb_dialogue::{
     Answer, Attempt, Bytes, Driver, DriverFault, EndpointAddress, HostOptions, Outcome, Question,
     Statuses, Toggle, Want,
 };

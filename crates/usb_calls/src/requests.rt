@@ -4,8 +4,8 @@ ghost use Rattle.std.specs.Prelude.{◌≤◌, IfOk};
 
 use crate::words::{CallFault, Told, digits, feature, setup_data, short, small};
 use std::alloc::Global;
+use usb_port::{Address, AddressPool, supply};
 use usb_request::Setup;
-use usb_resources::{Address, AddressPool, supply};
 
 /// Makes a call of requests.
 pub(crate) fn play(alloc: Global, words: &[&str], out: &mut String) -> Told {

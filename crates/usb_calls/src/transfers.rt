@@ -1,16 +1,15 @@
 //! Calls of transactions, of control transfers and of pipes: `transaction ..`, `control ..`,
 //! `pipe ..`, `status ..`.
-ghost use Rattle.usb_transaction.specs.Transactions.{IsTarget};
+ghost use Rattle.usb_transfer.specs.Transactions.{IsTarget};
 
 use crate::words::{CallFault, Told, bytes, digits, endpoint, setup_data, short, small, toggle};
 use arrayvec::ArrayVec;
 use std::alloc::{AllocError, Global};
-use usb_pipe::{
-    Bus, EndpointKind, EndpointPipe, InterruptPipe, PipeFault, Setup, Target, UsableEndpoint,
-    control_in, control_none, control_out,
-};
 use usb_request::feature::PORT_POWER;
-use usb_transaction::{Done, TransFault, data_in, data_out, poll_in, setup};
+use usb_transfer::{
+    Bus, Done, EndpointKind, EndpointPipe, InterruptPipe, PipeFault, Setup, Target, TransFault,
+    UsableEndpoint, control_in, control_none, control_out, data_in, data_out, poll_in, setup,
+};
 
 /// A full-speed device at address 1.
 const TARGET: Target = Target {

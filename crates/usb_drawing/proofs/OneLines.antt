@@ -18,7 +18,7 @@ use Rattle.usb_drawing.specs.{cause_number, cause_words, device_text, drawing_li
 use Rattle.usb_drawing.specs.{entry_line, finding_text, gap, heading, heading_end, identity_text}
 use Rattle.usb_drawing.specs.{is_shown, labelled_text, power_text, shown_or_escaped, shown_units}
 use Rattle.usb_drawing.specs.{stall_words, string_text, strings_text, supply_text}
-use Rattle.usb_class.specs.{ClassCodes, class_text, class_word, word_or_number}
+use Rattle.usb_descriptor.specs.{ClassCodes, class_text, class_word, word_or_number}
 use Rattle.usb_drawing.proofs.NoLineFeeds.{HasNoLineFeed, choice, no_line_feed-cons}
 use Rattle.usb_drawing.proofs.NoLineFeeds.{one_no_line_feed, unbroken}
 use Rattle.usb_drawing.proofs.RuleLines.{rule_unbroken}

@@ -1,8 +1,7 @@
 -- What a listed device says it is, and how many ports a hub has.
 use Rattle.std.specs.Prelude.{ℕ, ◌==◌, List, [], ◌++◌, Option, None, Some, codes, decimal}
 use Rattle.std.specs.Prelude.{if◌then◌else◌}
-use Rattle.usb_descriptor.specs.{device_class}
-use Rattle.usb_class.specs.{ClassCodes, device_codes, text_codes}
+use Rattle.usb_descriptor.specs.{device_class, ClassCodes, device_codes, text_codes}
 use Rattle.usb_enum.specs.{Accepted, HubFacts, configuration_of}
 
 -- the device's own, or where its class is 0 those of its configuration's first interface

@@ -8,7 +8,7 @@ use Rattle.usb_enum.specs.{Strings, configuration_of, need_of}
 use Rattle.usb_enum.specs.declared.cause.Request.TheVariants as request
 use Rattle.usb_enum.specs.declared.finding.Finding.TheVariants.{Device, Refused}
 use Rattle.usb_drawing.specs.declared.art.Style.{Style}
-use Rattle.usb_class.specs.{class_text}
+use Rattle.usb_descriptor.specs.{class_text}
 use Rattle.usb_drawing.specs.Classes.{codes_of, ports_text}
 use Rattle.usb_drawing.specs.Texts.{labelled_text}
 

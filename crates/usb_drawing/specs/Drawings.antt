@@ -4,8 +4,7 @@ use Rattle.std.specs.Prelude.{[], ◌∷◌, ◌++◌, length, Option, None, Som
 use Rattle.std.specs.Prelude.{if◌then◌else◌}
 use Rattle.std.specs.List.{list_all}
 use Rattle.std.specs.Cmp.Lexicographic.{pointwise}
-use Rattle.usb_port.specs.{parent_of, path_text}
-use Rattle.usb_resources.specs.{supply_of}
+use Rattle.usb_port.specs.{parent_of, path_text, supply_of}
 use Rattle.usb_enum.specs.{Finding, HubFacts}
 use Rattle.usb_enum.specs.declared.finding.Finding.TheVariants.{Device, Refused}
 use Rattle.usb_serve.specs.{Entries, SpecTree}

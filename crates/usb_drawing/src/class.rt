@@ -3,7 +3,7 @@ ghost use Rattle.std.specs.Prelude.{◌≡◌, ◌++◌, OnOk};
 ghost use Rattle.usb_drawing.specs.Classes.{codes_of, ports_text};
 
 use std::alloc::AllocError;
-use usb_class::{ClassCodes, text_codes};
+use usb_descriptor::{ClassCodes, text_codes};
 use usb_enum::{Accepted, HubFacts};
 use usb_text::push_decimal;
 

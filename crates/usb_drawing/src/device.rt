@@ -7,7 +7,7 @@ use crate::class::{codes_of, push_ports};
 use crate::refusal::push_refused;
 use crate::string::push_labelled;
 use std::alloc::{AllocError, Global};
-use usb_class::push_class;
+use usb_descriptor::push_class;
 use usb_enum::{Accepted, Finding, Strings};
 use usb_text::push_decimal;
 

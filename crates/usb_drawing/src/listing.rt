@@ -10,8 +10,7 @@ use crate::device::push_finding;
 use crate::rule::push_rule;
 use std::alloc::{AllocError, Global};
 use usb_enum::{Finding, HubFacts};
-use usb_port::PortPath;
-use usb_resources::supply;
+use usb_port::{PortPath, supply};
 use usb_scene::Plan;
 use usb_text::{Lines, push_decimal, push_path};
 

@@ -11,9 +11,8 @@ use Rattle.usb_descriptor.specs.declared.item.Item.{Item}
 use Rattle.usb_descriptor.specs.{Interface, Endpoint, Other, TransferType, Control, Isochronous}
 use Rattle.usb_descriptor.specs.{Bulk, Interrupt, is_bulk_size, packet_size, configuration_value}
 use Rattle.usb_descriptor.specs.{max_power_of, device_class, endpoint_number, is_in, items_of}
-use Rattle.usb_descriptor.specs.{max_packet_size, transfer_of}
-use Rattle.usb_class.specs.{ClassCodes, class_text, device_codes, first_codes, interface_codes}
-use Rattle.usb_class.specs.{no_codes}
+use Rattle.usb_descriptor.specs.{max_packet_size, transfer_of, ClassCodes, class_text, device_codes}
+use Rattle.usb_descriptor.specs.{first_codes, interface_codes, no_codes}
 use Rattle.usb_entry.specs.declared.notes.LinuxSpeed.{LinuxSpeed}
 use Rattle.usb_entry.specs.declared.notes.LinuxSpeed.TheVariants.{Full, Low}
 use Rattle.usb_entry.specs.declared.notes.Notes.{Notes}

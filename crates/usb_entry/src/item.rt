@@ -6,8 +6,9 @@ ghost use Rattle.usb_entry.specs.Text.{direction_word, endpoint_line, interface_
 
 use crate::piece::{push_comment, push_decimal, push_text};
 use std::alloc::{AllocError, Global};
-use usb_class::{interface_codes, push_class};
-use usb_descriptor::{ConfigView, EndpointView, InterfaceView, Item, TransferType};
+use usb_descriptor::{
+    ConfigView, EndpointView, InterfaceView, Item, TransferType, interface_codes, push_class,
+};
 
 /// Adds the number of an alternate setting, but of the one in which a device begins.
 #[tactic(auto, unfolding(crate::specs::Text::setting_text))]

@@ -10,7 +10,7 @@ use crate::notes::{LinuxSpeed, Notes};
 use crate::piece::{push_comment, push_decimal, push_digits, push_key, push_text, push_word};
 use crate::speed::is_taken_low;
 use std::alloc::{AllocError, Global};
-use usb_class::{ClassCodes, first_codes, push_class};
+use usb_descriptor::{ClassCodes, first_codes, push_class};
 use usb_request::class_code::HUB_CLASS;
 
 /// The codes of the first interface of the first configuration; 0 each if there is none.

@@ -9,12 +9,10 @@ use Rattle.usb_device.specs.{Spec}
 use Rattle.usb_world.specs.{BusFault, EachWas, World}
 use Rattle.usb_bus.specs.{Steps}
 use Rattle.usb_bus.proofs.Interface.{went_none, went_wider}
-use Rattle.usb_transaction.specs.{Target}
-use Rattle.usb_address.specs.{KeepsAddresses}
-use Rattle.usb_pipe.specs.{BusToldIt, FaultAfter, PipeFault, UsesBus, control_bound}
-use Rattle.usb_pipe.proofs.Interface.{bound_wide}
-use Rattle.usb_hub.specs.{HubPort, GivesAddress, TextAsked, Queried, Commanded, AddressAsked}
-use Rattle.usb_hub.specs.{ConfigurationAsked, EndsAfter, WorksAfter}
+use Rattle.usb_transfer.specs.{Target, BusToldIt, FaultAfter, PipeFault, UsesBus, control_bound}
+use Rattle.usb_hub.specs.{KeepsAddresses, HubPort, GivesAddress, TextAsked, Queried, Commanded}
+use Rattle.usb_hub.specs.{AddressAsked, ConfigurationAsked, EndsAfter, WorksAfter}
+use Rattle.usb_transfer.proofs.Interface.{bound_wide}
 use Rattle.usb_enum.specs.{AtPort, read_bound, OnlyAsks, OnlySets, OnlyTells, FailsAt, Gone, Cause}
 use Rattle.usb_enum.specs.{EnumFault, IsReportedStop, Part, Stop, StopNotOfBus, answered_or}
 use Rattle.usb_enum.specs.{as_stop, at_port, stop_in, Went}

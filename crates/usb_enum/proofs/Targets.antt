@@ -2,8 +2,8 @@
 use Rattle.std.proofs.Common.{◌≡◌, arith, ℕ, ◌≤◌, ◌+◌, ◌*◌, List, Bool, true, is_ok, slice_index}
 use Rattle.usb_descriptor.specs.{is_max_packet, device_head_of, device_spelled}
 use Rattle.usb_hub.specs.{HubPort, status_bound, order_bound}
-use Rattle.usb_pipe.proofs.Interface.{bound_wide}
-use Rattle.usb_pipe.specs.{write_bound}
+use Rattle.usb_transfer.proofs.Interface.{bound_wide}
+use Rattle.usb_transfer.specs.{write_bound}
 use Rattle.usb_enum.specs.{IsWide, read_bound, enumeration_bound, examined_by, widest_enumeration}
 use Rattle.usb_enum.specs.{is_device}
 

@@ -1,10 +1,9 @@
 -- What an enumeration does to the addresses that devices hold.
 use Rattle.std.specs.Prelude.{◌≡◌, ℕ, List, false, None, Some, Result, Ok, Err}
 use Rattle.usb_world.specs.{after_taking, World}
-use Rattle.usb_resources.specs.{Addresses, IsTaken}
-use Rattle.usb_address.specs.{AddressMap, Free, Unused, MapHolds, MapHoldsExcept, Enumerating}
-use Rattle.usb_address.specs.{WhileBusWorks}
-use Rattle.usb_hub.specs.{HubPort, IsAt, EachNamedElsewhere, StaysAs}
+use Rattle.usb_port.specs.{Addresses, IsTaken}
+use Rattle.usb_hub.specs.{AddressMap, Free, Unused, MapHolds, MapHoldsExcept, Enumerating}
+use Rattle.usb_hub.specs.{WhileBusWorks, HubPort, IsAt, EachNamedElsewhere, StaysAs}
 use Rattle.usb_enum.specs.declared.fault.EnumFault.{EnumFault}
 use Rattle.usb_enum.specs.declared.fault.EnumFault.TheVariants.{ParentLost, Bus, Memory}
 use Rattle.usb_enum.specs.declared.finding.Finding.{Finding}

@@ -1,7 +1,7 @@
 -- How many attempts each part of an enumeration may take.
 use Rattle.std.specs.Prelude.{ℕ, ◌+◌, ◌*◌, ◌≤◌, ⊤}
 use Rattle.usb_request.specs.{CONFIGURATION_LENGTH, DEVICE_HEAD_LENGTH, DEVICE_LENGTH, HUB_LENGTH}
-use Rattle.usb_pipe.specs.{write_bound}
+use Rattle.usb_transfer.specs.{write_bound}
 use Rattle.usb_hub.specs.{HubPort, Root, External, status_bound, order_bound}
 
 -- one transfer that reads, at a maximum packet of 8 or more

@@ -3,7 +3,7 @@ use Rattle.std.specs.Prelude.{◌≡◌, Bool, true, false, Option, None, Result
 use Rattle.usb_request.specs.{C_PORT_RESET}
 use Rattle.usb_port.specs.{PortStatus, PortCall, clear_call}
 use Rattle.usb_world.specs.{World}
-use Rattle.usb_pipe.specs.{PipeFault}
+use Rattle.usb_transfer.specs.{PipeFault}
 use Rattle.usb_hub.specs.{HubPort, CommandsPort, ReadsPort, PortRead}
 use Rattle.usb_enum.specs.declared.fault.EnumFault.{EnumFault}
 use Rattle.usb_enum.specs.Losses.{NoNewStretch}

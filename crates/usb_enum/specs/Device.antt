@@ -7,7 +7,7 @@ use Rattle.usb_request.specs.{HUB_CLASS}
 use Rattle.usb_hub.specs.{HubPort, Root, External}
 use Rattle.usb_world.specs.{World}
 use Rattle.usb_port.specs.{IsPortNumber}
-use Rattle.usb_transaction.specs.{Target, IsTarget}
+use Rattle.usb_transfer.specs.{Target, IsTarget}
 use Rattle.usb_device.specs.{status_length}
 use Rattle.usb_descriptor.specs.{status_endpoint_of, most_ports, device_spelled, device_class}
 use Rattle.usb_descriptor.specs.{manufacturer_index, product_index, serial_index, max_packet_0}

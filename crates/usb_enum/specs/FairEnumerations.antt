@@ -2,11 +2,10 @@
 use Rattle.usb_device.specs.{path_to, Spec, State, state_there}
 use Rattle.std.specs.Prelude.{◌≡◌, ◌⊎◌, ◌+◌, ◌≤◌, ℕ, List, Option, None, Some, IsSomeAnd, true, ⊤}
 use Rattle.usb_port.specs.{parent_of}
-use Rattle.usb_tree.specs.{pending}
-use Rattle.usb_world.specs.{World}
-use Rattle.usb_transaction.specs.{Target, NoThreeDamaged}
-use Rattle.usb_address.specs.{AddressMap, Enumerating, WhileBusWorks}
-use Rattle.usb_hub.specs.{HubPort, Root, External, HubServes}
+use Rattle.usb_world.specs.{pending, World}
+use Rattle.usb_transfer.specs.{Target, NoThreeDamaged}
+use Rattle.usb_hub.specs.{AddressMap, Enumerating, WhileBusWorks, HubPort, Root, External}
+use Rattle.usb_hub.specs.{HubServes}
 use Rattle.usb_enum.specs.declared.addressed.Addressed.{Addressed}
 use Rattle.usb_enum.specs.declared.cause.Cause.{Cause}
 use Rattle.usb_enum.specs.declared.fault.EnumFault.{EnumFault}

@@ -3,12 +3,11 @@ use Rattle.std.specs.Prelude.{◌≡◌, ◌⊎◌, ◌≤◌, ℕ, ◌+◌, ◌
 use Rattle.std.specs.Prelude.{None, Some, Result, Ok, Err, IfOk, IfSome, MatchResult, length}
 use Rattle.usb_request.specs.{PORT_ENABLE, clear_port_feature}
 use Rattle.usb_device.specs.{state_there, State}
-use Rattle.usb_tree.specs.{pending}
-use Rattle.usb_world.specs.{World, root_port_at}
-use Rattle.usb_transaction.specs.{NoThreeDamaged, Target}
-use Rattle.usb_hub.specs.{HubPort, Root, External, IsAt, Commanded, IsFresh}
-use Rattle.usb_resources.specs.{Addresses, IsAddress, IsTaken, Takes, IsFull}
-use Rattle.usb_address.specs.{AddressMap, Free, MapHolds, Enumerating, WhileBusWorks}
+use Rattle.usb_world.specs.{pending, World, root_port_at}
+use Rattle.usb_transfer.specs.{NoThreeDamaged, Target}
+use Rattle.usb_hub.specs.{HubPort, Root, External, IsAt, Commanded, IsFresh, AddressMap, Free}
+use Rattle.usb_hub.specs.{MapHolds, Enumerating, WhileBusWorks}
+use Rattle.usb_port.specs.{Addresses, IsAddress, IsTaken, Takes, IsFull}
 use Rattle.usb_descriptor.specs.{configuration_value, configuration_count}
 use Rattle.usb_enum.specs.declared.addressed.Addressed.{Addressed}
 use Rattle.usb_enum.specs.declared.cause.Cause.{Cause}

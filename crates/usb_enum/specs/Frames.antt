@@ -2,10 +2,9 @@
 use Rattle.usb_device.specs.{Location, State}
 use Rattle.std.specs.Prelude.{◌≡◌, ◌==◌, ℕ, List, false, None, Some}
 use Rattle.usb_world.specs.{BusFault, KeepsPendingAt, EachWas, LeavesPortAlone, Course, World}
-use Rattle.usb_tree.specs.{address_of, is_way}
-use Rattle.usb_address.specs.{AddressMap, MapHolds, KeepsAddresses}
-use Rattle.usb_backlog.specs.{KeepsAll, KeepsFound}
-use Rattle.usb_hub.specs.{StaysAs, EachElsewhere, KeepsDevices, TouchesNoPort, TouchesPortsBelow}
+use Rattle.usb_world.specs.{address_of, is_way}
+use Rattle.usb_hub.specs.{AddressMap, MapHolds, KeepsAddresses, KeepsAll, KeepsFound, StaysAs}
+use Rattle.usb_hub.specs.{EachElsewhere, KeepsDevices, TouchesNoPort, TouchesPortsBelow}
 use Rattle.usb_hub.specs.{ControlCourse}
 
 -- On a device

@@ -3,9 +3,9 @@ use Rattle.std.specs.Prelude.{◌≡◌, ℕ, zero, suc, true, false, Ok}
 use Rattle.std.specs.Global.{Vec}
 use Rattle.usb_request.specs.{PORT_POWER, get_hub_descriptor, get_status, set_port_feature}
 use Rattle.usb_world.specs.{World}
-use Rattle.usb_transaction.specs.{Target}
+use Rattle.usb_transfer.specs.{Target}
 use Rattle.usb_descriptor.specs.{hub_spelled, port_count}
-use Rattle.usb_resources.specs.{supply_of}
+use Rattle.usb_port.specs.{supply_of}
 use Rattle.usb_hub.specs.{DeviceStatus, Queried, ReadAs, Commanded, device_status}
 use Rattle.usb_enum.specs.declared.hub.HubFacts.{HubFacts}
 

@@ -1,9 +1,8 @@
 -- What was learned of a device from its answers, seen from where it is reachable after them.
 use Rattle.usb_device.specs.{Location, Spec, IsSpec, OnlyStage, State}
 use Rattle.std.specs.Prelude.{◌≡◌, ◌≢◌, true, false}
-use Rattle.usb_world.specs.{EachWas, hears_attempt, World}
-use Rattle.usb_tree.specs.{address_of, deep_at}
-use Rattle.usb_transaction.specs.{Target, is_at, in_attempt, NoThreeDamaged}
+use Rattle.usb_world.specs.{EachWas, hears_attempt, World, address_of, deep_at}
+use Rattle.usb_transfer.specs.{Target, is_at, in_attempt, NoThreeDamaged}
 
 -- nothing of a device changed but where its transfer stands; of the target's device this is so
 pub record Learned (So : Spec → Type 0) (t : Target) (x : Location) (s v : State) : Type 0 where

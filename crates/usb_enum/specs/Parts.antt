@@ -5,7 +5,7 @@ use Rattle.std.specs.Prelude.{MatchResult, ⊤}
 use Rattle.usb_device.specs.{Spec}
 use Rattle.usb_world.specs.{BusFault, World}
 use Rattle.usb_bus.specs.{Spends, StepRun}
-use Rattle.usb_transaction.specs.{NoThreeDamaged, Target}
+use Rattle.usb_transfer.specs.{NoThreeDamaged, Target}
 use Rattle.usb_hub.specs.{HubPort, StillWorks}
 use Rattle.usb_enum.specs.declared.addressed.Addressed.{Addressed}
 use Rattle.usb_enum.specs.declared.cause.Cause.{Cause}

@@ -2,8 +2,7 @@
 use Rattle.std.specs.Prelude.{◌≡◌, ◌⊎◌, ◌≤◌, ℕ, List, [], ◌∷◌, ◌++◌, Option, None, Some, IsSome}
 use Rattle.std.specs.Prelude.{IfSome, true, false}
 use Rattle.usb_device.specs.{Ports, reach, state_there, port_there}
-use Rattle.usb_tree.specs.{has_power, pending}
-use Rattle.usb_world.specs.{World}
+use Rattle.usb_world.specs.{has_power, pending, World}
 use Rattle.usb_enum.specs.declared.finding.Accepted.{Accepted}
 use Rattle.usb_enum.specs.declared.finding.Finding.{Finding}
 use Rattle.usb_enum.specs.declared.finding.Finding.TheVariants.{Device, Refused}

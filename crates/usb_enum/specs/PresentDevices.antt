@@ -4,11 +4,9 @@ use Rattle.std.specs.Prelude.{⊤}
 use Rattle.usb_device.specs.{Spec, State, reach, Location, state_there}
 use Rattle.usb_request.specs.{DEVICE_HEAD_LENGTH, DEVICE_LENGTH}
 use Rattle.usb_descriptor.specs.{device_head_of, configuration_count}
-use Rattle.usb_world.specs.{EachWas, WorldInvariant, World}
-use Rattle.usb_tree.specs.{address_of}
-use Rattle.usb_transaction.specs.{Target, is_at}
-use Rattle.usb_address.specs.{AddressMap, Enumerating, WhileBusWorks}
-use Rattle.usb_hub.specs.{HubPort, IsClaimed, IsFresh}
+use Rattle.usb_world.specs.{EachWas, WorldInvariant, World, address_of}
+use Rattle.usb_transfer.specs.{Target, is_at}
+use Rattle.usb_hub.specs.{AddressMap, Enumerating, WhileBusWorks, HubPort, IsClaimed, IsFresh}
 use Rattle.usb_enum.specs.declared.addressed.Addressed.{Addressed}
 use Rattle.usb_enum.specs.declared.finding.Accepted.{Accepted}
 use Rattle.usb_enum.specs.declared.hub.HubFacts.{HubFacts}

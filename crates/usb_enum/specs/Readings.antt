@@ -2,11 +2,11 @@
 use Rattle.std.specs.Prelude.{◌≡◌, ℕ, ◌==◌, Bool, true, false, if◌then◌else◌, List, take, Option}
 use Rattle.std.specs.Prelude.{None, Some, option_map, option_and_then, Ok}
 use Rattle.std.specs.Global.{Vec}
-use Rattle.usb_resources.specs.{supply_of}
+use Rattle.usb_port.specs.{supply_of}
 use Rattle.usb_request.specs.{CONFIGURATION_LENGTH, HUB_LENGTH}
 use Rattle.usb_descriptor.specs.{config_head_of, hub_spelled, port_count}
 use Rattle.usb_device.specs.{Spec, IsSpec, max_packet, said_length}
-use Rattle.usb_transaction.specs.{Target}
+use Rattle.usb_transfer.specs.{Target}
 use Rattle.usb_hub.specs.{config_given, hub_given}
 use Rattle.usb_enum.specs.declared.hub.HubFacts.{HubFacts}
 use Rattle.usb_enum.specs.declared.strings.Strings.{Strings}

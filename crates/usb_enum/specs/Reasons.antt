@@ -6,15 +6,13 @@ use Rattle.usb_request.specs.{Setup, CONFIGURATION_LENGTH, DEVICE_HEAD_LENGTH, D
 use Rattle.usb_request.specs.{PORT_POWER, get_device_descriptor, get_configuration_descriptor}
 use Rattle.usb_request.specs.{get_hub_descriptor, get_status, set_address, set_configuration}
 use Rattle.usb_request.specs.{set_port_feature}
-use Rattle.usb_port.specs.{PortStatus}
+use Rattle.usb_port.specs.{PortStatus, Addresses, IsFree, IsFull}
 use Rattle.usb_descriptor.specs.{DescriptorFault, status_endpoint_of, config_head_of}
 use Rattle.usb_descriptor.specs.{configuration_value, configuration_count, device_head_of}
 use Rattle.usb_descriptor.specs.{hub_spelled}
-use Rattle.usb_resources.specs.{Addresses, IsFree, IsFull}
 use Rattle.usb_world.specs.{World, HasFault}
-use Rattle.usb_transaction.specs.{Target}
-use Rattle.usb_pipe.specs.{PipeFault, Reads, WasRead, Writes}
-use Rattle.usb_pipe.specs.declared.fault.PipeFault.TheVariants as pipe
+use Rattle.usb_transfer.specs.{Target, PipeFault, Reads, WasRead, Writes}
+use Rattle.usb_transfer.specs.declared.fault.PipeFault.TheVariants as pipe
 use Rattle.usb_hub.specs.{HubPort, PortCleared, PortRead, PortSet, device_status, said_in}
 use Rattle.usb_enum.specs.declared.addressed.Addressed.{Addressed}
 use Rattle.usb_enum.specs.declared.cause.Cause.{Cause}

@@ -6,7 +6,7 @@ use Rattle.usb_request.specs.{DEVICE_HEAD_LENGTH, DEVICE_LENGTH}
 use Rattle.usb_descriptor.specs.{device_head_of, configuration_count}
 use Rattle.usb_device.specs.{Spec, max_packet}
 use Rattle.usb_world.specs.{World}
-use Rattle.usb_transaction.specs.{Target}
+use Rattle.usb_transfer.specs.{Target}
 use Rattle.usb_hub.specs.{IsClaimed, HasPort}
 use Rattle.usb_enum.specs.declared.cause.Cause.{Cause}
 use Rattle.usb_enum.specs.declared.cause.Cause.TheVariants.{Silent, Busy, Stalled, BadDevice}

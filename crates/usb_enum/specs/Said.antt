@@ -1,10 +1,10 @@
 -- What a device said of itself: its device descriptor (9.6.1), as far as an enumeration read it.
 use Rattle.std.specs.Prelude.{◌≡◌, ◌⊎◌, ⊤, ℕ, Bool, true, List, [], take}
 use Rattle.usb_request.specs.{DEVICE_LENGTH, get_device_descriptor}
-use Rattle.usb_resources.specs.{Addresses, IsFree}
+use Rattle.usb_port.specs.{Addresses, IsFree}
 use Rattle.usb_device.specs.{Spec}
 use Rattle.usb_world.specs.{World}
-use Rattle.usb_transaction.specs.{Target}
+use Rattle.usb_transfer.specs.{Target}
 use Rattle.usb_hub.specs.{HubPort}
 use Rattle.usb_enum.specs.declared.cause.Cause.{Cause}
 use Rattle.usb_enum.specs.declared.finding.Finding.{Finding}

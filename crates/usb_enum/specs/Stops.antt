@@ -4,8 +4,8 @@ use Rattle.std.specs.Prelude.{MatchResult}
 use Rattle.usb_enum.specs.Device.{LAST_TIER}
 use Rattle.usb_world.specs.{BusFault, World, HasFault}
 use Rattle.usb_hub.specs.{HubPort, Root, External, StillWorks}
-use Rattle.usb_pipe.specs.{PipeFault}
-use Rattle.usb_pipe.specs.declared.fault.PipeFault.TheVariants as pipe
+use Rattle.usb_transfer.specs.{PipeFault}
+use Rattle.usb_transfer.specs.declared.fault.PipeFault.TheVariants as pipe
 use Rattle.usb_enum.specs.declared.cause.Cause.{Cause}
 use Rattle.usb_enum.specs.declared.cause.Cause.TheVariants as cause
 use Rattle.usb_enum.specs.declared.cause.Request.{Request}

@@ -4,9 +4,8 @@ use Rattle.std.specs.Prelude.{◌≡◌, ◌≢◌, ℕ, List, Option, None, Som
 use Rattle.std.specs.Global.{Vec}
 use Rattle.usb_request.specs.{get_string_descriptor}
 use Rattle.usb_world.specs.{World}
-use Rattle.usb_transaction.specs.{Target}
-use Rattle.usb_pipe.specs.declared.fault.PipeFault.TheVariants.{Stalled}
-use Rattle.usb_pipe.specs.{Reads}
+use Rattle.usb_transfer.specs.{Target, Reads}
+use Rattle.usb_transfer.specs.declared.fault.PipeFault.TheVariants.{Stalled}
 use Rattle.usb_hub.specs.{HubPort}
 use Rattle.usb_enum.specs.declared.finding.Accepted.{Accepted}
 use Rattle.usb_enum.specs.declared.strings.StringIndexes.{StringIndexes}

@@ -5,9 +5,8 @@ use Rattle.usb_device.specs.{Spec, State, said_lengths, max_packet, Location, re
 use Rattle.usb_world.specs.{Action, Plug, Unplug, PlanData, IsPlan, AtPorts, AnyStep, Course}
 use Rattle.usb_world.specs.{opening, World}
 use Rattle.usb_world.specs.declared.event.Action.TheVariants.{Change, Ask}
-use Rattle.usb_transaction.specs.{Target, HadOne, is_at}
-use Rattle.usb_address.specs.{AddressMap, Enumerating, WhileBusWorks}
-use Rattle.usb_hub.specs.{HubPort}
+use Rattle.usb_transfer.specs.{Target, HadOne, is_at}
+use Rattle.usb_hub.specs.{AddressMap, Enumerating, WhileBusWorks, HubPort}
 use Rattle.usb_enum.specs.declared.stop.Stop.{Stop}
 use Rattle.usb_enum.specs.Addresses.{IsSpare}
 use Rattle.usb_enum.specs.Bounds.{text_bound, examined_by}

@@ -6,7 +6,7 @@ use Rattle.std.specs.Prelude.{is_some, option_map, option_and_then, Result, Ok, 
 use Rattle.std.specs.Prelude.{if◌then◌else◌, nat_lt}
 use Rattle.std.specs.List.{sum_by}
 use Rattle.std.specs.Option.{option_or}
-use Rattle.usb_resources.specs.{supply_of}
+use Rattle.usb_port.specs.{supply_of}
 use Rattle.usb_request.specs.{CONFIGURATION_LENGTH, DEVICE_HEAD_LENGTH, DEVICE_LENGTH, HUB_LENGTH}
 use Rattle.usb_descriptor.specs.{device_head_of, configuration_count, config_head_of, config_of}
 use Rattle.usb_descriptor.specs.{configuration_value, total_in, status_endpoint_of, hub_spelled}

@@ -1,13 +1,13 @@
 //! A device that has its address.
 ghost use Rattle.std.specs.Prelude.{◌≡◌, ◌≤◌, ◌==◌, true};
-ghost use Rattle.usb_transaction.specs.Transactions.{IsTarget};
+ghost use Rattle.usb_transfer.specs.Transactions.{IsTarget};
 ghost use Rattle.usb_descriptor.specs.Device.{device_class, configuration_count};
 ghost use Rattle.usb_enum.specs.Device.{is_device, string_indexes};
 
 use crate::strings::StringIndexes;
 use usb_descriptor::DeviceView;
 use usb_request::class_code::HUB_CLASS;
-use usb_transaction::Target;
+use usb_transfer::Target;
 
 /// A device that has its address, and its device descriptor.
 #[derive(Drop)]

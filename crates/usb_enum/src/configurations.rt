@@ -1,7 +1,7 @@
 //! The configurations of a device: each is read, and one is chosen.
 ghost use Rattle.std.specs.Prelude.{◌≡◌, ◌≤◌, ◌<◌, ◌*◌, ℕ, Option, length, false, true, IfSome, MatchResult};
 ghost use Rattle.usb_request.specs.Codes.{CONFIGURATION_LENGTH};
-ghost use Rattle.usb_transaction.specs.Transactions.{IsTarget};
+ghost use Rattle.usb_transfer.specs.Transactions.{IsTarget};
 ghost use Rattle.usb_enum.specs.Bounds.{read_bound, configuration_bound, texts_bound};
 ghost use Rattle.usb_enum.specs.Parts.{Answered, Read, StopsRead, StopsText, StopsTexts};
 ghost use Rattle.usb_enum.specs.Verdicts.{config_fault, is_over};
@@ -19,13 +19,13 @@ use usb_bus::Bus;
 use usb_descriptor::config_head;
 use usb_hub::get_config;
 use usb_request::descriptor_length::CONFIGURATION_LENGTH;
-use usb_transaction::Target;
+use usb_transfer::Target;
 
 /// How many bytes of a configuration are asked for before all of it.
 const HEAD: u16 = CONFIGURATION_LENGTH as u16;
 
 /// wTotalLength of the configuration of an index, from its first nine bytes.
-#[tactic(auto, using(usb_pipe::proofs::Interface::bound_wide))]
+#[tactic(auto, using(usb_transfer::proofs::Interface::bound_wide))]
 fn total_length<B: Bus>(alloc: Global, bus: &mut B, target: Target, index: u8) -> Result<u16, Stop>
     requires target { IsTarget target }
     requires max { 8 ≤ target.max }
@@ -46,7 +46,7 @@ fn total_length<B: Bus>(alloc: Global, bus: &mut B, target: Target, index: u8) -
 }
 
 /// The configuration text of an index. It is read whole only if it fits what is left.
-#[tactic(auto, using(usb_pipe::proofs::Interface::bound_wide))]
+#[tactic(auto, using(usb_transfer::proofs::Interface::bound_wide))]
 fn read_text<B: Bus>(
     alloc: Global,
     bus: &mut B,

@@ -4,7 +4,7 @@ ghost use Rattle.usb_enum.specs.Device.{configuration_of, target_of};
 
 use crate::{Accepted, ConfigText};
 use usb_descriptor::max_packet_0;
-use usb_transaction::Target;
+use usb_transfer::Target;
 
 impl Accepted {
     /// The configuration that the device was set to.

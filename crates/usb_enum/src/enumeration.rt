@@ -1,7 +1,7 @@
 //! The whole enumeration.
 ghost use Rattle.std.specs.Prelude.{◌≡◌, IfOk, IfErr, MatchResult, true, Err};
 ghost use Rattle.usb_bus.specs.Traces.{Steps};
-ghost use Rattle.usb_pipe.specs.Uses.{UsesBus};
+ghost use Rattle.usb_transfer.specs.Uses.{UsesBus};
 ghost use Rattle.usb_hub.specs.Port.{IsAsked, order_bound};
 ghost use Rattle.usb_enum.specs.Addresses.{AtPort};
 ghost use Rattle.usb_enum.specs.Bounds.{unaddressed_bound, examination_bound, enumeration_bound, configured_bound, configured_by, hub_bound};
@@ -25,8 +25,8 @@ use arrayvec::ArrayVec;
 use std::alloc::Global;
 use usb_bus::Bus;
 use usb_hub::{HubPort, clear_port, set_configuration};
+use usb_port::{Address, AddressPool};
 use usb_request::feature::PORT_ENABLE;
-use usb_resources::{Address, AddressPool};
 
 /// The last tier in which a device may be (4.1.1).
 const LAST_TIER: u8 = 7;

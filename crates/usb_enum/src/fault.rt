@@ -6,7 +6,7 @@ ghost use Rattle.usb_enum.specs.declared.fault.EnumFault.TheVariants.{Memory as 
 use std::alloc::AllocError;
 use thiserror::Error;
 use usb_bus::BusFault;
-use usb_pipe::PipeFault;
+use usb_transfer::PipeFault;
 
 /// Why an enumeration ended with no finding.
 #[derive(Clone, Copy, Debug, PartialEq, Eq, Error)]

@@ -3,7 +3,7 @@ ghost use Rattle.std.specs.Prelude.{◌≡◌, ◌<◌, length, IfOk};
 
 use crate::{Cause, ConfigTexts, HubFacts, Strings};
 use std::alloc::{AllocError, Global};
-use usb_resources::Address;
+use usb_port::Address;
 
 /// What was found at a port.
 #[derive(Debug, Drop)]

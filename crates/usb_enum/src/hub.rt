@@ -4,8 +4,8 @@ ghost use Rattle.usb_request.specs.Codes.{HUB_LENGTH};
 ghost use Rattle.usb_port.specs.Path.{IsPortNumber};
 ghost use Rattle.usb_descriptor.specs.Hub.{most_ports};
 ghost use Rattle.usb_device.specs.{status_length};
-ghost use Rattle.usb_transaction.specs.Transactions.{IsTarget};
-ghost use Rattle.usb_pipe.specs.Control.{write_bound};
+ghost use Rattle.usb_transfer.specs.Transactions.{IsTarget};
+ghost use Rattle.usb_transfer.specs.Control.{write_bound};
 ghost use Rattle.usb_enum.specs.Bounds.{read_bound, hub_bound};
 ghost use Rattle.usb_enum.specs.LearnedFacts.{DeviceFact};
 ghost use Rattle.usb_enum.specs.Parts.{Answered, Both, Part, Read, StopsHub, StopsPower, StopsStart};
@@ -21,9 +21,9 @@ use std::alloc::Global;
 use usb_bus::Bus;
 use usb_descriptor::read_hub;
 use usb_hub::{get_status, hub_descriptor, set_hub_port};
+use usb_port::supply;
 use usb_request::feature::PORT_POWER;
-use usb_resources::supply;
-use usb_transaction::Target;
+use usb_transfer::Target;
 
 /// What a hub says of its ports.
 #[derive(Clone, Copy, Debug, PartialEq, Eq)]
@@ -64,7 +64,7 @@ pub(crate) fn start_hub<B: Bus>(
 }
 
 /// bNbrPorts of the hub descriptor, 1 to 7; to 15 of a wide hub, where such are taken.
-#[tactic(auto, using(usb_pipe::proofs::Interface::bound_wide))]
+#[tactic(auto, using(usb_transfer::proofs::Interface::bound_wide))]
 fn port_count<B: Bus>(alloc: Global, bus: &mut B, target: Target, wide: bool) -> Result<u8, Stop>
     requires target { IsTarget target }
     requires max { 8 ≤ target.max }
@@ -89,7 +89,7 @@ fn status_length(ports: u8) -> u8
 }
 
 /// What each port of a hub gives, in mA, by the hub's status.
-#[tactic(auto, using(usb_pipe::proofs::Interface::bound_wide, crate::proofs::ports::Hubs::hub_supply))]
+#[tactic(auto, using(usb_transfer::proofs::Interface::bound_wide, crate::proofs::ports::Hubs::hub_supply))]
 fn port_supply<B: Bus>(alloc: Global, bus: &mut B, target: Target) -> Result<u16, Stop>
     requires target { IsTarget target }
     requires max { 8 ≤ target.max }

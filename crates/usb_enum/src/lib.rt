@@ -37,4 +37,4 @@ pub use options::HostOptions;
 pub use strings::Strings;
 pub use text::{ConfigText, ConfigTexts, StringUnits};
 pub use usb_hub::{Bus, BusFault, HubPort};
-pub use usb_resources::{Address, AddressPool};
+pub use usb_port::{Address, AddressPool};

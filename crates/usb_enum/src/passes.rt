@@ -5,7 +5,7 @@ ghost use Rattle.usb_request.specs.declared.feature.TheConstants.{PORT_RESET};
 ghost use Rattle.usb_port.specs.Calls.{set_call};
 ghost use Rattle.usb_hub.specs.Addresses.{KeepsDevices, Resets};
 ghost use Rattle.usb_hub.specs.Port.{IsAsked, status_bound, order_bound};
-ghost use Rattle.usb_transaction.specs.Transactions.{IsTarget};
+ghost use Rattle.usb_transfer.specs.Transactions.{IsTarget};
 ghost use Rattle.usb_enum.specs.Addresses.{AtPort};
 ghost use Rattle.usb_enum.specs.Bounds.{PASSES, read_bound, reset_bound, unaddressed_bound, pass_bound};
 ghost use Rattle.usb_enum.specs.Calls.{CalledAt, SettlesReset, StatusAt};
@@ -28,10 +28,9 @@ use std::alloc::Global;
 use usb_bus::Bus;
 use usb_descriptor::{device_head, read_device};
 use usb_hub::{HubPort, PortStatus, clear_port, get_device, port_status, set_address, set_port};
-use usb_pipe::PipeFault;
 use usb_request::descriptor_length::{DEVICE_HEAD_LENGTH, DEVICE_LENGTH};
 use usb_request::feature::{C_PORT_RESET, PORT_RESET};
-use usb_transaction::Target;
+use usb_transfer::{PipeFault, Target};
 
 /// How often a device is given its address at most.
 const PASSES: u8 = 3;
@@ -110,7 +109,7 @@ fn needs_pre(port: HubPort) -> bool
 }
 
 /// The maximum packet of endpoint 0, from the first eight bytes of the device descriptor.
-#[tactic(auto, using(usb_pipe::proofs::Interface::bound_wide), unfolding(usb_descriptor::specs::Device::device_head_of))]
+#[tactic(auto, using(usb_transfer::proofs::Interface::bound_wide), unfolding(usb_descriptor::specs::Device::device_head_of))]
 fn first_maximum<B: Bus>(
     alloc: Global,
     bus: &mut B,
@@ -136,7 +135,7 @@ fn first_maximum<B: Bus>(
 }
 
 /// The device descriptor, or `None` if the device gave no answer.
-#[tactic(auto, using(usb_pipe::proofs::Interface::bound_wide))]
+#[tactic(auto, using(usb_transfer::proofs::Interface::bound_wide))]
 fn descriptor<B: Bus>(
     alloc: Global,
     bus: &mut B,

@@ -6,7 +6,7 @@ ghost use Rattle.usb_enum.specs.declared.fault.EnumFault.TheVariants.{Memory as 
 
 use crate::{Cause, EnumFault};
 use std::alloc::AllocError;
-use usb_pipe::PipeFault;
+use usb_transfer::PipeFault;
 
 /// What ends an enumeration early.
 #[derive(Clone, Copy, Debug, PartialEq, Eq)]

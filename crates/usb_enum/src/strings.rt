@@ -1,6 +1,6 @@
 //! The strings of a device (9.6.7).
 ghost use Rattle.std.specs.Prelude.{◌≡◌, ◌≤◌, IfOk, IfErr};
-ghost use Rattle.usb_transaction.specs.Transactions.{IsTarget};
+ghost use Rattle.usb_transfer.specs.Transactions.{IsTarget};
 ghost use Rattle.usb_enum.specs.Bounds.{read_bound, strings_bound};
 ghost use Rattle.usb_enum.specs.Verdicts.{strings_by};
 ghost use Rattle.usb_enum.specs.Parts.{Answered, Read, StopsRead};
@@ -16,7 +16,7 @@ use std::alloc::{AllocError, Global};
 use usb_bus::Bus;
 use usb_descriptor::read_string;
 use usb_hub::get_string;
-use usb_transaction::Target;
+use usb_transfer::Target;
 
 /// The strings that a device descriptor names, each in the device's first language. A string that
 /// the descriptor names by 0, that the device does not give or that is malformed is `None`.
@@ -90,7 +90,7 @@ fn units_of(alloc: Global, bytes: &[u8]) -> Result<Option<StringUnits>, AllocErr
 }
 
 /// The bytes of a string descriptor, or `None` if the device answered by STALL.
-#[tactic(auto, using(usb_pipe::proofs::Interface::bound_wide))]
+#[tactic(auto, using(usb_transfer::proofs::Interface::bound_wide))]
 fn string_bytes<B: Bus>(
     alloc: Global,
     bus: &mut B,

@@ -12,13 +12,13 @@ ghost use Rattle.usb_world.specs.Worlds.{IsAttempt};
 ghost use Rattle.usb_world.specs.Wire.{has_its_bit, marked, marked_some};
 ghost use Rattle.usb_world.specs.declared.wire.Mark.TheVariants.{Flipped};
 ghost use Rattle.usb_world.specs.Exchanges.{ack_if, blank, token_of, payload_of, answer_place, answer_mark, reply_of, goes_out, token_out, payload_out, sent_as, is_lost, clears_at};
-ghost use Rattle.usb_tree.specs.AttemptPackets.{IsSettled, after_sent};
+ghost use Rattle.usb_world.specs.AttemptPackets.{IsSettled, after_sent};
 ghost use Rattle.usb_world.specs.ExchangeEffects.{StaysPlugged, PacketsWent, SentAlong, MadeAlong, Exchanged};
 ghost use Rattle.usb_world.specs.CutPackets.{IsStopped};
 ghost use Rattle.usb_world.specs.Steps.{IsCut};
 ghost use Rattle.usb_world.specs.HeardAnswers.{heard_above};
 ghost use Rattle.usb_world.specs.Silence.{silent_exchange};
-ghost use Rattle.usb_tree.specs.LonePackets.{AloneAt, IsQuiet, KeptAt, is_whole_tree, is_deep};
+ghost use Rattle.usb_world.specs.LonePackets.{AloneAt, IsQuiet, KeptAt, is_whole_tree, is_deep};
 ghost use Rattle.usb_world.specs.HostSides.{host_side, keeps_address};
 
 use crate::wire::{OutgoingRoom, flipped, harm_to, mark_of, marked};

@@ -4,10 +4,10 @@ ghost use Rattle.usb_function.specs.HolderIndex.{IsIndexOf};
 ghost use Rattle.usb_world.specs.PlainAttempts.{attempt_data};
 ghost use Rattle.usb_world.specs.Worlds.{IsAttempt};
 ghost use Rattle.usb_world.specs.ExchangeEffects.{StaysPlugged, Exchanged};
-ghost use Rattle.usb_tree.specs.AttemptPackets.{IsSettled};
+ghost use Rattle.usb_world.specs.AttemptPackets.{IsSettled};
 ghost use Rattle.usb_world.specs.Steps.{IsCut};
 ghost use Rattle.usb_exchange.specs.Route.{way_in};
-ghost use Rattle.usb_tree.specs.LonePackets.{IsWayTo};
+ghost use Rattle.usb_world.specs.LonePackets.{IsWayTo};
 
 use crate::exchange::{ExchangeRoom, exchange_along, is_whole, make_silence};
 use arrayvec::ArrayVec;

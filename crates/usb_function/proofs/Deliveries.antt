@@ -3,8 +3,7 @@ use Rattle.std.proofs.Common.{◌≡◌, Bool, List, [], ◌∷◌}
 use Rattle.std.proofs.Common.{length, refl, arith}
 use Rattle.usb_device.specs.{Sent}
 use Rattle.usb_function.specs.{ports_kept}
-use Rattle.usb_device.specs.{before, answer_of, after_packet}
-use Rattle.usb_device.specs.{both, heard_joined}
+use Rattle.usb_device.specs.{after_packet}
 use Rattle.usb_device.specs.{delivered}
 use Rattle.usb_device.specs.{answers}
 use Rattle.usb_device.specs.declared.delivery.Heard.TheVariants.{NoAnswer}

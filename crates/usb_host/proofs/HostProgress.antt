@@ -1,8 +1,7 @@
 -- That the host gets on.
 use Rattle.std.proofs.Common.{◌≡◌, refl, ap, arith, ℕ, ◌+◌, ◌≤◌, ◌⊎◌, List, Ok, Err, Result, OnOk}
-use Rattle.usb_port.specs.{PortStatus}
+use Rattle.usb_port.specs.{PortStatus, IsFull}
 use Rattle.usb_world.proofs.Interface.{way_itself}
-use Rattle.usb_resources.specs.{IsFull}
 use Rattle.usb_enum.specs.declared.cause.Cause.TheVariants as cause
 use Rattle.usb_enum.specs.{EnumFault, FaultAllowedAt}
 use Rattle.usb_table.specs.{Replaced, without, is_waiting}

@@ -2,17 +2,14 @@
 use Rattle.std.proofs.Common.{◌≡◌, ◌∙◌, ◌+◌, ◌≤◌, ◌≢◌, ◌⊎◌, ap, arith, inl, inr, refl, ℕ, List}
 use Rattle.std.proofs.Common.{Option, None, Some, Result, Ok, Err, IsOk, IsSome, true}
 use Rattle.arrayvec.specs.ArrayVec.{ArrayVec}
-use Rattle.usb_tree.proofs.Interface.{decided}
-use Rattle.usb_tree.specs.{pending}
+use Rattle.usb_world.proofs.Interface.{decided}
+use Rattle.usb_world.specs.{pending, BusFault, PlanData, World}
 use Rattle.usb_device.specs.{told_bits}
-use Rattle.usb_world.specs.{BusFault, PlanData, World}
 use Rattle.usb_bus.specs.{StepRun}
-use Rattle.usb_transaction.specs.{NoThreeDamaged}
-use Rattle.usb_backlog.specs.{KeepsAll, KeepsBy, unmarked}
-use Rattle.usb_backlog.proofs.Interface.{few-none}
-use Rattle.usb_pipe.specs.{ByteTold, PipeFault}
-use Rattle.usb_pipe.specs.declared.fault.PipeFault.TheVariants.{Bus}
-use Rattle.usb_hub.specs.{NoHubFailed}
+use Rattle.usb_transfer.specs.{NoThreeDamaged, ByteTold, PipeFault}
+use Rattle.usb_hub.specs.{KeepsAll, KeepsBy, unmarked, NoHubFailed}
+use Rattle.usb_hub.proofs.Interface.{few-none}
+use Rattle.usb_transfer.specs.declared.fault.PipeFault.TheVariants.{Bus}
 use Rattle.usb_enum.specs.{Finding, HubFacts}
 use Rattle.usb_enum.specs.declared.finding.Finding.TheVariants.{Device}
 use Rattle.usb_table.specs.{BitsOf, GoesThrough, HubTold, KeepsPolled, Pipes, PipesPolled}

@@ -1,7 +1,7 @@
 -- What looks at ports leave and report.
 use Rattle.std.proofs.Common.{◌≡◌, ◌≢◌, ◌∙◌, inl, inr, ap, arith, refl, sym, ℕ, List, Bool, true}
 use Rattle.std.proofs.Common.{false, Result, Ok, Err, OnOk, Some}
-use Rattle.usb_world.specs.{PlanData}
+use Rattle.usb_world.specs.{PlanData, is_way}
 use Rattle.usb_table.specs.{NoPort, KnownPort, Entries, finding_at, without}
 use Rattle.usb_host.specs.{Affords, Bus, CutAt, HostFault, HostState, HostWorks, Look, LookCosts}
 use Rattle.usb_host.specs.{LookDid, LookKeeps, LookMade, LookTells, LooksOver, StopsAsLook}
@@ -21,9 +21,7 @@ use Rattle.usb_host.proofs.payments.PortPayments.{look_over_pays}
 use Rattle.usb_host.proofs.Services.{looked_left, port_cut, handled_once}
 use Rattle.std.specs.BTreeMap.{insert_entry}
 use Rattle.usb_port.specs.{parent_of, path_cmp}
-use Rattle.usb_tree.specs.{is_way}
-use Rattle.usb_tree.proofs.Interface.{false_true}
-use Rattle.usb_world.proofs.Interface.{way_itself, way_parent, way_trans}
+use Rattle.usb_world.proofs.Interface.{false_true, way_itself, way_parent, way_trans}
 use Rattle.usb_enum.specs.declared.finding.Finding.TheVariants.{Refused}
 use Rattle.usb_host.proofs.entries.Agreements.{lookup-insert_entry_elsewhere}
 use Rattle.usb_host.proofs.entries.Agreements.{lookup-insert_entry_here}

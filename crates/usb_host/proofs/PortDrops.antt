@@ -3,15 +3,10 @@ use Rattle.std.proofs.Common.{◌≡◌, ◌-◌, ◌*◌, ◌≤◌, arith, ref
 use Rattle.std.proofs.Common.{List, length, Option, None, Some, Result, Ok, Err, IsSome, IsSomeAnd}
 use Rattle.arrayvec.specs.ArrayVec.{ArrayVec}
 use Rattle.usb_port.specs.{parent_of, IsPath}
-use Rattle.usb_tree.specs.{is_way, pending}
-use Rattle.usb_world.specs.{here}
-use Rattle.usb_address.specs.{KeepsAddresses}
-use Rattle.usb_address.proofs.Interface.{keeps_none, keeps_then}
-use Rattle.usb_pipe.specs.{write_bound}
-use Rattle.usb_hub.specs.{ControlCourse, KeepsDevices}
-use Rattle.usb_hub.proofs.Interface.{keeps_devices_none}
-use Rattle.usb_backlog.specs.{KeepsAll}
-use Rattle.usb_backlog.proofs.Interface.{all_none, all_then}
+use Rattle.usb_world.specs.{is_way, pending, here}
+use Rattle.usb_hub.specs.{KeepsAddresses, ControlCourse, KeepsDevices, KeepsAll}
+use Rattle.usb_hub.proofs.Interface.{keeps_none, keeps_then, keeps_devices_none, all_none, all_then}
+use Rattle.usb_transfer.specs.{write_bound}
 use Rattle.usb_enum.specs.{Lost, ParentLost}
 use Rattle.usb_enum.specs.declared.finding.Finding.TheVariants.{Refused}
 use Rattle.usb_enum.proofs.Interface.{devices_then}

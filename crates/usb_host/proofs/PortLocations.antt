@@ -6,8 +6,7 @@ use Rattle.std.proofs.lemmas.Bool.{lt-ltb}
 use Rattle.usb_port.specs.{parent_of, port_on_hub, IsPath}
 use Rattle.usb_port.proofs.Interface.{is_path, rejoined}
 use Rattle.usb_device.specs.{Ports, vacant, taken, row_of, reach, reach_at}
-use Rattle.usb_tree.specs.{is_way}
-use Rattle.usb_world.specs.{World}
+use Rattle.usb_world.specs.{is_way, World}
 use Rattle.usb_world.proofs.Interface.{way_rest}
 use Rattle.usb_hub.specs.{IsAt}
 use Rattle.usb_enum.specs.{EnumFault, FaultAllowedAt}

@@ -7,22 +7,21 @@ use Rattle.std.proofs.lemmas.List.{same_from_push}
 use Rattle.usb_request.specs.{PORT_ENABLE, C_PORT_CONNECTION, C_PORT_ENABLE, C_PORT_RESET}
 use Rattle.usb_port.specs.{PortStatus, PortCall, ClearEnable, ClearConnectionChange}
 use Rattle.usb_port.specs.{ClearResetChange, clear_call, is_reset}
-use Rattle.usb_backlog.specs.{gives_power, KeepsAll}
-use Rattle.usb_tree.specs.{pending}
-use Rattle.usb_world.specs.{here, World, HasFault, BusFault}
+use Rattle.usb_hub.specs.{gives_power, KeepsAll, AddressMap, MapHolds, WhileBusWorks}
+use Rattle.usb_hub.specs.{KeepsAddresses}
+use Rattle.usb_world.specs.{pending, here, World, HasFault, BusFault}
 use Rattle.usb_world.proofs.Interface.{course_joined, course_wider, pending_persists}
 use Rattle.usb_bus.specs.{StepRun}
-use Rattle.usb_address.specs.{AddressMap, MapHolds, WhileBusWorks, KeepsAddresses}
-use Rattle.usb_address.proofs.Interface.{keeps_none, keeps_then, live_port}
-use Rattle.usb_transaction.specs.{NoThreeDamaged, Target}
-use Rattle.usb_pipe.specs.{PipeFault, IsNoBusFault, FaultAfter, write_bound}
-use Rattle.usb_pipe.specs.declared.fault.PipeFault.TheVariants as pipe
+use Rattle.usb_hub.proofs.Interface.{keeps_none, keeps_then, live_port}
+use Rattle.usb_transfer.specs.{NoThreeDamaged, Target, PipeFault, IsNoBusFault, FaultAfter}
+use Rattle.usb_transfer.specs.{write_bound}
+use Rattle.usb_transfer.specs.declared.fault.PipeFault.TheVariants as pipe
 use Rattle.usb_hub.specs.{HubPort, Root, External, IsAt, KeepsDevices, KeepsAsked, KeepsCleared}
 use Rattle.usb_hub.specs.{ReadsPort, CommandsPort, IsCall, PortRead, TouchesNoPort, NoHubFailed}
 use Rattle.usb_hub.specs.{ClearsOfPort, PortCleared, order_bound, status_bound, ClearsOfHub}
 use Rattle.usb_hub.specs.{StillWorks, WorksAfter}
-use Rattle.usb_hub.proofs.Interface.{keeps_devices_none, hub_change_works, read_works}
-use Rattle.usb_backlog.proofs.Interface.{all_none, all_then}
+use Rattle.usb_hub.proofs.Interface.{keeps_devices_none, hub_change_works, read_works, all_none}
+use Rattle.usb_hub.proofs.Interface.{all_then}
 use Rattle.usb_enum.specs.{EnumFault, ParentLost, CanFail, fault_at_port, at_port, IsInOrder}
 use Rattle.usb_enum.specs.{read_bound, Bus, EnumWorks}
 use Rattle.usb_enum.proofs.Interface.{devices_then, went_in_order, went_three}
@@ -42,7 +41,7 @@ use Rattle.usb_host.proofs.devices.Owners.{bares_after}
 use Rattle.usb_host.proofs.knowledge.TidiedPorts.{Tidy, enable, reset, tidy_call, holds_at_then}
 use Rattle.usb_host.proofs.knowledge.TidiedPorts.{holds_same, tidied_holds}
 use Rattle.usb_request.specs.declared.hub_feature.TheConstants.{C_PORT_OVER_CURRENT, C_PORT_SUSPEND}
-use Rattle.usb_tree.proofs.Interface.{decided}
+use Rattle.usb_world.proofs.Interface.{decided}
 use Rattle.usb_bus.proofs.Interface.{went_then}
 use Rattle.usb_table.specs.{IsAskable}
 use Rattle.usb_host.proofs.Services.{call_done, done_not}

@@ -3,9 +3,8 @@ use Rattle.std.proofs.Common.{◌≡◌, ◌∙◌, ◌⊎◌, ◌+◌, ◌≤�
 use Rattle.std.proofs.Common.{Bool, ℕ, List, None, Result, Ok, Err, OnOk, OnErr, ◌*◌, [], ◌∷◌, ◌++◌}
 use Rattle.std.proofs.Common.{Some}
 use Rattle.arrayvec.specs.ArrayVec.{ArrayVec}
-use Rattle.usb_port.specs.{PortStatus}
-use Rattle.usb_hub.specs.{Isolates, StillWorks}
-use Rattle.usb_resources.specs.{IsFull}
+use Rattle.usb_port.specs.{PortStatus, IsFull}
+use Rattle.usb_hub.specs.{Isolates, StillWorks, KeepsAll, KeepsFound}
 use Rattle.usb_enum.specs.{enumeration_bound, widest_enumeration, FaultAllowedAt, EnumFault, Memory}
 use Rattle.usb_enum.specs.{Finding, IsFound, IsSaid, read_bound, ParentLost, Bus}
 use Rattle.usb_table.specs.{KnownPort, without, known_port, tier_of, Table, entered, said_at}
@@ -23,8 +22,7 @@ use Rattle.usb_host.specs.{StandsNowhere, ClearsOwn, SettlesPort, ShowsPort, Tid
 use Rattle.usb_host.specs.{FinishesAt, HandlesPort, LooksOnceMore, ServesOwn, ServesPort, Part}
 use Rattle.usb_host.specs.{HostFault, DoneAt, OwnHandled, OwnServed, Quiet, all_done, at_connection}
 use Rattle.usb_host.specs.{at_error, at_others, hub_failed, by_both, own_known}
-use Rattle.usb_backlog.specs.{KeepsAll, KeepsFound}
-use Rattle.usb_backlog.proofs.Interface.{anew_owed, found_all, found_then}
+use Rattle.usb_hub.proofs.Interface.{anew_owed, found_all, found_then, keeps_then}
 use Rattle.usb_host.proofs.devices.Pipes.{bulk_stays, bulk_then, stays_where, where_joined}
 use Rattle.usb_host.proofs.devices.Pipes.{stay_joined}
 use Rattle.usb_host.proofs.devices.Causes.{cleared_caused, entered_finds, forgot_caused}
@@ -56,8 +54,7 @@ use Rattle.usb_host.proofs.Services.{cleared_failed, found_failed, renews_by, cu
 use Rattle.usb_host.proofs.Services.{port_cut, served_left, handled_at, handles_at, serves_looked}
 use Rattle.usb_host.proofs.Services.{serves_tidied, status_failed}
 use Rattle.usb_host.proofs.PortLocations.{stands_at-claim}
-use Rattle.usb_address.proofs.Interface.{keeps_then}
-use Rattle.usb_pipe.specs.{write_bound}
+use Rattle.usb_transfer.specs.{write_bound}
 use Rattle.usb_host.proofs.rests.ClearedPorts.{failed_served, none_failed, watched_plain}
 use Rattle.usb_host.proofs.RoundLoops.{part-none}
 use Rattle.usb_host.proofs.entries.Roots.{waits_somewhere}

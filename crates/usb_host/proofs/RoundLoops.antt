@@ -26,9 +26,8 @@ use Rattle.usb_table.specs.{ComesAfter, is_hub, is_waiting, IsLast, IsNext}
 use Rattle.usb_world.specs.{PlanData, changes, root_row, here, root_port_at, roots_of}
 use Rattle.usb_host.proofs.payments.RoundPayments.{hubs_end_pay, looks_end_pay, parts_pay}
 use Rattle.usb_host.proofs.payments.RoundPayments.{roots_end_pay, one_waits}
-use Rattle.usb_port.specs.{IsPath, has_bit}
+use Rattle.usb_port.specs.{IsPath, has_bit, IsFull}
 use Rattle.usb_hub.specs.{TouchesNoPort}
-use Rattle.usb_resources.specs.{IsFull}
 use Rattle.usb_host.proofs.payments.HubPayments.{HubsSoFar, hubs_all, hubs_failed_pay, hubs_next}
 use Rattle.usb_host.proofs.payments.HubPayments.{ToldSoFar, root_shows, roots_failed_pay}
 use Rattle.usb_host.proofs.payments.HubPayments.{roots_next, told_all, told_clear, told_failed}

@@ -8,8 +8,8 @@ use Rattle.std.proofs.lemmas.Nat.{and_mask}
 use Rattle.usb_port.specs.{has_bit, parent_of, port_on_hub, IsPath, IsPortNumber, is_reset}
 use Rattle.usb_port.specs.{PortCall, PortStatus}
 use Rattle.usb_world.specs.{World}
-use Rattle.usb_pipe.specs.{FaultAfter, PipeFault}
-use Rattle.usb_pipe.specs.declared.fault.PipeFault.TheVariants as pipe
+use Rattle.usb_transfer.specs.{FaultAfter, PipeFault}
+use Rattle.usb_transfer.specs.declared.fault.PipeFault.TheVariants as pipe
 use Rattle.usb_host.specs.{BitsHandledSo, HostFault, OwnServed, ReportHandled, own_reported}
 use Rattle.usb_host.specs.{HostState, HandledSo, claims, HasLost, IsOwned, Watches, EndsAs}
 use Rattle.usb_host.specs.{StandsAt, HostProgress, HostSteps, OnlyBusSteps, HostInvariant}
@@ -18,10 +18,10 @@ use Rattle.usb_host.specs.{LosesParent, Renews, ServedAt, ServedOrLost, StaysOrF
 use Rattle.usb_host.specs.{was_tidied, was_looked_at, was_lost, looked_once, lost_once, CutAt}
 use Rattle.usb_host.specs.{StaysWhere}
 use Rattle.usb_port.proofs.Interface.{parent, rejoined}
-use Rattle.usb_tree.specs.{is_way}
+use Rattle.usb_world.specs.{is_way}
 use Rattle.usb_world.proofs.Interface.{at_or_below_way, way_parent, way_trans, way_itself}
-use Rattle.usb_address.specs.{AddressMap, MapHolds, WhileBusWorks}
-use Rattle.usb_hub.specs.{HubPort, IsAt, CommandsPort, PortCallDone, PortStatusAt}
+use Rattle.usb_hub.specs.{AddressMap, MapHolds, WhileBusWorks, HubPort, IsAt, CommandsPort}
+use Rattle.usb_hub.specs.{PortCallDone, PortStatusAt}
 use Rattle.usb_enum.specs.{EnumFault, ParentLost, Bus, Memory}
 use Rattle.usb_table.specs.{KnownPort, Entries, without}
 use Rattle.usb_host.proofs.devices.Owners.{owned_rests}

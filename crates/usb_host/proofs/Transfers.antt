@@ -21,15 +21,14 @@ use Rattle.usb_host.proofs.knowledge.Soundness.{transfer_none, transfer_kept}
 use Rattle.std.specs.BTreeMap.{is_at}
 use Rattle.arrayvec.specs.ArrayVec.{ArrayVec}
 use Rattle.usb_port.specs.{path_cmp}
-use Rattle.usb_transaction.specs.{Target}
-use Rattle.usb_pipe.specs.{PipeState, PipeFault, FaultAfter}
+use Rattle.usb_transfer.specs.{Target, PipeState, PipeFault, FaultAfter}
 use Rattle.usb_table.proofs.Interface.{path_tied}
 use Rattle.std.specs.Global.{Vec}
-use Rattle.usb_tree.proofs.Interface.{decided}
+use Rattle.usb_world.proofs.Interface.{decided}
 use Rattle.usb_hub.specs.{StillWorks, WorksAfter}
 use Rattle.usb_enum.specs.{Bus, Memory}
 use Rattle.usb_request.specs.{Setup}
-use Rattle.usb_pipe.specs.declared.fault.PipeFault.TheVariants as pipe
+use Rattle.usb_transfer.specs.declared.fault.PipeFault.TheVariants as pipe
 use Rattle.usb_table.specs.declared.fault.TableFault.TheVariants as table
 
 -- A poll

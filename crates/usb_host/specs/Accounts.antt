@@ -2,7 +2,7 @@
 use Rattle.std.specs.Prelude.{◌≡◌, ℕ, if◌then◌else◌}
 use Rattle.std.specs.List.{count_by}
 use Rattle.std.specs.FinSet as set
-use Rattle.usb_resources.specs.{Addresses}
+use Rattle.usb_port.specs.{Addresses}
 use Rattle.usb_table.specs.{Entries, has_address}
 
 -- one entry has each address that is taken, and none has any other

@@ -2,8 +2,7 @@
 use Rattle.std.specs.Prelude.{◌≡◌, ℕ, List, Some, IsSome}
 use Rattle.std.specs.Map.{lookup}
 use Rattle.std.specs.BTreeMap.{is_at}
-use Rattle.usb_port.specs.{path_cmp, IsPath}
-use Rattle.usb_resources.specs.{Addresses, HasAddresses}
+use Rattle.usb_port.specs.{path_cmp, IsPath, Addresses, HasAddresses}
 use Rattle.usb_enum.specs.{Finding, HostOptions, IsFound}
 use Rattle.usb_table.specs.{Entries, KnownPort, Rises, known_port, tier_of}
 use Rattle.usb_host.specs.Accounts.{Accounts}

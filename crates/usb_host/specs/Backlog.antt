@@ -5,9 +5,8 @@ use Rattle.std.specs.List.{count_by}
 use Rattle.usb_port.specs.{PortState, is_attached, PortStatus}
 use Rattle.usb_device.specs.{empty, place, port_there, state_there}
 use Rattle.usb_world.specs.{AtPorts, World}
-use Rattle.usb_address.specs.{AddressMap, MapHolds, WhileBusWorks}
-use Rattle.usb_backlog.specs.{KeepsAll, KeepsPlain, OwesAnew, PaysBare, PaysLook, PaysStray}
-use Rattle.usb_hub.specs.{HubPort, IsAt, PortStatusAt}
+use Rattle.usb_hub.specs.{AddressMap, MapHolds, WhileBusWorks, KeepsAll, KeepsPlain, OwesAnew}
+use Rattle.usb_hub.specs.{PaysBare, PaysLook, PaysStray, HubPort, IsAt, PortStatusAt}
 use Rattle.usb_enum.specs.{EnumFault, ParentLost, Bus, Memory, read_bound, IsOrderly, HasPlanWithin}
 use Rattle.usb_table.specs.{Entries, is_hub}
 use Rattle.usb_host.specs.Bounds.{clearing_bound, deciding_bound}

@@ -1,7 +1,6 @@
 -- How many attempts the parts of a round may take.
 use Rattle.std.specs.Prelude.{ℕ, ◌+◌, ◌*◌}
-use Rattle.usb_pipe.specs.{write_bound}
-use Rattle.usb_transaction.specs.{transaction_bound}
+use Rattle.usb_transfer.specs.{write_bound, transaction_bound}
 use Rattle.usb_enum.specs.{widest_enumeration, read_bound}
 
 -- the clearing of the change, a second status, and the disabling

@@ -5,8 +5,7 @@ use Rattle.usb_port.specs.{IsPath, PortState, has_bit, PortStatus}
 use Rattle.usb_device.specs.{port_there, state_there}
 use Rattle.usb_world.specs.{PlanData, IsPlan, AtPorts, AnyStep, Course, opening, World, changes}
 use Rattle.usb_world.specs.{root_row}
-use Rattle.usb_backlog.specs.{looks_by, strays_by, unmarked}
-use Rattle.usb_hub.specs.{PortStatusAt}
+use Rattle.usb_hub.specs.{looks_by, strays_by, unmarked, PortStatusAt}
 use Rattle.usb_enum.specs.{PlugsWithin}
 use Rattle.usb_table.specs.{known_port}
 use Rattle.usb_host.specs.declared.fault.HostFault.{HostFault}

@@ -3,8 +3,7 @@
 use Rattle.std.specs.Prelude.{◌≡◌, ◌≢◌, ◌⊎◌, ℕ, List, true, false, Some}
 use Rattle.usb_device.specs.{rested, State, Location, path_to, reach, reach_on, state_on, in_end}
 use Rattle.usb_device.specs.{out_end}
-use Rattle.usb_tree.specs.{address_of}
-use Rattle.usb_world.specs.{EachWas, Was, AnyStep, Course, World}
+use Rattle.usb_world.specs.{address_of, EachWas, Was, AnyStep, Course, World}
 use Rattle.usb_hub.specs.{ControlCourse, TouchesNoPort}
 use Rattle.usb_enum.specs.{Accepted}
 use Rattle.usb_table.specs.{Pipes, function_of, accepted_device_at, is_below_hub, SparesBulk}

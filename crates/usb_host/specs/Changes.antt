@@ -2,8 +2,7 @@
 use Rattle.std.specs.Prelude.{◌≡◌, ◌&&◌, ⊤, Bool, false, not, Option, is_some}
 use Rattle.usb_port.specs.{PortStatus}
 use Rattle.usb_world.specs.{World}
-use Rattle.usb_address.specs.{KeepsAddresses}
-use Rattle.usb_hub.specs.{HubPort, Root, External, KeepsDevices}
+use Rattle.usb_hub.specs.{KeepsAddresses, HubPort, Root, External, KeepsDevices}
 use Rattle.usb_enum.specs.{Accepted}
 
 -- a status tells of no change of suspend nor of over-current, as that of a port of a world does

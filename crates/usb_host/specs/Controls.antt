@@ -3,8 +3,7 @@
 use Rattle.std.specs.Prelude.{◌≡◌, ℕ, List, Bool, false, Result, Ok, Err}
 use Rattle.std.specs.Global.{Vec}
 use Rattle.usb_request.specs.{Setup}
-use Rattle.usb_transaction.specs.{Target}
-use Rattle.usb_pipe.specs.{PipeFault}
+use Rattle.usb_transfer.specs.{Target, PipeFault}
 use Rattle.usb_table.specs.{control_most, control_target, KeepsMoved, ReadLeft, ReadMade}
 use Rattle.usb_table.specs.{TableFault, TransferFault, TransferIf, TransferIs, TransferLeaves}
 use Rattle.usb_table.specs.{table_answer, WriteLeft, WriteMade, write_target}

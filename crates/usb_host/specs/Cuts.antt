@@ -1,6 +1,6 @@
 -- What the host leaves at a path when it stops there.
 use Rattle.std.specs.Prelude.{◌≡◌, ◌⊎◌, ℕ, List, true, None}
-use Rattle.usb_tree.specs.{is_way}
+use Rattle.usb_world.specs.{is_way}
 use Rattle.usb_table.specs.{Entries, without}
 use Rattle.usb_host.specs.BulkPipes.{StaysWhere}
 use Rattle.usb_host.specs.HostStates.{HostState}

@@ -1,9 +1,8 @@
 -- What is entered at a port is what an enumeration there gave, with its reason (9.1.2).
 use Rattle.std.specs.Prelude.{◌≡◌, List, ℕ, Some, Ok}
 use Rattle.std.specs.BTreeMap.{insert_entry}
-use Rattle.usb_port.specs.{path_cmp}
+use Rattle.usb_port.specs.{path_cmp, Addresses}
 use Rattle.usb_world.specs.{World}
-use Rattle.usb_resources.specs.{Addresses}
 use Rattle.usb_enum.specs.{Cause, Enumerates, Finding, IsFound, IsSaid}
 use Rattle.usb_enum.specs.declared.finding.Finding.TheVariants.{Refused}
 use Rattle.usb_table.specs.{Entries, KnownPort, known_port, said_at, tier_of, without}

@@ -5,8 +5,7 @@ use Rattle.std.specs.Global.{Vec}
 use Rattle.arrayvec.specs.ArrayVec.{ArrayVec}
 use Rattle.usb_world.specs.{World}
 use Rattle.usb_bus.specs.{Traced}
-use Rattle.usb_transaction.specs.{transaction_bound}
-use Rattle.usb_pipe.specs.{PipeState, write_bound}
+use Rattle.usb_transfer.specs.{transaction_bound, PipeState, write_bound}
 use Rattle.usb_table.specs.{EndpointChoice, TransferFault}
 use Rattle.usb_host.specs.Bounds.{clear_bound, round_bound}
 use Rattle.usb_host.specs.Budget.{RoundKeeps}

@@ -1,10 +1,9 @@
 -- A host, as its callers see it.
 use Rattle.std.specs.Prelude.{◌≡◌, ℕ, ◌+◌, Bool, true, false, List, [], Option, None}
 use Rattle.std.specs.FinSet as set
-use Rattle.usb_port.specs.{powered_off, powered_on}
+use Rattle.usb_port.specs.{powered_off, powered_on, Addresses, Releases}
 use Rattle.usb_device.specs.{Ports, ended, vacant, taken}
 use Rattle.usb_world.specs.{BusFault, World, root_row, to_come, changes}
-use Rattle.usb_resources.specs.{Addresses, Releases}
 use Rattle.usb_enum.specs.{Finding, HostOptions}
 use Rattle.usb_enum.specs.declared.finding.Finding.TheVariants.{Device, Refused}
 use Rattle.usb_table.specs.{Pipes, Entries}

@@ -1,7 +1,6 @@
 -- What SET_INTERFACE to the device at a path is (9.4.10), as the host reports it.
 use Rattle.std.specs.Prelude.{◌≡◌, ℕ, List, Bool, false, None, Result, Ok, Err}
-use Rattle.usb_transaction.specs.{Target}
-use Rattle.usb_pipe.specs.{PipeFault, write_bound}
+use Rattle.usb_transfer.specs.{Target, PipeFault, write_bound}
 use Rattle.usb_table.specs.{GoesThrough, InterfaceSetIf, KeepsLevels, OnlySets, TableFault}
 use Rattle.usb_table.specs.{TransferFault, accepted_device_at, interface_target, is_below_hub}
 use Rattle.usb_table.specs.{pipes_at, pipes_set, table_answer}

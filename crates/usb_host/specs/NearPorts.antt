@@ -1,6 +1,6 @@
 -- Which entries change where a port is handled, over any bus.
 use Rattle.std.specs.Prelude.{◌≡◌, ◌⊎◌, ℕ, List, false, true, Some, IsSome, Result}
-use Rattle.usb_tree.specs.{is_way}
+use Rattle.usb_world.specs.{is_way}
 use Rattle.usb_enum.specs.{EnumFault, Lost}
 use Rattle.usb_enum.specs.declared.finding.Finding.TheVariants.{Refused}
 use Rattle.usb_table.specs.{Entries, finding_at, known_port}

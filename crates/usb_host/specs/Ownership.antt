@@ -4,11 +4,9 @@ use Rattle.std.specs.Prelude.{Ok, Err, OnOk, MatchResult}
 use Rattle.std.specs.BTreeMap.{is_at, insert_entry}
 use Rattle.std.specs.Map.{lookup}
 use Rattle.usb_port.specs.{path_cmp, parent_of, PortStatus}
-use Rattle.usb_tree.specs.{is_way}
-use Rattle.usb_world.specs.{World, roots_of}
-use Rattle.usb_address.specs.{AddressMap, map_without, MapHolds, MapHoldsExcept, WhileBusWorks}
-use Rattle.usb_address.specs.{KeepsAddresses}
-use Rattle.usb_hub.specs.{HubPort, Isolates}
+use Rattle.usb_world.specs.{is_way, World, roots_of}
+use Rattle.usb_hub.specs.{AddressMap, map_without, MapHolds, MapHoldsExcept, WhileBusWorks}
+use Rattle.usb_hub.specs.{KeepsAddresses, HubPort, Isolates}
 use Rattle.usb_enum.specs.{Lost, EnumFault, ParentLost, Bus, Memory}
 use Rattle.usb_enum.specs.declared.finding.Finding.TheVariants.{Refused}
 use Rattle.usb_table.specs.{Entries, without, address_in, finding_at}

@@ -3,17 +3,15 @@ use Rattle.usb_device.specs.{path_to}
 use Rattle.std.specs.Prelude.{◌≡◌, ◌⊎◌, ◌≤◌, ◌+◌, ◌*◌, ⊤, ℕ, List, [], ◌∷◌, ◌++◌, Bool, true, false}
 use Rattle.std.specs.Prelude.{None, Some, IsSomeAnd, Result, Ok, Err, Option, OnOk, OnErr, IfOk}
 use Rattle.usb_port.specs.{parent_of, PortStatus}
-use Rattle.usb_tree.specs.{has_power, pending, is_way}
-use Rattle.usb_world.specs.{LeavesPortAlone, SameDeviceOrPending, Course, World}
-use Rattle.usb_address.specs.{AddressMap, MapHolds, WhileBusWorks, KeepsAddresses}
-use Rattle.usb_transaction.specs.{Target, NoThreeDamaged}
-use Rattle.usb_hub.specs.{HubPort, External, HubServes, IsAt, KeepsDevices, PortStatusAt}
-use Rattle.usb_hub.specs.{ControlCourse, TouchesNoPort}
-use Rattle.usb_backlog.specs.{KeepsAll, KeepsFound}
+use Rattle.usb_world.specs.{has_power, pending, is_way, LeavesPortAlone, SameDeviceOrPending}
+use Rattle.usb_world.specs.{Course, World}
+use Rattle.usb_hub.specs.{AddressMap, MapHolds, WhileBusWorks, KeepsAddresses, HubPort, External}
+use Rattle.usb_hub.specs.{HubServes, IsAt, KeepsDevices, PortStatusAt, ControlCourse, TouchesNoPort}
+use Rattle.usb_hub.specs.{KeepsAll, KeepsFound}
+use Rattle.usb_transfer.specs.{Target, NoThreeDamaged, write_bound}
 use Rattle.usb_enum.specs.{Lost, EnumFault, ParentLost, Bus, Memory, Finding, IsKnownAs, IsOccupied}
 use Rattle.usb_enum.specs.{IsInOrder, CanFail, HasPlanWithin}
 use Rattle.usb_enum.specs.declared.finding.Finding.TheVariants.{Refused}
-use Rattle.usb_pipe.specs.{write_bound}
 use Rattle.usb_host.specs.Bounds.{drop_bound}
 use Rattle.usb_host.specs.BulkPipes.{KeepsBulk, StaysWhere}
 use Rattle.usb_host.specs.HostStates.{HostState}

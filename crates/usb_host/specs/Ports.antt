@@ -3,16 +3,14 @@ use Rattle.std.specs.Prelude.{◌≡◌, ◌≢◌, ◌+◌, ◌<◌, ⊤, ℕ, 
 use Rattle.std.specs.Prelude.{Result, Ok, Err, IfErr, MatchResult}
 use Rattle.std.specs.Map.{lookup}
 use Rattle.std.specs.BTreeMap.{is_at, insert_entry}
-use Rattle.usb_port.specs.{path_cmp, parent_of, port_on_hub, IsPath, seen, PortStatus}
-use Rattle.usb_world.specs.{World, HasFault, root_port_at, roots_of}
+use Rattle.usb_port.specs.{path_cmp, parent_of, port_on_hub, IsPath, seen, PortStatus, IsFull}
+use Rattle.usb_world.specs.{World, HasFault, root_port_at, roots_of, is_way}
 use Rattle.usb_hub.specs.{HubPort, Root, External, IsAsked, IsPort}
-use Rattle.usb_resources.specs.{IsFull}
 use Rattle.usb_enum.specs.{FaultAllowedAt, NoAddress, EnumFault, EnumWorks, ParentLost, Bus, Memory}
 use Rattle.usb_enum.specs.{Finding}
 use Rattle.usb_enum.specs.declared.finding.Finding.TheVariants.{Refused}
 use Rattle.usb_table.specs.{KnownPort, known_port, IsAskable, has_at, without, pipes_at}
 use Rattle.usb_host.specs.Transfers.{table_in}
-use Rattle.usb_tree.specs.{is_way}
 use Rattle.usb_host.specs.declared.fault.HostFault.{HostFault}
 use Rattle.usb_host.specs.Agreement.{Agrees}
 use Rattle.usb_host.specs.declared.fault.HostFault.TheVariants as host

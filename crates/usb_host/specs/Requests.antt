@@ -6,12 +6,11 @@ use Rattle.usb_request.specs.declared.hub_feature.TheConstants.{C_PORT_OVER_CURR
 use Rattle.usb_port.specs.{clear_call, ClearConnectionChange, ClearEnable, ClearEnableChange}
 use Rattle.usb_port.specs.{ClearResetChange, PortCall, PortStatus}
 use Rattle.usb_world.specs.{World}
-use Rattle.usb_transaction.specs.{Target}
-use Rattle.usb_address.specs.{AddressMap, KeepsAddresses, MapHolds, WhileBusWorks}
-use Rattle.usb_pipe.specs.{write_bound, PipeFault}
-use Rattle.usb_hub.specs.{HubPort, Root, External, IsAt, KeepsAsked, KeepsCleared, CommandsPort}
-use Rattle.usb_hub.specs.{ClearsOfHub, ClearsOfPort, PortCallDone, PortCleared, PortRead}
-use Rattle.usb_hub.specs.{PortStatusAt, ReadsPort}
+use Rattle.usb_transfer.specs.{Target, write_bound, PipeFault}
+use Rattle.usb_hub.specs.{AddressMap, KeepsAddresses, MapHolds, WhileBusWorks, HubPort, Root}
+use Rattle.usb_hub.specs.{External, IsAt, KeepsAsked, KeepsCleared, CommandsPort, ClearsOfHub}
+use Rattle.usb_hub.specs.{ClearsOfPort, PortCallDone, PortCleared, PortRead, PortStatusAt}
+use Rattle.usb_hub.specs.{ReadsPort}
 use Rattle.usb_enum.specs.{read_bound, CanFail, at_port, EnumFault, ParentLost}
 use Rattle.usb_host.specs.Backlog.{ClearsConnection, ClearsReset, RestsCalm}
 use Rattle.usb_host.specs.Bounds.{clearing_bound}

@@ -8,15 +8,14 @@ use Rattle.arrayvec.specs.ArrayVec.{ArrayVec}
 use Rattle.usb_port.specs.{path_cmp, parent_of, IsPath, has_bit, PortStatus}
 use Rattle.usb_device.specs.{told_bits}
 use Rattle.usb_world.specs.{BusFault, PlanData, World, changes, root_port_at, root_row, roots_of}
-use Rattle.usb_transaction.specs.{NoThreeDamaged}
-use Rattle.usb_pipe.specs.{PipeFault, ByteTold}
-use Rattle.usb_pipe.specs.declared.fault.PipeFault.TheVariants as pipe
+use Rattle.usb_transfer.specs.{NoThreeDamaged, PipeFault, ByteTold}
+use Rattle.usb_transfer.specs.declared.fault.PipeFault.TheVariants as pipe
 use Rattle.usb_hub.specs.{PortStatusAt}
 use Rattle.usb_enum.specs.{widest_enumeration, CanFail, EnumFault, ParentLost, Accepted, Finding}
 use Rattle.usb_table.specs.{Entries, Replaced, without, is_hub, is_waiting, accepted_device_at}
 use Rattle.usb_table.specs.{KnownPort, known_port, BitsOf, IsListening, ComesAfter, IsNext, IsLast}
 use Rattle.usb_table.specs.{hub_facts_at, pipes_at, PipesPolled}
-use Rattle.usb_resources.specs.{IsFull}
+use Rattle.usb_port.specs.{IsFull}
 use Rattle.usb_host.specs.Backlog.{hubs, PaysAtLook, PaysAtServe}
 use Rattle.usb_host.specs.Bounds.{drop_bound, handling_bound, look_bound, roots_bound}
 use Rattle.usb_host.specs.Bounds.{serving_bound, told_bound}

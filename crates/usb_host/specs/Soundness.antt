@@ -1,19 +1,16 @@
 -- When what a host knows of its ports is so.
 use Rattle.std.specs.Prelude.{◌≡◌, ◌≢◌, ◌⊎◌, ◌≤◌, ℕ, List, [], ◌∷◌, ◌++◌, None, Some, IsSome}
 use Rattle.std.specs.Prelude.{IfSome, unwrap_or, option_map, true, false, ⊤, Result, Ok, OnOk}
-use Rattle.usb_port.specs.{parent_of, port_on_hub}
-use Rattle.usb_resources.specs.{Addresses}
+use Rattle.usb_port.specs.{parent_of, port_on_hub, Addresses}
 use Rattle.usb_device.specs.{State, reach, state_there, port_there}
-use Rattle.usb_world.specs.{EachWas, World, root_row, roots_of, changes}
-use Rattle.usb_tree.specs.{pending, is_way}
-use Rattle.usb_hub.specs.{EachElsewhere, TouchesNoPort}
+use Rattle.usb_world.specs.{EachWas, World, root_row, roots_of, changes, pending, is_way}
+use Rattle.usb_hub.specs.{EachElsewhere, TouchesNoPort, KeepsAll}
 use Rattle.usb_enum.specs.{Cause, NoAddress, Accepted, HostOptions, HubFacts, IsFindingOf, IsRight}
 use Rattle.usb_enum.specs.{IsKnownAs, IsOccupied, FewLosses, IsInOrder, IsSet}
 use Rattle.usb_enum.specs.declared.finding.Finding.TheVariants.{Device, Refused}
-use Rattle.usb_backlog.specs.{KeepsAll}
 use Rattle.usb_table.specs.{KnownPort, Entries, accepted_device_at, known_port, AllInSync, InSyncAt}
 use Rattle.usb_table.specs.{finding_at, hub_facts_at, IsListedPort, tier_of, ListsEach, SameDevice}
-use Rattle.usb_transaction.specs.{NoThreeDamaged}
+use Rattle.usb_transfer.specs.{NoThreeDamaged}
 use Rattle.usb_host.specs.Agreement.{Agrees}
 use Rattle.usb_host.specs.Bounds.{hub_poll_bound, hubs_bound, looks_bound, round_bound}
 use Rattle.usb_host.specs.BulkPipes.{KeepsBulk}

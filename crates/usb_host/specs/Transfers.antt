@@ -4,7 +4,7 @@ use Rattle.std.specs.Prelude.{IfOk}
 use Rattle.std.specs.Global.{Vec}
 use Rattle.arrayvec.specs.ArrayVec.{ArrayVec}
 use Rattle.usb_world.specs.{World}
-use Rattle.usb_pipe.specs.{PipeFault, PipeState}
+use Rattle.usb_transfer.specs.{PipeFault, PipeState}
 use Rattle.usb_table.specs.{EndpointChoice, TableFault, TransferFault, FunctionPipes, Pipes, Table}
 use Rattle.usb_table.specs.{GoesThrough, pipes_at, KeepsMoved, asked_through, table_answer}
 use Rattle.usb_table.specs.{PipesSent, PipesReceived, PipesReported, PipesCleared, PipesClearedOf}

@@ -2,8 +2,8 @@
 use crate::host::{as_host_fault, is_final};
 use crate::{Host, HostFault};
 use usb_bus::Bus;
-use usb_pipe::Setup;
 use usb_port::PortPath;
+use usb_transfer::Setup;
 
 impl<B: Bus> Host<B> {
     ghost use Rattle.std.specs.Prelude.{◌≡◌, ◌≤◌, length, true, IfOk};

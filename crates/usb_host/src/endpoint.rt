@@ -9,8 +9,8 @@ use usb_table::EndpointChoice;
 
 impl<B: Bus> Host<B> {
     ghost use Rattle.std.specs.Prelude.{◌≡◌, ◌*◌, length, true};
-    ghost use Rattle.usb_transaction.specs.Transactions.{transaction_bound};
-    ghost use Rattle.usb_pipe.specs.Control.{write_bound};
+    ghost use Rattle.usb_transfer.specs.Transactions.{transaction_bound};
+    ghost use Rattle.usb_transfer.specs.Control.{write_bound};
     ghost use Rattle.usb_table.specs.declared.choice.EndpointChoice.TheVariants.{At};
     ghost use Rattle.usb_table.specs.PipeRows.{clears_miss, pipe_to, polls_miss, polls_through, receives_miss, receives_through, sends_miss, sends_through, through, unless_broken};
     ghost use Rattle.usb_table.specs.Tables.{pipes_at};

@@ -3,7 +3,7 @@ ghost use Rattle.std.specs.Prelude.{◌≡◌, ◌*◌, [], length, true, false,
 ghost use Rattle.std.specs.Borrow.{Lends, sem};
 ghost use Rattle.usb_host.specs.Agreement.{Agrees};
 ghost use Rattle.usb_host.specs.HostCalls.{ClearTells, MovesAnyBus, NewTells, ReceiveTells, RoundTells, RoundsAnyBus, SendTells, TransfersAnyBus};
-ghost use Rattle.usb_transaction.specs.Transactions.{transaction_bound};
+ghost use Rattle.usb_transfer.specs.Transactions.{transaction_bound};
 ghost use Rattle.usb_enum.specs.Verdicts.{usual_options};
 ghost use Rattle.usb_table.specs.PipeRows.{receives_miss, receives_through, sends_miss, sends_through, unless_broken};
 ghost use Rattle.usb_table.specs.declared.choice.EndpointChoice.TheVariants.{FirstBulk};
@@ -23,9 +23,8 @@ use std::alloc::Global;
 use std::marker::Model;
 use usb_bus::Bus;
 use usb_enum::HostOptions;
-use usb_port::PortPath;
+use usb_port::{AddressPool, PortPath};
 use usb_request::feature::PORT_POWER;
-use usb_resources::AddressPool;
 use usb_table::{DeviceTable, EndpointChoice, TableFault};
 
 /// Whether a round did anything.

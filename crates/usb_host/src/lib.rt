@@ -42,7 +42,7 @@ pub use news_laws::device_stays;
 pub use tree::Tree;
 pub use usb_bus::{Bus, BusFault};
 pub use usb_enum::{Cause, Finding, HostOptions};
-pub use usb_pipe::Setup;
 pub use usb_port::PortPath;
 pub use usb_request::EndpointAddress;
 pub use usb_table::TransferFault;
+pub use usb_transfer::Setup;

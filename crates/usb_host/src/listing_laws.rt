@@ -2,7 +2,7 @@
 //!
 //! Each call does nothing; what it ensures is for proofs to cite.
 ghost use Rattle.std.specs.Prelude.{◌≡◌, ℕ, List, Option, Result, Ok, false};
-ghost use Rattle.usb_resources.specs.Pool.{Addresses};
+ghost use Rattle.usb_port.specs.Pool.{Addresses};
 ghost use Rattle.usb_world.specs.declared.event.Ask.{Ask};
 ghost use Rattle.usb_world.specs.declared.types.BusFault.{BusFault};
 ghost use Rattle.usb_world.specs.RestingPorts.{LeavesPortAlone};

@@ -5,7 +5,7 @@ ghost use Rattle.usb_table.specs.Findings.{address_found};
 ghost use Rattle.usb_host.specs.Numbers.{AreNumbers, first_numbers, with_number};
 
 use std::marker::Model;
-use usb_resources::Address;
+use usb_port::Address;
 
 /// The number of the device at each address. No two devices that one host accepts get the same.
 #[derive(Debug, Drop)]

@@ -11,8 +11,7 @@ use crate::numbers::Numbers;
 use arrayvec::ArrayVec;
 use std::alloc::AllocError;
 use usb_enum::Finding;
-use usb_port::PortPath;
-use usb_resources::{Address, AddressPool};
+use usb_port::{Address, AddressPool, PortPath};
 use usb_table::{DeviceTable, address_of};
 
 /// Enters a finding, with what a refused device said, and gives an accepted device its number. If memory is refused or

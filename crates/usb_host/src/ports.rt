@@ -10,7 +10,7 @@ ghost use Rattle.usb_table.specs.TableEntries.{has_at};
 ghost use Rattle.usb_table.specs.Findings.{accepted_device_at};
 ghost use Rattle.usb_table.specs.KnownPorts.{IsAskable, known_port};
 ghost use Rattle.usb_table.specs.Listing.{tier_of};
-ghost use Rattle.usb_pipe.specs.Control.{write_bound};
+ghost use Rattle.usb_transfer.specs.Control.{write_bound};
 ghost use Rattle.usb_host.specs.Changes.{HasOnlyWorldChanges, IsCleared, is_stuck, was_disabled};
 ghost use Rattle.usb_host.specs.LeftPorts.{LeavesNoMore};
 ghost use Rattle.usb_host.specs.NearPorts.{DropsNear, IsOnWay, PortEnds};
@@ -34,10 +34,9 @@ use usb_hub::{
     HubPort, PipeFault, PortStatus, clear_hub_changes, clear_port, clear_port_change, has_root,
     port_status,
 };
-use usb_port::PortPath;
+use usb_port::{PortPath, supply};
 use usb_request::feature::{C_PORT_CONNECTION, C_PORT_ENABLE, C_PORT_RESET, PORT_ENABLE};
 use usb_request::hub_feature::{C_PORT_OVER_CURRENT, C_PORT_SUSPEND};
-use usb_resources::supply;
 use usb_table::{KnownPort, address_of};
 
 impl<B: Bus> Host<B> {

@@ -5,7 +5,7 @@ ghost use Rattle.usb_device.specs.Bulk.{told_bits};
 ghost use Rattle.usb_table.specs.Listing.{hub_facts_at};
 ghost use Rattle.usb_table.specs.Findings.{is_hub, is_waiting};
 ghost use Rattle.usb_table.specs.NextEntries.{ComesAfter, IsNext, IsLast};
-ghost use Rattle.usb_resources.specs.Pool.{IsFull};
+ghost use Rattle.usb_port.specs.Pool.{IsFull};
 ghost use Rattle.usb_host.specs.Agreement.{Agrees};
 ghost use Rattle.usb_host.specs.Ports.{Waits};
 ghost use Rattle.usb_host.specs.Bounds.{hub_poll_bound, hubs_bound, looks_bound, roots_bound, round_bound, told_bound};

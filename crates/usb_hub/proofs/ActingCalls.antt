@@ -13,14 +13,15 @@ use Rattle.usb_device.specs.{Location, path_to}
 use Rattle.usb_world.specs.{Attempt, is_harmless, resets, step_keeps_pending, IsMade, IsSetup}
 use Rattle.usb_world.specs.{HolderIn, setup_asked, token_way, payload_way, AsksNothing}
 use Rattle.usb_world.specs.{is_port_request, is_sparing, leaves_step, attempt, root_call, after}
-use Rattle.usb_world.specs.{at_attempt, damage_in, World}
-use Rattle.usb_tree.specs.{is_way, NobodyHolds, deep_at, keeps_pending}
+use Rattle.usb_world.specs.{at_attempt, damage_in, World, is_way, NobodyHolds, deep_at}
+use Rattle.usb_world.specs.{keeps_pending}
 use Rattle.usb_world.proofs.Interface.{holder_or_nobody, nobody_in, others_asked_nothing}
-use Rattle.usb_world.proofs.Interface.{self_asked, setup_place_in, silent_place_in}
-use Rattle.usb_tree.proofs.Interface.{decided}
-use Rattle.usb_transaction.specs.{Target, setup_attempt}
-use Rattle.usb_address.proofs.Interface.{ClaimedAt, place_ports, claimed_holder}
-use Rattle.usb_address.proofs.Interface.{nobody_asks_nothing, unshared_after}
+use Rattle.usb_world.proofs.Interface.{self_asked, setup_place_in, silent_place_in, decided}
+use Rattle.usb_transfer.specs.{Target, setup_attempt}
+use Rattle.usb_hub.proofs.ClaimedHubs.{ClaimedAt, claimed_holder}
+use Rattle.usb_hub.proofs.HubPorts.{place_ports}
+use Rattle.usb_hub.proofs.UnheldAddresses.{nobody_asks_nothing}
+use Rattle.usb_hub.proofs.Steps.{unshared_after}
 use Rattle.usb_hub.specs.{ActsAt}
 
 -- Trees

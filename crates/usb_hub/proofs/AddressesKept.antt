@@ -11,20 +11,21 @@ use Rattle.usb_port.specs.{IsClearFeature}
 use Rattle.usb_port.proofs.Interface.{call_is}
 use Rattle.usb_device.specs.{Is, State, Location, path_to, reach_on, state_on}
 use Rattle.usb_world.specs.{World, SetsRoot, ClearsRoot, root_call, after, after_reset}
-use Rattle.usb_world.specs.{after_taking, is_harmless}
-use Rattle.usb_tree.specs.{address_of, is_way}
-use Rattle.usb_transaction.specs.{Target, Answerer}
-use Rattle.usb_pipe.specs.{PipeFault, Reads}
-use Rattle.usb_pipe.proofs.Interface.{host_harmless}
-use Rattle.usb_address.specs.{AddressMap, map_without, MapHolds, WhileBusWorks, KeepsAddresses}
-use Rattle.usb_address.proofs.Interface.{answerer_claims, either_alone, gives_address, not_way}
-use Rattle.usb_address.proofs.Interface.{read_keeps, reads_other, reset_till, root_keeps}
-use Rattle.usb_address.proofs.Interface.{root_resets, root_shut, is_way-same_path}
-use Rattle.usb_address.proofs.Interface.{write_keeps, write_till}
-use Rattle.usb_hub.specs.{HubPort, Root, External, StaysAs, EachElsewhere, KeepsDevices, IsBelow}
+use Rattle.usb_world.specs.{after_taking, is_harmless, address_of, is_way}
+use Rattle.usb_transfer.specs.{Target, Answerer, PipeFault, Reads}
+use Rattle.usb_transfer.proofs.Interface.{host_harmless}
+use Rattle.usb_hub.specs.{AddressMap, map_without, MapHolds, WhileBusWorks, KeepsAddresses, HubPort}
+use Rattle.usb_hub.specs.{Root, External, StaysAs, EachElsewhere, KeepsDevices, IsBelow}
 use Rattle.usb_hub.specs.{EachNamedElsewhere, IsClaimed, Resets, GivesAddress, KeepsAnswered}
 use Rattle.usb_hub.specs.{KeepsAsked, KeepsSet, KeepsCleared, PortRead, EndsAfter, ReadAs}
 use Rattle.usb_hub.specs.{Commanded}
+use Rattle.usb_hub.proofs.Answerers.{answerer_claims}
+use Rattle.usb_hub.proofs.TransferSequences.{either_alone, read_keeps, write_keeps, write_till}
+use Rattle.usb_hub.proofs.Transfers.{gives_address}
+use Rattle.usb_hub.proofs.AddressPorts.{not_way, reset_till}
+use Rattle.usb_hub.proofs.Setups.{reads_other}
+use Rattle.usb_hub.proofs.Roots.{root_keeps, root_resets, root_shut}
+use Rattle.usb_hub.proofs.PortResets.{is_way-same_path}
 use Rattle.usb_hub.proofs.Devices.{keeps_devices_none, port_status_keeps, clear_feature_keeps}
 use Rattle.usb_hub.proofs.Devices.{set_stays, reset_stays, root_stays, root_elsewhere}
 use Rattle.usb_hub.proofs.BaredPorts.{port_told_bares, done_bares}

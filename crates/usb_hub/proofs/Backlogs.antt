@@ -7,22 +7,19 @@ use Rattle.usb_request.proofs.Interface.{same_setup}
 use Rattle.usb_port.specs.{PortCall}
 use Rattle.usb_device.specs.{Is, Location, path_to, State}
 use Rattle.usb_world.specs.{Attempt, Outcome, HolderIn, IsMade, IsSetup, AtPorts, Course, Step}
-use Rattle.usb_world.specs.{after, attempt, World}
-use Rattle.usb_tree.specs.{IsSettled}
+use Rattle.usb_world.specs.{after, attempt, World, IsSettled}
 use Rattle.usb_world.proofs.Interface.{Allows, course_joined, course_then, holder_or_nobody}
-use Rattle.usb_world.proofs.Interface.{made_of, settled_wider}
-use Rattle.usb_tree.proofs.Interface.{decided}
-use Rattle.usb_backlog.specs.{CoversCall, Few, KeepsAll, KeepsBy, PortMark}
-use Rattle.usb_backlog.proofs.Interface.{Covers, KeepsStep, data_allows, holder_allows}
-use Rattle.usb_backlog.proofs.Interface.{keeps-attempt, keeps-chain, keeps-unheard}
-use Rattle.usb_backlog.proofs.Interface.{payload_sets_none, request_sets_none, sets_none}
-use Rattle.usb_transaction.specs.{Target, AcceptedAt, AttemptLog, setup_attempt}
-use Rattle.usb_transaction.proofs.Interface.{trail_course}
-use Rattle.usb_pipe.specs.{PipeFault, IsOfDataWrite, IsOfTransfer, IsBehind, IsBehindData}
-use Rattle.usb_pipe.specs.{IsNoBusFault, PutsData, Reads, Writes}
-use Rattle.usb_pipe.proofs.Interface.{put_attempts, read_attempts, write_attempts}
-use Rattle.usb_address.proofs.Interface.{ClaimedAt, KeepsClaim, claimed_holder}
-use Rattle.usb_address.proofs.Interface.{trail_with, unshared_after}
+use Rattle.usb_world.proofs.Interface.{made_of, settled_wider, decided}
+use Rattle.usb_hub.specs.{CoversCall, Few, KeepsAll, KeepsBy, PortMark}
+use Rattle.usb_hub.proofs.BacklogRequests.{Covers, data_allows, holder_allows, payload_sets_none}
+use Rattle.usb_hub.proofs.BacklogRequests.{request_sets_none, sets_none}
+use Rattle.usb_hub.proofs.BacklogSteps.{KeepsStep, keeps-attempt, keeps-chain, keeps-unheard}
+use Rattle.usb_transfer.specs.{Target, AcceptedAt, AttemptLog, setup_attempt, PipeFault}
+use Rattle.usb_transfer.specs.{IsOfDataWrite, IsOfTransfer, IsBehind, IsBehindData, IsNoBusFault}
+use Rattle.usb_transfer.specs.{PutsData, Reads, Writes}
+use Rattle.usb_transfer.proofs.Interface.{trail_course, put_attempts, read_attempts, write_attempts}
+use Rattle.usb_hub.proofs.ClaimedHubs.{ClaimedAt, KeepsClaim, claimed_holder, trail_with}
+use Rattle.usb_hub.proofs.Steps.{unshared_after}
 use Rattle.usb_hub.proofs.ActingCalls.{AsksFor}
 use Rattle.usb_hub.proofs.RestingRequests.{behind_data_kind, no_set_up}
 

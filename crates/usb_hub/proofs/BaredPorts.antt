@@ -4,12 +4,10 @@ use Rattle.std.proofs.Common.{◌++◌, Option, option_map, Ok, refl, ap, sym, �
 use Rattle.usb_request.specs.{PORT_ENABLE}
 use Rattle.usb_port.specs.{PortState, PortStatus, ClearEnable, clear_call, called_port}
 use Rattle.usb_device.specs.{Ports, vacant, taken, port_at, reach, reach_at, port_there}
-use Rattle.usb_tree.specs.{is_way}
-use Rattle.usb_world.specs.{after, World}
-use Rattle.usb_world.proofs.Interface.{course_wider, same_device, way_rest}
-use Rattle.usb_tree.proofs.Interface.{and_false, false_true}
-use Rattle.usb_address.specs.{AddressMap, map_without, MapHolds, WhileBusWorks, KeepsAddresses}
-use Rattle.usb_hub.specs.{HubPort, Isolates, OnReachedRow, PortStatusAt, ReadsPort, PortCallDone}
+use Rattle.usb_world.specs.{is_way, after, World}
+use Rattle.usb_world.proofs.Interface.{course_wider, same_device, way_rest, and_false, false_true}
+use Rattle.usb_hub.specs.{AddressMap, map_without, MapHolds, WhileBusWorks, KeepsAddresses, HubPort}
+use Rattle.usb_hub.specs.{Isolates, OnReachedRow, PortStatusAt, ReadsPort, PortCallDone}
 use Rattle.usb_hub.specs.{CommandsPort, TouchesNoPort}
 use Rattle.usb_hub.proofs.CalledPorts.{port_of_place}
 

@@ -9,15 +9,16 @@ use Rattle.usb_request.proofs.Interface.{same_setup}
 use Rattle.usb_device.specs.{Leaves, Registers, asked_by_setup, outcome, port_named, called_at}
 use Rattle.usb_device.specs.{told_port, State, Spec, refused, first_stage, acted, port_at, path_to}
 use Rattle.usb_device.specs.{reach_on, port_there}
-use Rattle.usb_world.specs.{is_harmless, Was, StillSet, World}
-use Rattle.usb_tree.specs.{address_of, IsSettled}
+use Rattle.usb_world.specs.{is_harmless, Was, StillSet, World, address_of, IsSettled}
 use Rattle.usb_world.proofs.Interface.{course_bits, course_wider, same_device}
-use Rattle.usb_transaction.specs.{Target, AcceptedAt, Listens, NoThreeDamaged}
-use Rattle.usb_pipe.specs.{PipeFault, IsNoBusFault, AnswerRead, WasRefused, ReadLeaves, WriteLeaves}
-use Rattle.usb_pipe.specs.{ControlReadFailure, WriteFailure}
-use Rattle.usb_pipe.specs.declared.fault.PipeFault.TheVariants.{Stalled, Busy, NoAnswer, Broken}
-use Rattle.usb_pipe.proofs.Interface.{read_leaves, read_why, write_leaves, write_why}
-use Rattle.usb_address.proofs.Interface.{settled_attempt, place_ports, port_below_at}
+use Rattle.usb_transfer.specs.{Target, AcceptedAt, Listens, NoThreeDamaged, PipeFault, IsNoBusFault}
+use Rattle.usb_transfer.specs.{AnswerRead, WasRefused, ReadLeaves, WriteLeaves, ControlReadFailure}
+use Rattle.usb_transfer.specs.{WriteFailure}
+use Rattle.usb_transfer.specs.declared.fault.PipeFault.TheVariants.{Stalled, Busy, NoAnswer, Broken}
+use Rattle.usb_transfer.proofs.Interface.{read_leaves, read_why, write_leaves, write_why}
+use Rattle.usb_hub.proofs.Steps.{settled_attempt}
+use Rattle.usb_hub.proofs.HubPorts.{place_ports}
+use Rattle.usb_hub.proofs.Trees.{port_below_at}
 use Rattle.usb_hub.specs.{StaysAs, Queried, ReadAs, Commanded, said_in, HubServes, NoHubFailed}
 use Rattle.usb_hub.proofs.ActingCalls.{AsksFor}
 use Rattle.usb_hub.proofs.Devices.{write_stays, IsOfPort}

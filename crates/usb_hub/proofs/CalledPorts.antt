@@ -9,12 +9,10 @@ use Rattle.usb_device.specs.{reach, reach_at, state_at, State, port_there, state
 use Rattle.usb_world.specs.{Event, Attempt, step_keeps_pending, resets, spec_of, AsksNothing}
 use Rattle.usb_world.specs.{leaves_step, LeavesPortAlone, SameAt, UnchangedOrPending, Step, attempt}
 use Rattle.usb_world.specs.{event, after, with_attempt, at_attempt, after_due_events, after_event}
-use Rattle.usb_world.specs.{is_due, Course, here, step, World}
-use Rattle.usb_tree.specs.{has_power, pending, keeps_pending}
+use Rattle.usb_world.specs.{is_due, Course, here, step, World, has_power, pending, keeps_pending}
 use Rattle.usb_world.proofs.Interface.{MadeOrNot, attempt_cases, course_wider, made_pend}
 use Rattle.usb_world.proofs.Interface.{made_sound, pending_persists, rests_or_pends}
-use Rattle.usb_world.proofs.Interface.{stands_or_pends}
-use Rattle.usb_tree.proofs.Interface.{and_of, both, false_true}
+use Rattle.usb_world.proofs.Interface.{stands_or_pends, and_of, both, false_true}
 use Rattle.usb_hub.specs.{OnReachedRow, PortStatusAt, ports_at_step, ActsAt, PortCallDone}
 
 -- The port of a place

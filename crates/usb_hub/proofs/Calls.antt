@@ -13,35 +13,37 @@ use Rattle.usb_device.specs.{place, place_at, Location, path_to, reach_on, state
 use Rattle.usb_world.specs.{Attempt, BusFault, Outcome, KeepsPendingAt, is_harmless, Was}
 use Rattle.usb_world.specs.{LeavesPortAlone, Step, attempt, root_call, after, at_attempt, Course}
 use Rattle.usb_world.specs.{here, step as step_then, AttemptFails, SetsRoot, ClearsRoot, World}
-use Rattle.usb_world.specs.{Attempted}
-use Rattle.usb_tree.specs.{address_of, is_way, IsSettled, keeps_pending}
+use Rattle.usb_world.specs.{Attempted, address_of, is_way, IsSettled, keeps_pending}
 use Rattle.usb_world.proofs.Interface.{course_joined, course_wider, made_of, same_is, settled_wider}
-use Rattle.usb_world.proofs.Interface.{Allows}
-use Rattle.usb_tree.proofs.Interface.{decided, equal_same}
-use Rattle.usb_transaction.specs.{Target, TransFault, Answerer, is_at, AcceptedAt, AttemptLog}
-use Rattle.usb_transaction.specs.{BusFailed, start, Transacted, in_attempt, setup_attempt}
-use Rattle.usb_transaction.specs.declared.fault.TransFault.TheVariants as trans
-use Rattle.usb_transaction.proofs.Interface.{trail_course}
-use Rattle.usb_pipe.specs.{PipeFault, as_pipe_fault, Writes, IsBehind, IsNoBusFault, EffectDone}
-use Rattle.usb_pipe.specs.{WriteLeaves}
-use Rattle.usb_pipe.specs.declared.fault.PipeFault.TheVariants.{Bus}
-use Rattle.usb_pipe.proofs.Interface.{transacted_ended, who_writes, write_attempts, write_leaves}
-use Rattle.usb_address.specs.{AddressMap, LeavesPipe, MapHolds, WhileBusWorks}
-use Rattle.usb_address.proofs.Interface.{ClaimedAt, Fits, KeepsClaim, Resets, settled_attempt}
-use Rattle.usb_address.proofs.Interface.{place_ports, claimed_path, is_path-empty, no_root}
-use Rattle.usb_address.proofs.Interface.{quiet_follows, reset_follows, resets_leave}
-use Rattle.usb_address.proofs.Interface.{some, trail_sound, trail_with, writes_leave}
-use Rattle.usb_hub.specs.{IsBelow, IsAbout, UpToFault, ActsAt, PortCallDone, CommandsPort}
-use Rattle.usb_hub.specs.{TouchesNoPort, Commanded, HubPort, Root, External}
+use Rattle.usb_world.proofs.Interface.{Allows, decided, equal_same}
+use Rattle.usb_transfer.specs.{Target, TransFault, Answerer, is_at, AcceptedAt, AttemptLog}
+use Rattle.usb_transfer.specs.{BusFailed, start, Transacted, in_attempt, setup_attempt}
+use Rattle.usb_transfer.specs.declared.trans_fault.TransFault.TheVariants as trans
+use Rattle.usb_transfer.proofs.Interface.{trail_course, transacted_ended, who_writes}
+use Rattle.usb_transfer.proofs.Interface.{write_attempts, write_leaves}
+use Rattle.usb_transfer.specs.{PipeFault, as_pipe_fault, Writes, IsBehind, IsNoBusFault, EffectDone}
+use Rattle.usb_transfer.specs.{WriteLeaves}
+use Rattle.usb_transfer.specs.declared.fault.PipeFault.TheVariants.{Bus}
+use Rattle.usb_hub.specs.{AddressMap, LeavesPipe, MapHolds, WhileBusWorks, IsBelow, IsAbout}
+use Rattle.usb_hub.specs.{UpToFault, ActsAt, PortCallDone, CommandsPort, TouchesNoPort, Commanded}
+use Rattle.usb_hub.specs.{HubPort, Root, External, CoversCall, KeepsAll, KeepsBy, KeepsCall}
+use Rattle.usb_hub.specs.{KeepsFound, PortMark, only, ports_at, unmarked}
+use Rattle.usb_hub.proofs.ClaimedHubs.{ClaimedAt, KeepsClaim, claimed_path, quiet_follows}
+use Rattle.usb_hub.proofs.ClaimedHubs.{reset_follows, some, trail_with}
+use Rattle.usb_hub.proofs.PortResets.{Fits, Resets, resets_leave}
+use Rattle.usb_hub.proofs.Steps.{settled_attempt}
+use Rattle.usb_hub.proofs.HubPorts.{place_ports}
+use Rattle.usb_hub.proofs.AddressPorts.{is_path-empty, no_root}
+use Rattle.usb_hub.proofs.TransferSequences.{trail_sound}
+use Rattle.usb_hub.proofs.Transfers.{writes_leave}
 use Rattle.usb_hub.proofs.ActingCalls.{place_below, place_called, AsksFor, attempt_acts, root_acts}
 use Rattle.usb_hub.proofs.ActingCalls.{root_acted}
 use Rattle.usb_hub.proofs.RestingRequests.{behind_rests, behind_asks_nothing}
 use Rattle.usb_hub.proofs.Backlogs.{acted_keeps, call_keeps, holder_covers, request_keeps}
 use Rattle.usb_hub.proofs.Backlogs.{rests_backlog}
-use Rattle.usb_backlog.specs.{CoversCall, KeepsAll, KeepsBy, KeepsCall, KeepsFound, PortMark, only}
-use Rattle.usb_backlog.specs.{ports_at, unmarked}
-use Rattle.usb_backlog.proofs.Interface.{few-only, keeps-chain, keeps-root, ports_covered}
-use Rattle.usb_backlog.proofs.Interface.{root_allowed, sets_none}
+use Rattle.usb_hub.proofs.Phases.{few-only, ports_covered}
+use Rattle.usb_hub.proofs.BacklogSteps.{keeps-chain, keeps-root, root_allowed}
+use Rattle.usb_hub.proofs.BacklogRequests.{sets_none}
 use Rattle.usb_hub.proofs.CallFailures.{call_served}
 use Rattle.usb_hub.proofs.ControlCourses.{commanded_control}
 use Rattle.usb_port.proofs.Interface.{call_is}

@@ -4,9 +4,8 @@ use Rattle.std.specs.Global.{Vec}
 use Rattle.usb_request.specs.{Setup}
 use Rattle.usb_world.specs.{World}
 use Rattle.usb_world.proofs.Interface.{course_wider}
-use Rattle.usb_transaction.specs.{Target}
-use Rattle.usb_pipe.specs.{PipeFault, IsNoBusFault}
-use Rattle.usb_pipe.proofs.Interface.{read_attempts, write_attempts}
+use Rattle.usb_transfer.specs.{Target, PipeFault, IsNoBusFault}
+use Rattle.usb_transfer.proofs.Interface.{read_attempts, write_attempts}
 use Rattle.usb_hub.specs.{Commanded, ControlCourse, Queried}
 
 pub queried_control : (t : Target) (request : Setup) (answer : Result (Vec ℕ) PipeFault)

@@ -7,12 +7,11 @@ use Rattle.usb_request.proofs.Interface.{same_setup}
 use Rattle.usb_port.specs.{PortState, status_in, PortStatus, PortCall, is_reset}
 use Rattle.usb_device.specs.{Registers, OnlyControl, OnlyStage, Outcome, stalled, calls_port}
 use Rattle.usb_device.specs.{outcome, State, accepted, Spec, Ports, Location, reach_on, state_on}
-use Rattle.usb_world.specs.{is_harmless, Was, EachWas, root_call, after, World}
-use Rattle.usb_tree.specs.{address_of, is_way, call_resets, reset_if}
+use Rattle.usb_world.specs.{is_harmless, Was, EachWas, root_call, after, World, address_of, is_way}
+use Rattle.usb_world.specs.{call_resets, reset_if}
 use Rattle.usb_world.proofs.Interface.{call_reach, call_state, each_wider}
-use Rattle.usb_transaction.specs.{Target}
-use Rattle.usb_pipe.specs.{PipeFault, ReadLeaves, WriteLeaves}
-use Rattle.usb_pipe.proofs.Interface.{read_leaves, write_leaves}
+use Rattle.usb_transfer.specs.{Target, PipeFault, ReadLeaves, WriteLeaves}
+use Rattle.usb_transfer.proofs.Interface.{read_leaves, write_leaves}
 use Rattle.usb_hub.specs.{StaysAs, EachElsewhere, KeepsDevices, ReadAs, Commanded}
 use Rattle.usb_hub.proofs.Settings.{each_leaves, write_so}
 

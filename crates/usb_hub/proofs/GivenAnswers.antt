@@ -10,11 +10,10 @@ use Rattle.usb_request.proofs.Interface.{same_setup}
 use Rattle.usb_device.specs.Request.{answers}
 use Rattle.usb_world.specs.{World, EachWas}
 use Rattle.usb_world.proofs.Interface.{each_wider}
-use Rattle.usb_transaction.specs.{Target, NoThreeDamaged}
-use Rattle.usb_pipe.specs.{PipeFault, ReadLeaves, AnswerRead, WasRefused, IsNoBusFault}
-use Rattle.usb_pipe.specs.{ControlReadFailure}
-use Rattle.usb_pipe.specs.declared.fault.PipeFault.TheVariants.{Bus}
-use Rattle.usb_pipe.proofs.Interface.{read_leaves, read_why}
+use Rattle.usb_transfer.specs.{Target, NoThreeDamaged, PipeFault, ReadLeaves, AnswerRead}
+use Rattle.usb_transfer.specs.{WasRefused, IsNoBusFault, ControlReadFailure}
+use Rattle.usb_transfer.specs.declared.fault.PipeFault.TheVariants.{Bus}
+use Rattle.usb_transfer.proofs.Interface.{read_leaves, read_why}
 use Rattle.usb_hub.specs.{device_given, config_given, string_given, hub_given, HasText, TextAsked}
 use Rattle.usb_hub.specs.{DeviceAsked, ConfigAsked, StringAsked, HubAsked, ReadFailure, Queried}
 

@@ -1,7 +1,7 @@
 -- What is told where a change was cleared.
 use Rattle.std.proofs.Common.{arith, ◌≡◌, ℕ, Result, Err, IfErr}
 use Rattle.usb_world.specs.{World}
-use Rattle.usb_pipe.specs.{FaultAfter, PipeFault}
+use Rattle.usb_transfer.specs.{FaultAfter, PipeFault}
 use Rattle.usb_hub.specs.{ToldBus, done_or_unknown, EndsAfter}
 
 -- where the bus gave up, it tells its fault

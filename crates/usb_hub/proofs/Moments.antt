@@ -12,18 +12,20 @@ use Rattle.usb_device.specs.{reach, Location, path_to, reach_on, state_on, port_
 use Rattle.usb_world.specs.{LeavesPortAlone, World, IsRootPort, root_port_at as root_port, Course}
 use Rattle.usb_world.specs.{here, Was}
 use Rattle.usb_world.proofs.Interface.{same_is}
-use Rattle.usb_transaction.specs.{Target, Answerer, is_at, AcceptedAt, NoThreeDamaged}
-use Rattle.usb_pipe.specs.{PipeFault, AnswerRead, ReadLeaves}
-use Rattle.usb_pipe.proofs.Interface.{read_leaves, who_reads}
-use Rattle.usb_address.specs.{AddressMap, MapHolds, WhileBusWorks}
-use Rattle.usb_address.proofs.Interface.{settled_attempt, less_one, is_path-empty, no_root}
-use Rattle.usb_address.proofs.Interface.{port_below_at, reads_leave}
-use Rattle.usb_hub.specs.{IsBelow, HubPort, Root, External, PortStatusAt, ReadsPort, IsPort}
-use Rattle.usb_hub.specs.{RootRead, PortRead, Queried, ReadAs, HubServes, NoHubFailed}
-use Rattle.usb_hub.specs.{ControlCourse}
+use Rattle.usb_transfer.specs.{Target, Answerer, is_at, AcceptedAt, NoThreeDamaged, PipeFault}
+use Rattle.usb_transfer.specs.{AnswerRead, ReadLeaves}
+use Rattle.usb_transfer.proofs.Interface.{read_leaves, who_reads}
+use Rattle.usb_hub.specs.{AddressMap, MapHolds, WhileBusWorks, IsBelow, HubPort, Root, External}
+use Rattle.usb_hub.specs.{PortStatusAt, ReadsPort, IsPort, RootRead, PortRead, Queried, ReadAs}
+use Rattle.usb_hub.specs.{HubServes, NoHubFailed, ControlCourse}
+use Rattle.usb_hub.proofs.Steps.{settled_attempt}
+use Rattle.usb_hub.proofs.HubPorts.{less_one}
+use Rattle.usb_hub.proofs.AddressPorts.{is_path-empty, no_root}
+use Rattle.usb_hub.proofs.Trees.{port_below_at}
+use Rattle.usb_hub.proofs.Transfers.{reads_leave}
 use Rattle.usb_hub.proofs.RestingRequests.{behind_asks_nothing, resting_course}
 use Rattle.usb_hub.proofs.Backlogs.{asked_backlog, rests_backlog}
-use Rattle.usb_backlog.proofs.Interface.{all_none}
+use Rattle.usb_hub.proofs.Phases.{all_none}
 use Rattle.usb_hub.proofs.Statuses.{row_port, StatusOf, read_status, came_status, status_host}
 use Rattle.usb_hub.proofs.Statuses.{status_some, status_plain}
 use Rattle.usb_hub.proofs.ToldBytes.{IsReadFrom, said}

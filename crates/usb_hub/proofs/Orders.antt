@@ -6,12 +6,12 @@ use Rattle.usb_request.proofs.Interface.{same_setup}
 use Rattle.usb_world.specs.{Attempt, is_harmless, AsksNothing, is_above, LeavesPortAlone, Course}
 use Rattle.usb_world.specs.{attempt, after, World, Made}
 use Rattle.usb_world.proofs.Interface.{course_joined, elsewhere, holder_or_nobody, made_of}
-use Rattle.usb_transaction.specs.{Target}
-use Rattle.usb_pipe.specs.{PipeFault, Writes, IsNoBusFault}
-use Rattle.usb_address.specs.{MapHolds}
-use Rattle.usb_address.proofs.Interface.{ClaimedAt, KeepsClaim, claimed_holder, nobody_asks_nothing}
-use Rattle.usb_address.proofs.Interface.{quiet_follows, trail_with, unshared_after}
-use Rattle.usb_hub.specs.{TouchesPortsBelow}
+use Rattle.usb_transfer.specs.{Target, PipeFault, Writes, IsNoBusFault}
+use Rattle.usb_hub.specs.{MapHolds, TouchesPortsBelow}
+use Rattle.usb_hub.proofs.ClaimedHubs.{ClaimedAt, KeepsClaim, claimed_holder, quiet_follows}
+use Rattle.usb_hub.proofs.ClaimedHubs.{trail_with}
+use Rattle.usb_hub.proofs.UnheldAddresses.{nobody_asks_nothing}
+use Rattle.usb_hub.proofs.Steps.{unshared_after}
 use Rattle.usb_hub.proofs.Calls.{Sent, writes_sent}
 use Rattle.usb_hub.proofs.RestingRequests.{behind_asks_nothing}
 

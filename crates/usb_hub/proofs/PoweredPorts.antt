@@ -9,14 +9,15 @@ use Rattle.usb_device.specs.{place_at, port_there, state_there, Place}
 use Rattle.usb_world.specs.{Attempt, NoReset, is_made, made_resets, resets, spec_of, row_reached}
 use Rattle.usb_world.specs.{StillSet, UnchangedOrPending, Consistent, ConsistentPlace, Step}
 use Rattle.usb_world.specs.{attempt, after, with_attempt, at_attempt, Course, here, step}
-use Rattle.usb_world.specs.{WorldInvariant, World}
-use Rattle.usb_tree.specs.{has_power, pending}
+use Rattle.usb_world.specs.{WorldInvariant, World, has_power, pending}
 use Rattle.usb_world.proofs.Interface.{MadeOrNot, attempt_cases, between_after, between_course}
 use Rattle.usb_world.proofs.Interface.{between_ready, course_bits, course_wider, made_reach}
 use Rattle.usb_world.proofs.Interface.{made_sound, pending_persists, reach_live, rests_or_pends}
 use Rattle.usb_world.proofs.Interface.{same_device, stands, stands_or_pends, state_stands}
 use Rattle.usb_world.proofs.Interface.{step_pend}
-use Rattle.usb_address.proofs.Interface.{NoPower, live_of_up, not_way, pend_of_up, ready_unpowered}
+use Rattle.usb_hub.proofs.UnpoweredPorts.{NoPower, ready_unpowered}
+use Rattle.usb_hub.proofs.Trees.{live_of_up, pend_of_up}
+use Rattle.usb_hub.proofs.AddressPorts.{not_way}
 use Rattle.usb_hub.specs.{ports_at_step, ActsAt, PortCallDone}
 use Rattle.usb_hub.proofs.CalledPorts.{port_of_place, due_course}
 

@@ -6,15 +6,13 @@ use Rattle.std.specs.Global.{Vec}
 use Rattle.usb_request.specs.{bytes_of, IsToHost, Setup}
 use Rattle.usb_request.proofs.Interface.{same_setup}
 use Rattle.usb_world.specs.{Attempt, is_setup, asks_no_port, LeavesPortAlone, World, Step, attempt}
-use Rattle.usb_world.specs.{Course}
-use Rattle.usb_tree.specs.{IsSettled}
+use Rattle.usb_world.specs.{Course, IsSettled}
 use Rattle.usb_world.proofs.Interface.{course_then, data_asks_nothing, payload_asks_nothing}
 use Rattle.usb_world.proofs.Interface.{settled_wider}
-use Rattle.usb_transaction.specs.{Target, AcceptedAt, setup_attempt}
-use Rattle.usb_transaction.proofs.Interface.{trail_course}
-use Rattle.usb_pipe.specs.{PipeFault, IsOfDataWrite, IsOfTransfer, PutsData, Reads, Writes}
-use Rattle.usb_pipe.specs.{IsBehind, IsBehindData, IsNoBusFault}
-use Rattle.usb_pipe.proofs.Interface.{put_attempts, read_attempts, write_attempts}
+use Rattle.usb_transfer.specs.{Target, AcceptedAt, setup_attempt, PipeFault, IsOfDataWrite}
+use Rattle.usb_transfer.specs.{IsOfTransfer, PutsData, Reads, Writes, IsBehind, IsBehindData}
+use Rattle.usb_transfer.specs.{IsNoBusFault}
+use Rattle.usb_transfer.proofs.Interface.{trail_course, put_attempts, read_attempts, write_attempts}
 use Rattle.usb_hub.specs.{TouchesNoPort}
 
 -- an attempt behind a SETUP is none

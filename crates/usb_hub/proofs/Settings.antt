@@ -15,12 +15,12 @@ use Rattle.usb_device.specs.{out_end, rested_in, rested_out, OnlyStage, takes_se
 use Rattle.usb_device.proofs.Interface.{at_mapped}
 use Rattle.usb_world.specs.{World, is_harmless, Relation, EachWas}
 use Rattle.usb_world.proofs.Interface.{each_both, each_wider}
-use Rattle.usb_transaction.specs.{Target, AcceptedAt, begins_no_stretch, EachSpared, NoThreeDamaged}
-use Rattle.usb_pipe.specs.{PipeFault, IsNoBusFault, EffectDone, EffectOrNone, none, some, whole}
-use Rattle.usb_pipe.specs.{WriteLeaves, LossesOf, WriteFailure}
-use Rattle.usb_pipe.specs.declared.fault.PipeFault.TheVariants.{Bus}
-use Rattle.usb_pipe.proofs.Interface.{write_leaves, write_losses, write_why, only_stage}
-use Rattle.usb_address.proofs.Interface.{settled_attempt}
+use Rattle.usb_transfer.specs.{Target, AcceptedAt, begins_no_stretch, EachSpared, NoThreeDamaged}
+use Rattle.usb_transfer.specs.{PipeFault, IsNoBusFault, EffectDone, EffectOrNone, none, some, whole}
+use Rattle.usb_transfer.specs.{WriteLeaves, LossesOf, WriteFailure}
+use Rattle.usb_transfer.specs.declared.fault.PipeFault.TheVariants.{Bus}
+use Rattle.usb_transfer.proofs.Interface.{write_leaves, write_losses, write_why, only_stage}
+use Rattle.usb_hub.proofs.Steps.{settled_attempt}
 use Rattle.usb_hub.specs.{Commanded, AddressAsked, takes_value, OnlySet, IsConfigured, WentOff}
 use Rattle.usb_hub.specs.{ConfigurationAsked, InterfaceAsked, TookSetting, offers_setting}
 use Rattle.usb_hub.proofs.RestingRequests.{behind_asks_nothing}

@@ -6,8 +6,7 @@ use Rattle.usb_request.specs.{IsToHost, get_port_status}
 use Rattle.usb_device.specs.{Effect, Leaves, Registers, effect_of_request, outcome, Spec, reading}
 use Rattle.usb_device.specs.{first_stage, Ports, vacant, taken, port_at, row_of, Location, State}
 use Rattle.usb_world.specs.{World, asks_no_port}
-use Rattle.usb_transaction.specs.{Target}
-use Rattle.usb_pipe.specs.{AnswerRead}
+use Rattle.usb_transfer.specs.{Target, AnswerRead}
 
 pub whole_status : (b : PortState) → take 4 (status_of b) ≡ status_of b
 unfolding status_of

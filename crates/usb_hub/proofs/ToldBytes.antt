@@ -8,9 +8,8 @@ use Rattle.usb_request.specs.{get_status}
 use Rattle.usb_port.specs.{has_bit}
 use Rattle.usb_world.specs.{World, EachWas}
 use Rattle.usb_world.proofs.Interface.{each_wider}
-use Rattle.usb_transaction.specs.{Target, is_at, NoThreeDamaged}
-use Rattle.usb_pipe.specs.{PipeFault}
-use Rattle.usb_pipe.specs.declared.fault.PipeFault.TheVariants.{Stalled}
+use Rattle.usb_transfer.specs.{Target, is_at, NoThreeDamaged, PipeFault}
+use Rattle.usb_transfer.specs.declared.fault.PipeFault.TheVariants.{Stalled}
 use Rattle.usb_hub.specs.{DeviceStatus, unless_refused, status_given, HasText, TextAsked}
 use Rattle.usb_hub.specs.{StatusAsked, ReadFailure, ReadAs, said_in, device_status}
 use Rattle.usb_hub.proofs.GivenAnswers.{AnswersRequest, text_asked_of, why_asked_of}

@@ -2,8 +2,7 @@
 use Rattle.std.proofs.Common.{arith, ℕ, Result, Err}
 use Rattle.usb_port.specs.{PortStatus}
 use Rattle.usb_world.specs.{World}
-use Rattle.usb_transaction.specs.{Target}
-use Rattle.usb_pipe.specs.{PipeFault, FaultAfter}
+use Rattle.usb_transfer.specs.{Target, PipeFault, FaultAfter}
 use Rattle.usb_hub.specs.{HubPort, EndsAfter, WorksAfter, PortRead, PortSet, PortCleared}
 use Rattle.usb_hub.specs.{ClearsOfPort, ClearsOfHub}
 

@@ -4,10 +4,11 @@ use Rattle.std.specs.Prelude.{Result, Ok, OnOk}
 use Rattle.usb_request.specs.{PORT_ENABLE, PORT_RESET, PORT_POWER}
 use Rattle.usb_port.specs.{IsPath, IsPortNumber, PortStatus}
 use Rattle.usb_device.specs.{OnlyStage, State, Location, path_to, reach_on, state_on}
-use Rattle.usb_world.specs.{after_reset, after_taking, Relation, Was, EachWas, World}
-use Rattle.usb_tree.specs.{address_of, is_way}
-use Rattle.usb_pipe.specs.{PipeFault}
-use Rattle.usb_address.specs.{AddressMap, map_without, MapHolds, WhileBusWorks, KeepsAddresses}
+use Rattle.usb_world.specs.{after_reset, after_taking, Relation, Was, EachWas, World, address_of}
+use Rattle.usb_world.specs.{is_way}
+use Rattle.usb_transfer.specs.{PipeFault}
+use Rattle.usb_hub.specs.Claims.{AddressMap, map_without}
+use Rattle.usb_hub.specs.Ownership.{MapHolds, WhileBusWorks, KeepsAddresses}
 use Rattle.usb_hub.specs.declared.port.HubPort.{HubPort}
 use Rattle.usb_hub.specs.declared.port.HubPort.TheVariants.{Root, External}
 

@@ -2,10 +2,9 @@
 use Rattle.std.specs.Prelude.{◌≡◌, ◌≢◌, ℕ, ◌≤◌, true, false, Some, Result, Ok, Err, ⊤}
 use Rattle.usb_device.specs.{State, Spec, Hub, IsSpec, Location, reach_on, state_on}
 use Rattle.usb_world.specs.{World}
-use Rattle.usb_transaction.specs.{Target, Listens}
-use Rattle.usb_pipe.specs.{PipeFault}
-use Rattle.usb_pipe.specs.declared.fault.PipeFault.TheVariants.{Stalled, Busy, NoAnswer, Broken}
-use Rattle.usb_pipe.specs.declared.fault.PipeFault.TheVariants.{Bus, Memory}
+use Rattle.usb_transfer.specs.{Target, Listens, PipeFault}
+use Rattle.usb_transfer.specs.declared.fault.PipeFault.TheVariants.{Stalled, Busy, NoAnswer, Broken}
+use Rattle.usb_transfer.specs.declared.fault.PipeFault.TheVariants.{Bus, Memory}
 
 -- the description is a hub's, which is not always busy, is as the rules say, and has the port
 pub record HasPort (spec : Spec) (number : ℕ) : Type 0 where

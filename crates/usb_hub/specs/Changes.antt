@@ -5,10 +5,9 @@ use Rattle.usb_request.specs.{C_HUB_LOCAL_POWER, C_HUB_OVER_CURRENT, Setup, get_
 use Rattle.usb_request.specs.{clear_hub_feature, clear_port_feature}
 use Rattle.usb_port.specs.{has_bit}
 use Rattle.usb_world.specs.{BusFault, World, HasFault}
-use Rattle.usb_transaction.specs.{Target}
-use Rattle.usb_pipe.specs.{PipeFault}
-use Rattle.usb_pipe.specs.declared.fault.PipeFault.TheVariants.{Stalled, Busy, NoAnswer, Broken}
-use Rattle.usb_pipe.specs.declared.fault.PipeFault.TheVariants.{Bus, Memory}
+use Rattle.usb_transfer.specs.{Target, PipeFault}
+use Rattle.usb_transfer.specs.declared.fault.PipeFault.TheVariants.{Stalled, Busy, NoAnswer, Broken}
+use Rattle.usb_transfer.specs.declared.fault.PipeFault.TheVariants.{Bus, Memory}
 use Rattle.usb_hub.specs.declared.port.HubPort.{HubPort}
 use Rattle.usb_hub.specs.declared.port.HubPort.TheVariants.{Root, External}
 use Rattle.usb_hub.specs.declared.status.HubStatus.{HubStatus}

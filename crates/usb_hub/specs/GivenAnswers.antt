@@ -5,9 +5,8 @@ use Rattle.std.specs.Prelude.{◌≡◌, ◌≢◌, ℕ, ◌≤◌, Bool, true, 
 use Rattle.std.specs.Prelude.{slice_get, Option, None, Some, option_map, Result, Ok, Err}
 use Rattle.std.specs.Global.{Vec}
 use Rattle.usb_request.specs.{HUB_LENGTH}
-use Rattle.usb_transaction.specs.{Target, is_at, Listens}
-use Rattle.usb_pipe.specs.{PipeFault, CanEnd, IsMaximum}
-use Rattle.usb_pipe.specs.declared.fault.PipeFault.TheVariants.{Stalled, Busy, NoAnswer}
+use Rattle.usb_transfer.specs.{Target, is_at, Listens, PipeFault, CanEnd, IsMaximum}
+use Rattle.usb_transfer.specs.declared.fault.PipeFault.TheVariants.{Stalled, Busy, NoAnswer}
 use Rattle.usb_hub.specs.declared.status.DeviceStatus.{DeviceStatus}
 
 -- What a description has for each request: None where the device refuses it

@@ -5,13 +5,13 @@ use Rattle.usb_port.specs.{PortState, seen, PortStatus, PortCall, is_reset}
 use Rattle.usb_device.specs.{Ports, called, place, path_to, port_there}
 use Rattle.usb_world.specs.{Attempt, BusFault, KeepsPendingAt, step_keeps_pending, AsksNothing}
 use Rattle.usb_world.specs.{row_reached, LeavesPortAlone, Step, attempt, root_call, event, report}
-use Rattle.usb_world.specs.{after, at_attempt, Course, AttemptFails, World, Attempted}
-use Rattle.usb_tree.specs.{is_way, keeps_pending}
-use Rattle.usb_address.specs.{AddressMap, MapHolds, WhileBusWorks}
-use Rattle.usb_backlog.specs.{KeepsAll, KeepsCall}
-use Rattle.usb_transaction.specs.{Target, NoThreeDamaged}
-use Rattle.usb_pipe.specs.{PipeFault, IsNoBusFault}
-use Rattle.usb_pipe.specs.declared.fault.PipeFault.TheVariants.{Bus}
+use Rattle.usb_world.specs.{after, at_attempt, Course, AttemptFails, World, Attempted, is_way}
+use Rattle.usb_world.specs.{keeps_pending}
+use Rattle.usb_hub.specs.Claims.{AddressMap}
+use Rattle.usb_hub.specs.Ownership.{MapHolds, WhileBusWorks}
+use Rattle.usb_hub.specs.Marks.{KeepsAll, KeepsCall}
+use Rattle.usb_transfer.specs.{Target, NoThreeDamaged, PipeFault, IsNoBusFault}
+use Rattle.usb_transfer.specs.declared.fault.PipeFault.TheVariants.{Bus}
 use Rattle.usb_hub.specs.Addresses.{IsAt}
 use Rattle.usb_hub.specs.Requests.{TouchesNoPort}
 use Rattle.usb_hub.specs.CallFailures.{HubServes, NoHubFailed}

@@ -6,8 +6,7 @@ use Rattle.usb_port.specs.{IsPortNumber, seen, status_in, PortStatus}
 use Rattle.usb_world.specs.{World, IsRootPort, AttemptsWithin, root_row, roots_of, to_come}
 use Rattle.usb_world.specs.{root_port_at, changes, SetsRoot, ClearsRoot}
 use Rattle.usb_bus.specs.{Traced, Steps}
-use Rattle.usb_transaction.specs.{IsTarget}
-use Rattle.usb_pipe.specs.{PipeFault, control_bound, write_bound}
+use Rattle.usb_transfer.specs.{IsTarget, PipeFault, control_bound, write_bound}
 use Rattle.usb_hub.specs.declared.port.HubPort.{HubPort}
 use Rattle.usb_hub.specs.declared.port.HubPort.TheVariants.{Root, External}
 use Rattle.usb_hub.specs.Requests.{ReadAs, Commanded}

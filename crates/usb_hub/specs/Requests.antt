@@ -3,16 +3,16 @@ use Rattle.std.specs.Prelude.{◌≡◌, ◌≢◌, ℕ, ◌≤◌, ◌==◌, tr
 use Rattle.std.specs.Prelude.{slice_index, Option, Some, None, Result, Ok, Err, IfOk, MatchResult}
 use Rattle.std.specs.Global.{Vec}
 use Rattle.usb_request.specs.{Setup, PORT_OUT, SET_FEATURE}
-use Rattle.usb_tree.specs.{IsSettled}
-use Rattle.usb_world.specs.{BusFault, is_harmless, asks_no_port, is_above, LeavesPortAlone, Course}
-use Rattle.usb_world.specs.{World}
-use Rattle.usb_transaction.specs.{Target, AttemptsMade}
+use Rattle.usb_world.specs.{IsSettled, BusFault, is_harmless, asks_no_port, is_above}
+use Rattle.usb_world.specs.{LeavesPortAlone, Course, World}
+use Rattle.usb_transfer.specs.{Target, AttemptsMade, BusToldIt, PipeFault, FaultAfter, Reads}
+use Rattle.usb_transfer.specs.{Writes, IsNoBusFault}
 use Rattle.usb_port.specs.{has_bit}
-use Rattle.usb_address.specs.{AddressMap, MapHolds}
-use Rattle.usb_backlog.specs.{KeepsAll}
+use Rattle.usb_hub.specs.Claims.{AddressMap}
+use Rattle.usb_hub.specs.Ownership.{MapHolds}
+use Rattle.usb_hub.specs.Marks.{KeepsAll}
 use Rattle.usb_device.specs.{Is}
-use Rattle.usb_pipe.specs.{BusToldIt, PipeFault, FaultAfter, Reads, Writes, IsNoBusFault}
-use Rattle.usb_pipe.specs.declared.fault.PipeFault.TheVariants.{Stalled, Memory}
+use Rattle.usb_transfer.specs.declared.fault.PipeFault.TheVariants.{Stalled, Memory}
 use Rattle.usb_hub.specs.declared.status.DeviceStatus.{DeviceStatus}
 
 -- how few attempts came before each end of a request that takes so many transactions at least

@@ -8,9 +8,8 @@ use Rattle.usb_device.specs.{is_value, State, rested, OnlyControl, Ports, full, 
 use Rattle.usb_device.specs.{place_on, in_end, out_end, NothingMoved, OnlyStage, items_at}
 use Rattle.usb_device.specs.{with_interface, outs_set, ins_set}
 use Rattle.usb_world.specs.{World, Course, LeavesPortAlone}
-use Rattle.usb_transaction.specs.{Target, is_at}
-use Rattle.usb_pipe.specs.{PipeFault, CanEnd, IsNoBusFault, TookItOrLost}
-use Rattle.usb_pipe.specs.declared.fault.PipeFault.TheVariants.{Stalled}
+use Rattle.usb_transfer.specs.{Target, is_at, PipeFault, CanEnd, IsNoBusFault, TookItOrLost}
+use Rattle.usb_transfer.specs.declared.fault.PipeFault.TheVariants.{Stalled}
 
 -- A device was asked to take an address: nothing of it changed but where its transfer stands, and
 -- its address to this one. Where that is done, it

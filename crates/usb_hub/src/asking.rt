@@ -1,16 +1,16 @@
 //! The two shapes of a request: one that is answered with data, and one without.
 ghost use Rattle.std.specs.Prelude.{◌≡◌, ◌≤◌, length, true, IfOk};
-ghost use Rattle.usb_transaction.specs.Transactions.{IsTarget};
+ghost use Rattle.usb_transfer.specs.Transactions.{IsTarget};
 ghost use Rattle.usb_request.specs.Layout.{IsToHost, IsToDevice};
-ghost use Rattle.usb_pipe.specs.Control.{BusToldIt, control_bound, write_bound};
-ghost use Rattle.usb_pipe.specs.Uses.{UsesBus};
+ghost use Rattle.usb_transfer.specs.Control.{BusToldIt, control_bound, write_bound};
+ghost use Rattle.usb_transfer.specs.Uses.{UsesBus};
 ghost use Rattle.usb_bus.specs.Traces.{Steps};
-ghost use Rattle.usb_address.specs.Ownership.{KeepsAddresses};
+ghost use Rattle.usb_hub.specs.Ownership.{KeepsAddresses};
 ghost use Rattle.usb_hub.specs.Addresses.{KeepsAnswered};
 ghost use Rattle.usb_hub.specs.Requests.{Queried, ReadAs, Commanded};
 
 use std::alloc::Global;
-use usb_pipe::{Bus, PipeFault, Setup, Target, control_in, control_none};
+use usb_transfer::{Bus, PipeFault, Setup, Target, control_in, control_none};
 
 /// Asks for data: at most the bytes that the request's length says.
 ///

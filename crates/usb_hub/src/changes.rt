@@ -1,11 +1,11 @@
 //! Changes of a hub and of its ports that ask for nothing but their clearing (11.24.2). A hub that
 //! does not know such a feature answers STALL, and has no such change.
 ghost use Rattle.std.specs.Prelude.{◌+◌, ◌*◌, ◌≡◌, true, IfErr};
-ghost use Rattle.usb_transaction.specs.Transactions.{IsTarget};
-ghost use Rattle.usb_pipe.specs.Control.{BusToldIt, FaultAfter, control_bound, write_bound};
-ghost use Rattle.usb_pipe.specs.Uses.{UsesBus};
+ghost use Rattle.usb_transfer.specs.Transactions.{IsTarget};
+ghost use Rattle.usb_transfer.specs.Control.{BusToldIt, FaultAfter, control_bound, write_bound};
+ghost use Rattle.usb_transfer.specs.Uses.{UsesBus};
 ghost use Rattle.usb_bus.specs.Traces.{Steps};
-ghost use Rattle.usb_address.specs.Ownership.{KeepsAddresses};
+ghost use Rattle.usb_hub.specs.Ownership.{KeepsAddresses};
 ghost use Rattle.usb_hub.specs.Addresses.{KeepsDevices};
 ghost use Rattle.usb_request.specs.HubRequests.{get_hub_status};
 ghost use Rattle.usb_hub.specs.Changes.{ClearsEach, ClearsOfHub, ClearsOfPort, ClearsIfReported, ToldBus, done_or_unknown, hub_status};
@@ -17,8 +17,8 @@ use crate::external::clear_hub_port;
 use crate::status::HubStatus;
 use crate::{HubPort, PipeFault};
 use std::alloc::Global;
-use usb_pipe::{Bus, Setup, Target};
 use usb_request::hub_feature::{C_HUB_LOCAL_POWER, C_HUB_OVER_CURRENT};
+use usb_transfer::{Bus, Setup, Target};
 
 /// Clears C_PORT_SUSPEND or C_PORT_OVER_CURRENT of a hub's port (11.24.2.2). A root port reports
 /// neither.
@@ -60,7 +60,7 @@ pub fn clear_port_change<B: Bus>(bus: &mut B, port: HubPort, feature: u16) -> Re
 /// - `Busy`, `NoAnswer`: a transaction ended so ([`PipeFault`]).
 /// - `Memory`: the status finds no room.
 /// - `Bus`: the bus has failed.
-#[tactic(auto, using(usb_address::proofs::Interface::keeps_then, usb_bus::proofs::Interface::went_wider))]
+#[tactic(auto, using(crate::proofs::TransferSequences::keeps_then, usb_bus::proofs::Interface::went_wider))]
 pub fn clear_hub_changes<B: Bus>(alloc: Global, bus: &mut B, hub: Target) -> Result<(), PipeFault>
     requires { IsTarget hub }
     ensures uses { UsesBus B.modelled (Steps B.world B.trace) B.spent B.ports B.failed
@@ -90,7 +90,7 @@ fn own_status<B: Bus>(alloc: Global, bus: &mut B, hub: Target) -> Result<HubStat
 }
 
 /// Clears each change that a hub reported of itself (11.24.2.1).
-#[tactic(auto, using(usb_address::proofs::Interface::keeps_then, usb_bus::proofs::Interface::went_wider))]
+#[tactic(auto, using(crate::proofs::TransferSequences::keeps_then, usb_bus::proofs::Interface::went_wider))]
 fn clear_each<B: Bus>(bus: &mut B, hub: Target, status: HubStatus) -> Result<(), PipeFault>
     requires { IsTarget hub }
     ensures uses { UsesBus B.modelled (Steps B.world B.trace) B.spent B.ports B.failed
@@ -105,7 +105,7 @@ fn clear_each<B: Bus>(bus: &mut B, hub: Target, status: HubStatus) -> Result<(),
 }
 
 /// Clears a change of a hub if it was reported (11.24.2.1).
-#[tactic(auto, using(usb_address::proofs::Interface::keeps_none, usb_bus::proofs::Interface::went_wider, usb_bus::proofs::Interface::went_none))]
+#[tactic(auto, using(crate::proofs::TransferSequences::keeps_none, usb_bus::proofs::Interface::went_wider, usb_bus::proofs::Interface::went_none))]
 fn clear_told<B: Bus>(bus: &mut B, hub: Target, told: bool, feature: u16) -> Result<(), PipeFault>
     requires { IsTarget hub }
     ensures uses { UsesBus B.modelled (Steps B.world B.trace) B.spent B.ports B.failed

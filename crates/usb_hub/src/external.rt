@@ -1,20 +1,20 @@
 //! The ports of a hub, asked of the hub (11.24.2).
 ghost use Rattle.std.specs.Prelude.{◌≢◌, ◌≡◌, true};
-ghost use Rattle.usb_transaction.specs.Transactions.{IsTarget};
+ghost use Rattle.usb_transfer.specs.Transactions.{IsTarget};
 ghost use Rattle.usb_port.specs.Status.{status_in};
 ghost use Rattle.usb_request.specs.declared.feature.TheConstants.{PORT_RESET};
 ghost use Rattle.usb_request.specs.Requests.{get_port_status, set_port_feature as set_feature, clear_port_feature as clear_feature};
-ghost use Rattle.usb_pipe.specs.Control.{BusToldIt, control_bound, write_bound};
-ghost use Rattle.usb_pipe.specs.Uses.{UsesBus};
+ghost use Rattle.usb_transfer.specs.Control.{BusToldIt, control_bound, write_bound};
+ghost use Rattle.usb_transfer.specs.Uses.{UsesBus};
 ghost use Rattle.usb_bus.specs.Traces.{Steps};
-ghost use Rattle.usb_address.specs.Ownership.{KeepsAddresses};
+ghost use Rattle.usb_hub.specs.Ownership.{KeepsAddresses};
 ghost use Rattle.usb_hub.specs.Addresses.{KeepsDevices};
 ghost use Rattle.usb_hub.specs.Requests.{ReadAs, Commanded};
 
 use crate::PortStatus;
 use crate::asking::{ask_all, order};
 use std::alloc::Global;
-use usb_pipe::{Bus, PipeFault, Setup, Target};
+use usb_transfer::{Bus, PipeFault, Setup, Target};
 
 /// The status of a hub's port, by its number from 1 (11.24.2.7).
 ///

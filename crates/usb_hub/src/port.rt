@@ -3,8 +3,8 @@ ghost use Rattle.std.specs.Prelude.{IfErr, ◌≡◌, ◌≤◌, true};
 ghost use Rattle.usb_port.specs.Calls.{set_call, clear_call, IsSetFeature, IsClearFeature};
 ghost use Rattle.usb_bus.specs.Traces.{Steps};
 ghost use Rattle.usb_world.specs.Worlds.{IsRootPort};
-ghost use Rattle.usb_pipe.specs.Control.{BusToldIt, FaultAfter};
-ghost use Rattle.usb_pipe.specs.Uses.{UsesBus};
+ghost use Rattle.usb_transfer.specs.Control.{BusToldIt, FaultAfter};
+ghost use Rattle.usb_transfer.specs.Uses.{UsesBus};
 ghost use Rattle.usb_hub.specs.Addresses.{KeepsAsked, KeepsSet, KeepsCleared};
 ghost use Rattle.usb_hub.specs.Moments.{ReadsPort, CommandsPort};
 ghost use Rattle.usb_hub.specs.Port.{IsAsked, PortRead, SetSteps, PortSet, PortCleared, status_bound, order_bound};
@@ -12,7 +12,7 @@ ghost use Rattle.usb_hub.specs.Port.{IsAsked, PortRead, SetSteps, PortSet, PortC
 use crate::external::{clear_hub_port, hub_port_status, set_hub_port};
 use crate::{PipeFault, PortStatus};
 use std::alloc::Global;
-use usb_pipe::{Bus, Target};
+use usb_transfer::{Bus, Target};
 
 /// A port that devices are attached to.
 #[derive(Clone, Copy, Debug, PartialEq, Eq)]

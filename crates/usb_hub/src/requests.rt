@@ -3,13 +3,13 @@ ghost use Rattle.std.specs.Prelude.{◌≡◌, ◌≤◌, false, true};
 ghost use Rattle.usb_bus.specs.Traces.{Steps};
 ghost use Rattle.usb_world.specs.Devices.{EachWas};
 ghost use Rattle.usb_request.specs.Codes.{HUB_LENGTH};
-ghost use Rattle.usb_transaction.specs.Transactions.{IsTarget};
-ghost use Rattle.usb_transaction.specs.Failures.{NoThreeDamaged};
-ghost use Rattle.usb_pipe.specs.Control.{BusToldIt, control_bound, write_bound};
-ghost use Rattle.usb_pipe.specs.Uses.{UsesBus};
-ghost use Rattle.usb_pipe.specs.Failures.{WriteFailure};
+ghost use Rattle.usb_transfer.specs.Transactions.{IsTarget};
+ghost use Rattle.usb_transfer.specs.TransactionFailures.{NoThreeDamaged};
+ghost use Rattle.usb_transfer.specs.Control.{BusToldIt, control_bound, write_bound};
+ghost use Rattle.usb_transfer.specs.Uses.{UsesBus};
+ghost use Rattle.usb_transfer.specs.Failures.{WriteFailure};
 ghost use Rattle.usb_request.specs.Requests.{get_device_descriptor, get_configuration_descriptor, get_string_descriptor, get_hub_descriptor, get_status as status_request, set_address as address_request, set_configuration as configuration_request, set_interface as interface_request};
-ghost use Rattle.usb_address.specs.Ownership.{KeepsAddresses};
+ghost use Rattle.usb_hub.specs.Ownership.{KeepsAddresses};
 ghost use Rattle.usb_hub.specs.Addresses.{KeepsAnswered, GivesAddress};
 ghost use Rattle.usb_hub.specs.GivenAnswers.{DeviceAsked, ConfigAsked, StringAsked, HubAsked, StatusAsked, ReadFailure};
 ghost use Rattle.usb_hub.specs.Requests.{Queried, ReadAs, Commanded, ToldWithin, device_status};
@@ -18,7 +18,7 @@ ghost use Rattle.usb_hub.specs.Settings.{AddressAsked, ConfigurationAsked, Inter
 use crate::DeviceStatus;
 use crate::asking::{ask, ask_all, order};
 use std::alloc::Global;
-use usb_pipe::{Bus, PipeFault, Setup, Target};
+use usb_transfer::{Bus, PipeFault, Setup, Target};
 
 /// The first `length` bytes, or all, of the device descriptor (9.4.3); `length` is not 0.
 ///

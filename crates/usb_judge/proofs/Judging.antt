@@ -6,7 +6,8 @@ use Rattle.usb_judge.specs.declared.listed.ListedPort.{ListedPort}
 use Rattle.usb_judge.specs.declared.judgement.Cause.{Cause}
 use Rattle.usb_judge.specs.declared.judgement.Judgement.{Judgement}
 use Rattle.usb_judge.specs.declared.plugged.PluggedDevice.{PluggedDevice}
-use Rattle.usb_judge.specs.{Scene, scene_in, IsRight, Judges, Stands, judged, told}
+use Rattle.usb_judge.specs.{Scene, scene_in, IsRight, Judges, Stands, told}
+use Rattle.usb_judge.specs.Verdicts.{judged}
 use Rattle.usb_judge.proofs.Membership.{none_in, front_of}
 use Rattle.usb_judge.proofs.Told.{told_stands, stands_told}
 use Rattle.usb_judge.proofs.Right.{right_from, none_from}

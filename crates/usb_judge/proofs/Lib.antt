@@ -1,3 +1,6 @@
+pub mod Found
+pub mod Places
+pub mod Kept
 pub mod Membership
 pub mod Told
 pub mod Parts

@@ -11,8 +11,9 @@ use Rattle.usb_judge.specs.declared.judgement.Cause.TheVariants as cause
 use Rattle.usb_judge.specs.declared.judgement.Judgement.{Judgement}
 use Rattle.usb_judge.specs.declared.plugged.PluggedDevice.{PluggedDevice}
 use Rattle.usb_judge.specs.{Scene, device_row, device_seen, scene_in, breaks, is_missing}
-use Rattle.usb_judge.specs.{IsWrongFor, LacksDevice, Stands, judged, listed_causes, told, told_at}
-use Rattle.usb_judge.specs.{told_for, told_lack}
+use Rattle.usb_judge.specs.{IsWrongFor, LacksDevice, Stands, listed_causes, told, told_at, told_for}
+use Rattle.usb_judge.specs.{told_lack}
+use Rattle.usb_judge.specs.Verdicts.{judged}
 use Rattle.usb_judge.proofs.Membership.{Has, has_from, contains_from, has_left, has_right}
 use Rattle.usb_judge.proofs.Membership.{has_cases, IsOf, of_flat, into_flat}
 

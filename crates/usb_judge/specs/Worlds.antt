@@ -2,9 +2,8 @@
 use Rattle.std.specs.Prelude.{◌≡◌, ℕ, ◌==◌, List, take, Bool, true, false, Option, None, Some}
 use Rattle.std.specs.Prelude.{option_map, if◌then◌else◌, ◌&&◌, length, nat_le}
 use Rattle.std.specs.List.{list_all}
-use Rattle.usb_port.specs.{parent_of}
+use Rattle.usb_port.specs.{parent_of, supply_of}
 use Rattle.usb_request.specs.{DEVICE_LENGTH}
-use Rattle.usb_resources.specs.{supply_of}
 use Rattle.usb_device.specs.{Ports, State, hub_ports, reach, state_there, text_of}
 use Rattle.usb_world.specs.{World}
 use Rattle.usb_judge.specs.declared.listed.ListedPort.{ListedPort}

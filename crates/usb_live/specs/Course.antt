@@ -14,7 +14,7 @@ use Rattle.usb_bus.specs.{RowDone}
 use Rattle.usb_packet.specs.{Toggle}
 use Rattle.usb_world.specs.{Destination}
 use Rattle.usb_watch.specs.{OutPipe, Pipe}
-use Rattle.usb_resources.specs.{Addresses}
+use Rattle.usb_port.specs.{Addresses}
 use Rattle.usb_run.specs.declared.item.Item.TheVariants as item
 use Rattle.usb_run.specs.declared.item.Task.TheVariants as task
 use Rattle.usb_stream.specs.{AskedWell, AsksNoQuestion, AsksOnce, InsByLine, Kept, OutsByLine}

@@ -4,7 +4,7 @@ use crate::listed::{path_in, push_listing};
 use crate::record::{cause_of, cut, fault_of, record_of};
 use arrayvec::ArrayVec;
 use std::alloc::Global;
-use usb_driver::{DriverFault, Want};
+use usb_dialogue::{DriverFault, Want};
 use usb_host::{Look, News, TransferFault};
 use usb_run::{EndpointChoice, Item, Task, TaskEnd, counted};
 use usb_serve::item_lines;

@@ -1,7 +1,7 @@
 //! The lines of a listing, from the records of a tree.
 use crate::record::{cause_of, cut};
 use std::alloc::Global;
-use usb_driver::DriverFault;
+use usb_dialogue::DriverFault;
 use usb_port::PortPath;
 use usb_text::{push_cause, push_decimal, push_hex, push_units};
 

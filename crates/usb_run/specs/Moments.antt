@@ -7,8 +7,7 @@ use Rattle.usb_world.specs.{Show, Send, Receive, Clear, ControlIn, ControlOut, L
 use Rattle.usb_world.specs.{News as AskNews, SendTo, ReceiveFrom, Poll, ClearOf, SetInterface}
 use Rattle.usb_world.specs.{PlanData, AreOfDamages, AtMostTwoRunning, EachWas, World}
 use Rattle.usb_device.specs.{reach}
-use Rattle.usb_transaction.specs.{Target}
-use Rattle.usb_pipe.specs.{PipeFault}
+use Rattle.usb_transfer.specs.{Target, PipeFault}
 use Rattle.usb_enum.specs.{FewLosses, usual_options}
 use Rattle.usb_table.specs.{ChangesAt, Delivered, Collected, ReadLeft, ReadMade, Restarted}
 use Rattle.usb_table.specs.{TransferFault, TransferIs, TransferLeaves, WriteLeft, WriteMade}

@@ -19,8 +19,8 @@ use Rattle.usb_watch.specs.{AppendsFront}
 use Rattle.usb_sim.specs.{EventsCame, OneEventCame}
 use Rattle.usb_watch.proofs.Interface.{appends_front, front_after_first}
 use Rattle.std.proofs.lemmas.Bool.{eq-eqb}
-use Rattle.usb_world.proofs.Interface.{first_fault, spends_none, spends_then}
-use Rattle.usb_tree.proofs.Interface.{if-false, if-true, unequal}
+use Rattle.usb_world.proofs.Interface.{first_fault, spends_none, spends_then, if-false, if-true}
+use Rattle.usb_world.proofs.Interface.{unequal}
 
 -- the next event came
 took_first-arrival : (w : World) (e : Event) (rest : List Event) (roots : Ports) → w.left ≡ e ∷ rest

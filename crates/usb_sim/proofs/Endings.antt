@@ -5,14 +5,13 @@ use Rattle.std.proofs.Common.{arith, ℕ, ◌==◌, List, IfOk, IsSome, is_some,
 use Rattle.std.specs.Bool.{⊤}
 use Rattle.std.proofs.lemmas.Bool.{eq-eqb}
 use Rattle.usb_world.specs.declared.event.Ask.{Ask}
-use Rattle.usb_world.specs.{Attempt, Outcome, BusFault, Limit, Memory, Failed, World}
-use Rattle.usb_world.specs.{at_attempt, with_attempt, attempted, attempt, event, event_taken}
-use Rattle.usb_world.specs.{after_first_event, after, fault_of, Left, Coming, at_event, at_packet}
-use Rattle.usb_world.specs.{at_line, AttemptFails, IsCut, damage_in, AttemptsWithin}
-use Rattle.usb_world.specs.{FitsMaximum, to_come, EventEnds}
+use Rattle.usb_world.specs.{Attempt, Outcome, BusFault, Limit, Memory, Failed, World, at_attempt}
+use Rattle.usb_world.specs.{with_attempt, attempted, attempt, event, event_taken, after_first_event}
+use Rattle.usb_world.specs.{after, fault_of, Left, Coming, at_event, at_packet, at_line}
+use Rattle.usb_world.specs.{AttemptFails, IsCut, damage_in, AttemptsWithin, FitsMaximum, to_come}
+use Rattle.usb_world.specs.{EventEnds}
 use Rattle.usb_device.specs.{Ports, held_addresses, repeats}
-use Rattle.usb_world.proofs.Interface.{spends_none, spends_wider}
-use Rattle.usb_tree.proofs.Interface.{unequal}
+use Rattle.usb_world.proofs.Interface.{spends_none, spends_wider, unequal}
 use Rattle.usb_bus.specs.{step_lines, WritesText, Attempts, TakesEvent}
 use Rattle.usb_sim.specs.{AttemptMade, OneEventCame}
 use Rattle.usb_sim.proofs.Arrivals.{writes_none, writes_alone}

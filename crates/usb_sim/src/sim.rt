@@ -8,7 +8,7 @@ ghost use Rattle.usb_device.specs.Rows.{out_end};
 ghost use Rattle.usb_device.specs.Tree.{new_ports, row_of};
 ghost use Rattle.usb_function.specs.HolderIndex.{IsIndexOf};
 ghost use Rattle.usb_world.specs.Losses.{AreOfDamages};
-ghost use Rattle.usb_tree.specs.AttemptPackets.{IsSettled};
+ghost use Rattle.usb_world.specs.AttemptPackets.{IsSettled};
 ghost use Rattle.usb_world.specs.SanePorts.{Consistent};
 ghost use Rattle.usb_world.specs.SaneProofs.{Consistent-prop, IsSpec-prop, all_prop};
 ghost use Rattle.usb_world.specs.Steps.{opening};

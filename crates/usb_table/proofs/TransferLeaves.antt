@@ -3,10 +3,10 @@ use Rattle.std.proofs.Common.{◌≡◌, ◌∙◌, sym, ap, refl, Bool, true, f
 use Rattle.std.proofs.Common.{Result, Ok, Err, ◌≢◌, ◌⊎◌, inl, inr, arith, ℕ, ◌*◌, ◌≤◌, List, length}
 use Rattle.std.proofs.Common.{IfErr}
 use Rattle.usb_world.specs.{BusFault, World, HasFault, AttemptsWithin, EachWas, Relation}
-use Rattle.usb_pipe.specs.{BusToldIt, PipeFault, PipeState, is_broken, needs_clear, pipe_made}
-use Rattle.usb_pipe.specs.{ClearLeaves, PacketLeaves, ReceiveLeaves, SendLeaves, pipe_known}
-use Rattle.usb_pipe.specs.{write_bound}
-use Rattle.usb_pipe.specs.declared.fault.PipeFault.TheVariants as pipe_fault
+use Rattle.usb_transfer.specs.{BusToldIt, PipeFault, PipeState, is_broken, needs_clear, pipe_made}
+use Rattle.usb_transfer.specs.{ClearLeaves, PacketLeaves, ReceiveLeaves, SendLeaves, pipe_known}
+use Rattle.usb_transfer.specs.{write_bound}
+use Rattle.usb_transfer.specs.declared.fault.PipeFault.TheVariants as pipe_fault
 use Rattle.usb_table.specs.{AreInPlace, ClearedFirst, ClearedInOrder, Transfer, TransferFault}
 use Rattle.usb_table.specs.{first_unclear, ClearedThrough, Function, FunctionPipes, MovedOrRefused}
 use Rattle.usb_table.specs.{PipeDid, first_pipe, of_pipe, with_rest, PipesThrough, TableFault}
@@ -31,13 +31,12 @@ use Rattle.std.specs.Global.{Vec}
 use Rattle.arrayvec.specs.ArrayVec.{ArrayVec}
 use Rattle.usb_world.proofs.Interface.{course_joined, each_joined, spends_none, spends_wider}
 use Rattle.usb_device.specs.{Location, State}
-use Rattle.usb_pipe.proofs.Interface.{clear_leaves, packet_leaves, receive_leaves, send_leaves}
-use Rattle.usb_pipe.proofs.Interface.{few_packets}
+use Rattle.usb_transfer.proofs.Interface.{clear_leaves, packet_leaves, receive_leaves, send_leaves}
+use Rattle.usb_transfer.proofs.Interface.{few_packets}
 use Rattle.usb_table.proofs.levels.FittingPipes.{PipesMove, clear_moves, given_moves, send_moves}
 use Rattle.usb_table.proofs.levels.FittingPipes.{EachMoves, call_each}
 use Rattle.usb_bus.specs.{Traced}
-use Rattle.usb_address.proofs.Interface.{keeps_then}
-use Rattle.usb_backlog.proofs.Interface.{all_then}
+use Rattle.usb_hub.proofs.Interface.{keeps_then, all_then}
 use Rattle.usb_enum.specs.{Accepted}
 use Rattle.usb_table.specs.declared.fault.TableFault.TheVariants as table_fault
 use Rattle.usb_table.proofs.transfers.DevicesKept.{PipeKeeps, clear_keeps, packet_keeps}

@@ -7,9 +7,8 @@ use Rattle.usb_request.specs.{Setup, is_reserved}
 use Rattle.usb_device.specs.{reach}
 use Rattle.usb_world.specs.{EachWas, Relation, World}
 use Rattle.usb_bus.specs.{StepRun}
-use Rattle.usb_transaction.specs.{Target}
-use Rattle.usb_pipe.specs.{ControlRead, ControlWrite, DataWrite, DataWriteLeaves, PipeFault}
-use Rattle.usb_pipe.specs.{ReadLeaves, WriteLeaves, write_bound}
+use Rattle.usb_transfer.specs.{Target, ControlRead, ControlWrite, DataWrite, DataWriteLeaves}
+use Rattle.usb_transfer.specs.{PipeFault, ReadLeaves, WriteLeaves, write_bound}
 use Rattle.usb_enum.specs.{Accepted, target_of}
 use Rattle.usb_table.specs.declared.fault.TableFault.{TableFault}
 use Rattle.usb_table.specs.declared.fault.TableFault.TheVariants.{Transfer}

@@ -7,8 +7,8 @@ use Rattle.arrayvec.specs.ArrayVec.{ArrayVec}
 use Rattle.usb_device.specs.{EndpointState, rested, OnlySink, OnlySource, State, reach, Location}
 use Rattle.usb_device.specs.{path_to, in_end, out_end, next_packet, NothingMoved}
 use Rattle.usb_world.specs.{EachWas, World}
-use Rattle.usb_pipe.specs.{PipeState, cleared, InPipeInSync, FrontTaken, GaveNext, GavePackets}
-use Rattle.usb_pipe.specs.{needs_clear, report_in}
+use Rattle.usb_transfer.specs.{PipeState, cleared, InPipeInSync, FrontTaken, GaveNext, GavePackets}
+use Rattle.usb_transfer.specs.{needs_clear, report_in}
 use Rattle.usb_enum.specs.{Accepted}
 use Rattle.usb_table.specs.declared.choice.EndpointChoice.{EndpointChoice}
 use Rattle.usb_table.specs.declared.fault.TableFault.{TableFault}

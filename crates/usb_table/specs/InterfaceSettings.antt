@@ -7,12 +7,10 @@ use Rattle.usb_descriptor.specs.{with_setting}
 use Rattle.usb_device.specs.{OnlyStage, State, numbered_from}
 use Rattle.usb_world.specs.{EachWas, World}
 use Rattle.usb_bus.specs.{StepRun}
-use Rattle.usb_transaction.specs.{Target}
-use Rattle.usb_pipe.specs.{PipeFault, PipeState, write_bound}
-use Rattle.usb_pipe.specs.declared.fault.PipeFault.TheVariants.{Stalled, Busy, NoAnswer, Broken}
-use Rattle.usb_pipe.specs.declared.fault.PipeFault.TheVariants.{Bus, Memory}
-use Rattle.usb_address.specs.{KeepsAddresses}
-use Rattle.usb_hub.specs.{Commanded, InterfaceAsked, TookSetting}
+use Rattle.usb_transfer.specs.{Target, PipeFault, PipeState, write_bound}
+use Rattle.usb_transfer.specs.declared.fault.PipeFault.TheVariants.{Stalled, Busy, NoAnswer, Broken}
+use Rattle.usb_transfer.specs.declared.fault.PipeFault.TheVariants.{Bus, Memory}
+use Rattle.usb_hub.specs.{KeepsAddresses, Commanded, InterfaceAsked, TookSetting}
 use Rattle.usb_enum.specs.{Accepted, configuration_of, target_of}
 use Rattle.usb_table.specs.declared.fault.TableFault.{TableFault}
 use Rattle.usb_table.specs.declared.fault.TableFault.TheVariants.{Transfer}

@@ -3,9 +3,8 @@ use Rattle.std.specs.Prelude.{ℕ, ◌≤◌, List, length, Bool, true, false, O
 use Rattle.std.specs.Prelude.{nat_le, if◌then◌else◌}
 use Rattle.std.specs.BTreeMap.{is_at}
 use Rattle.std.specs.Map.{lookup}
-use Rattle.usb_port.specs.{path_cmp, parent_of, port_on_hub, IsPortNumber}
-use Rattle.usb_resources.specs.{supply_of}
-use Rattle.usb_transaction.specs.{Target, IsTarget}
+use Rattle.usb_port.specs.{path_cmp, parent_of, port_on_hub, IsPortNumber, supply_of}
+use Rattle.usb_transfer.specs.{Target, IsTarget}
 use Rattle.usb_hub.specs.{HubPort, Root, External}
 use Rattle.usb_enum.specs.{Accepted, Finding, HubFacts, target_of}
 use Rattle.usb_enum.specs.declared.finding.Finding.TheVariants.{Device, Refused}

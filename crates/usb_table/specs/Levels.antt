@@ -10,12 +10,10 @@ use Rattle.usb_device.specs.{row_of, place, reach, Location, path_to, reach_on, 
 use Rattle.usb_device.specs.{change_bytes, hub_ports, state_there, text_of, told_bits}
 use Rattle.usb_world.specs.{EachWas, at_attempt, World}
 use Rattle.usb_bus.specs.{StepRun}
-use Rattle.usb_transaction.specs.{IsStatusEndpoint, NoThreeDamaged, Listens, transaction_bound}
-use Rattle.usb_pipe.specs.{PipeState, write_bound, Interrupt, OutPipeInSync, InPipeInSync}
-use Rattle.usb_pipe.specs.{PollTells}
-use Rattle.usb_pipe.specs.{PipeFault}
-use Rattle.usb_address.specs.{MapHolds}
-use Rattle.usb_hub.specs.{TouchesNoPort, NoHubFailed}
+use Rattle.usb_transfer.specs.{IsStatusEndpoint, NoThreeDamaged, Listens, transaction_bound}
+use Rattle.usb_transfer.specs.{PipeState, write_bound, Interrupt, OutPipeInSync, InPipeInSync}
+use Rattle.usb_transfer.specs.{PollTells, PipeFault}
+use Rattle.usb_hub.specs.{MapHolds, TouchesNoPort, NoHubFailed}
 use Rattle.usb_enum.specs.{Accepted, configuration_of, target_of}
 use Rattle.usb_table.specs.declared.choice.EndpointChoice.{EndpointChoice}
 use Rattle.usb_table.specs.declared.function_pipes.FunctionPipes.{FunctionPipes}

@@ -4,8 +4,7 @@ use Rattle.std.specs.Prelude.{IsSome, IfSome, IsSomeAnd, unwrap_or, option_map, 
 use Rattle.std.specs.Prelude.{Bool, true, false}
 use Rattle.std.specs.Map.{lookup}
 use Rattle.std.specs.BTreeMap.{is_at}
-use Rattle.usb_port.specs.{path_cmp, parent_of, port_on_hub}
-use Rattle.usb_resources.specs.{IsAddress, supply_of}
+use Rattle.usb_port.specs.{path_cmp, parent_of, port_on_hub, IsAddress, supply_of}
 use Rattle.usb_device.specs.{Spec, reach, state_there}
 use Rattle.usb_world.specs.{PlanData, device_indexed, index_at, plugged_by, spec_of, World}
 use Rattle.usb_world.specs.{roots_of}

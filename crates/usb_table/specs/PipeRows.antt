@@ -8,7 +8,7 @@ use Rattle.usb_request.specs.{DIRECTION_IN}
 use Rattle.usb_descriptor.specs.{EndpointKind}
 use Rattle.usb_descriptor.specs.declared.usable.EndpointKind.TheVariants.{Bulk, Interrupt}
 use Rattle.usb_device.specs.{with_at}
-use Rattle.usb_pipe.specs.{PipeState, is_broken, pipe_made, interrupt_made}
+use Rattle.usb_transfer.specs.{PipeState, is_broken, pipe_made, interrupt_made}
 use Rattle.usb_table.specs.declared.choice.EndpointChoice.{EndpointChoice}
 use Rattle.usb_table.specs.declared.choice.EndpointChoice.TheVariants.{FirstBulk, At}
 use Rattle.usb_table.specs.declared.fault.TransferFault.{TransferFault}

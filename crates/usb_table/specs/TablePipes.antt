@@ -7,9 +7,8 @@ use Rattle.usb_descriptor.specs.{EndpointKind, UsableEndpoint, default_settings}
 use Rattle.usb_descriptor.specs.{status_endpoint_of, usable_under}
 use Rattle.usb_device.specs.{end_numbers}
 use Rattle.usb_packet.specs.{Zero}
-use Rattle.usb_transaction.specs.{Target}
-use Rattle.usb_pipe.specs.{PipeState, packet_target, Interrupt}
-use Rattle.usb_pipe.specs.declared.condition.Condition.TheVariants.{Ready}
+use Rattle.usb_transfer.specs.{Target, PipeState, packet_target, Interrupt}
+use Rattle.usb_transfer.specs.declared.condition.Condition.TheVariants.{Ready}
 use Rattle.usb_enum.specs.{Accepted, Finding, target_of, configuration_of}
 use Rattle.usb_enum.specs.declared.finding.Finding.TheVariants.{Device, Refused}
 use Rattle.usb_table.specs.declared.function_pipes.FunctionPipes.{FunctionPipes}

@@ -5,15 +5,12 @@ use Rattle.std.specs.Prelude.{Some, None, Result, Ok, Err, IfSome, MatchResult}
 use Rattle.std.specs.Global.{Vec}
 use Rattle.std.specs.Int.{div_ceil}
 use Rattle.arrayvec.specs.ArrayVec.{ArrayVec}
-use Rattle.usb_world.specs.{BusFault, EachWas, World, AttemptsWithin, HasFault}
-use Rattle.usb_tree.specs.{IsSettled}
-use Rattle.usb_transaction.specs.{AttemptsMade, transaction_bound}
-use Rattle.usb_pipe.specs.{FaultAfter, write_bound, PipeState, pipe_made, Sends, Receives, Clears}
-use Rattle.usb_pipe.specs.{Interrupt, Polls, PipeFault, PipePolls, needs_clear}
-use Rattle.usb_pipe.specs.declared.fault.PipeFault.TheVariants as pipe
-use Rattle.usb_address.specs.{KeepsAddresses}
-use Rattle.usb_backlog.specs.{KeepsAll}
-use Rattle.usb_hub.specs.{TouchesNoPort}
+use Rattle.usb_world.specs.{BusFault, EachWas, World, AttemptsWithin, HasFault, IsSettled}
+use Rattle.usb_transfer.specs.{AttemptsMade, transaction_bound, FaultAfter, write_bound, PipeState}
+use Rattle.usb_transfer.specs.{pipe_made, Sends, Receives, Clears, Interrupt, Polls, PipeFault}
+use Rattle.usb_transfer.specs.{PipePolls, needs_clear}
+use Rattle.usb_transfer.specs.declared.fault.PipeFault.TheVariants as pipe
+use Rattle.usb_hub.specs.{KeepsAddresses, KeepsAll, TouchesNoPort}
 use Rattle.usb_table.specs.declared.fault.TransferFault.{TransferFault}
 use Rattle.usb_table.specs.declared.fault.TransferFault.TheVariants.{NoDevice, NoEndpoint, Stalled}
 use Rattle.usb_table.specs.declared.fault.TransferFault.TheVariants.{Busy, NoAnswer, Broken}

@@ -2,8 +2,8 @@
 ghost use Rattle.std.specs.Prelude.{◌≡◌, ◌≤◌, true, IfOk, length};
 ghost use Rattle.usb_bus.specs.Traces.{Spends, Steps};
 ghost use Rattle.usb_request.specs.Layout.{IsToDevice, IsToHost};
-ghost use Rattle.usb_transaction.specs.Transactions.{IsTarget};
-ghost use Rattle.usb_pipe.specs.Control.{BusToldIt};
+ghost use Rattle.usb_transfer.specs.Transactions.{IsTarget};
+ghost use Rattle.usb_transfer.specs.Control.{BusToldIt};
 ghost use Rattle.usb_table.specs.Controls.{MadeOrRefused, ReadMade, TableReads, TableWrites, WriteMade, control_most, control_target, write_target};
 ghost use Rattle.usb_table.specs.Tables.{ArePipesAt};
 ghost use Rattle.usb_table.specs.Transfers.{TransferTold};
@@ -14,8 +14,8 @@ use crate::{DeviceTable, TableFault, TransferFault};
 use std::alloc::Global;
 use usb_bus::Bus;
 use usb_enum::Finding;
-use usb_pipe::{PipeFault, Setup, Target, control_in, control_none, control_out};
 use usb_port::PortPath;
+use usb_transfer::{PipeFault, Setup, Target, control_in, control_none, control_out};
 
 impl DeviceTable {
     /// Reads from endpoint 0 of the device at a path, hubs too: what it answers a request with. The

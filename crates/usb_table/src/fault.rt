@@ -4,7 +4,7 @@ ghost use Rattle.usb_table.specs.Transfers.{of_pipe, table_answer};
 
 use thiserror::Error;
 use usb_bus::BusFault;
-use usb_pipe::PipeFault;
+use usb_transfer::PipeFault;
 
 /// Why a transfer was not done, in the order in which the reasons are reported.
 #[derive(Clone, Copy, Debug, PartialEq, Eq, Error)]

@@ -3,7 +3,7 @@ ghost use Rattle.std.specs.Prelude.{◌≡◌};
 ghost use Rattle.usb_table.specs.Findings.{address_found, is_accepted, is_hub, is_waiting};
 
 use usb_enum::{Cause, Finding};
-use usb_resources::Address;
+use usb_port::Address;
 
 /// The address of a device that was found.
 pub fn address_of(finding: &Finding) -> Option<Address>

@@ -1,14 +1,14 @@
 //! The host's pipes to a function.
 ghost use Rattle.std.specs.Prelude.{◌≡◌, ◌≤◌, ◌*◌, length, is_some, true, false, IfOk, IfSome};
 ghost use Rattle.usb_bus.specs.Traces.{Spends, Traced, Steps};
-ghost use Rattle.usb_pipe.specs.Control.{BusToldIt, write_bound};
+ghost use Rattle.usb_transfer.specs.Control.{BusToldIt, write_bound};
 ghost use Rattle.usb_table.specs.Findings.{IsSoundDevice, at_full_speed};
 ghost use Rattle.usb_table.specs.PipeRows.{first_number as number_at};
 ghost use Rattle.usb_table.specs.PipeRows.{AreInPlace, clear_miss, clears_miss, first_lost, first_pipe, first_unclear, function_made, has_first, is_bulk_kind, is_interrupt_kind, lost_at, lost_to, lost_way, mark_if, miss_of, pipe_asked, pipe_at, pipe_if, pipe_to, polls_miss, polls_through, receives_miss, receives_through, sends_miss, sends_through, unless_broken, with_pipe};
 ghost use Rattle.usb_table.specs.TablePipes.{new_function, number_of};
 ghost use Rattle.usb_table.specs.Transfers.{ClearedFirst, ClearedInTurn, MovedOrRefused, PipesClearedOf, PipesReceived, PipesReported, PipesSent, TransferTold};
 ghost use Rattle.usb_table.specs.declared.pipes.Pipes.TheVariants.{Function};
-ghost use Rattle.usb_transaction.specs.Transactions.{transaction_bound};
+ghost use Rattle.usb_transfer.specs.Transactions.{transaction_bound};
 
 use crate::fault::table_answer;
 use crate::row::{LostRow, PipeRow};
@@ -19,8 +19,8 @@ use std::alloc::Global;
 use usb_bus::Bus;
 use usb_descriptor::{ConfigView, EndpointKind, Settings};
 use usb_enum::Accepted;
-use usb_pipe::{EndpointPipe, PipeFault};
 use usb_request::EndpointAddress;
+use usb_transfer::{EndpointPipe, PipeFault};
 
 /// The host's pipes to a function: to each endpoint that a pipe can use, by its direction and
 /// number.

@@ -1,7 +1,7 @@
 //! Alternate settings of the interfaces of a function (9.2.3, 9.4.10).
 ghost use Rattle.std.specs.Prelude.{◌≡◌, true, Some};
 ghost use Rattle.usb_bus.specs.Traces.{Spends, Steps};
-ghost use Rattle.usb_pipe.specs.Control.{write_bound};
+ghost use Rattle.usb_transfer.specs.Control.{write_bound};
 ghost use Rattle.usb_descriptor.specs.Interfaces.{settable_in};
 ghost use Rattle.usb_enum.specs.Device.{configuration_of};
 ghost use Rattle.usb_table.specs.PipeRows.{AreWhole};
@@ -20,7 +20,7 @@ use usb_bus::Bus;
 use usb_descriptor::{ConfigView, Settings};
 use usb_enum::{Accepted, Finding};
 use usb_hub::set_interface;
-use usb_pipe::PipeFault;
+use usb_transfer::PipeFault;
 
 /// No accepted device is there.
 const NO_DEVICE: TableFault = TableFault::Transfer(TransferFault::NoDevice);

@@ -7,8 +7,7 @@ ghost use Rattle.usb_table.specs.KnownPorts.{root_port, is_below_hub, port_of_fi
 use crate::target::target_to;
 use usb_enum::Finding;
 use usb_hub::HubPort;
-use usb_port::PortPath;
-use usb_resources::supply;
+use usb_port::{PortPath, supply};
 
 /// A port, and what it gives to a device, in mA (7.2.1).
 #[derive(Clone, Copy, Debug, PartialEq, Eq)]

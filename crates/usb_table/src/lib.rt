@@ -35,6 +35,5 @@ pub use listing_laws::{listed_is_what_the_events_left, one_listing};
 pub use table::DeviceTable;
 pub use usb_enum::Finding;
 pub use usb_hub::{Bus, HubPort, PipeFault};
-pub use usb_port::PortPath;
+pub use usb_port::{Address, PortPath};
 pub use usb_request::EndpointAddress;
-pub use usb_resources::Address;

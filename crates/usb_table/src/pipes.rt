@@ -3,7 +3,7 @@ ghost use Rattle.std.specs.Prelude.{◌≡◌, ◌≤◌, ◌*◌, length, false
 ghost use Rattle.usb_bus.specs.Traces.{Spends, Traced, Steps};
 ghost use Rattle.usb_descriptor.specs.Choice.{status_endpoint_of};
 ghost use Rattle.usb_enum.specs.Device.{configuration_of};
-ghost use Rattle.usb_pipe.specs.Control.{BusToldIt, write_bound};
+ghost use Rattle.usb_transfer.specs.Control.{BusToldIt, write_bound};
 ghost use Rattle.usb_table.specs.Findings.{IsSoundDevice};
 ghost use Rattle.usb_table.specs.PipeRows.{ArePlaced, asked_through, clears_miss, pipe_to, pipes_made, polls_miss, polls_through, receives_miss, receives_through, sends_miss, sends_through, through, unless_broken};
 ghost use Rattle.usb_table.specs.TablePipes.{ArePipesTo, IsStatusPipe};
@@ -12,7 +12,7 @@ ghost use Rattle.usb_table.specs.Tables.{said_in};
 ghost use Rattle.usb_table.specs.Transfers.{MovedOrRefused, PipesCleared, PipesClearedOf, PipesPolled};
 ghost use Rattle.usb_table.specs.Transfers.{PipesReceived, PipesReported, PipesSent, TransferTold};
 ghost use Rattle.usb_table.specs.declared.pipes.Pipes.TheVariants.{Hub};
-ghost use Rattle.usb_transaction.specs.Transactions.{transaction_bound};
+ghost use Rattle.usb_transfer.specs.Transactions.{transaction_bound};
 
 use crate::function_pipes::FunctionPipes;
 use crate::target::target_to;
@@ -21,8 +21,8 @@ use arrayvec::ArrayVec;
 use std::alloc::Global;
 use usb_bus::Bus;
 use usb_enum::Accepted;
-use usb_pipe::{InterruptPipe, PipeFault};
 use usb_request::EndpointAddress;
+use usb_transfer::{InterruptPipe, PipeFault};
 
 /// The host's pipes to what is at a port.
 #[derive(Debug, Drop)]

@@ -4,12 +4,11 @@ ghost use Rattle.usb_descriptor.specs.Usable.{end_at};
 ghost use Rattle.usb_device.specs.Ends.{end_numbers, numbered_from, with_at};
 ghost use Rattle.usb_table.specs.InterfaceSettings.{cleared_row, mark_of, marked_row, replaced_if, replaced_row};
 ghost use Rattle.usb_table.specs.TablePipes.{has_no_end, new_pipe, none_lost, row_of_ends};
-ghost use Rattle.usb_transaction.specs.Transactions.{IsTarget};
+ghost use Rattle.usb_transfer.specs.Transactions.{IsTarget};
 
 use std::marker::Model;
 use usb_descriptor::{ConfigView, EndpointKind, UsableEndpoints};
-use usb_pipe::EndpointPipe;
-use usb_transaction::Target;
+use usb_transfer::{EndpointPipe, Target};
 
 /// How many endpoints a direction has room for, endpoint 0 included (9.6.6).
 pub(crate) const ENDPOINTS: u8 = 16;
@@ -22,7 +21,7 @@ pub(crate) struct PipeRow {
 
 impl Model for PipeRow {
     ghost use Rattle.std.specs.Prelude.{◌≡◌, List, Option, length};
-    ghost use Rattle.usb_pipe.specs.EndpointPipes.{PipeState};
+    ghost use Rattle.usb_transfer.specs.EndpointPipes.{PipeState};
 
     ghost Value = { List (Option PipeState) };
 

@@ -21,8 +21,8 @@ ghost use Rattle.usb_table.specs.PipeRows.{asked_through, clears_miss, pipe_to, 
 ghost use Rattle.usb_table.specs.PipeRows.{polls_through, receives_miss, receives_through};
 ghost use Rattle.usb_table.specs.PipeRows.{sends_miss, sends_through, through, unless_broken};
 ghost use Rattle.usb_bus.specs.Traces.{Spends};
-ghost use Rattle.usb_pipe.specs.Control.{BusToldIt, write_bound};
-ghost use Rattle.usb_transaction.specs.Transactions.{transaction_bound};
+ghost use Rattle.usb_transfer.specs.Control.{BusToldIt, write_bound};
+ghost use Rattle.usb_transfer.specs.Transactions.{transaction_bound};
 ghost use Rattle.usb_table.specs.Transfers.{MovedOrRefused, TransferTold};
 ghost use Rattle.usb_table.specs.Levels.{TableClears, TableClearsOf, TablePolls, TableReceives};
 ghost use Rattle.usb_table.specs.Levels.{TableReports, TableSends};
@@ -41,10 +41,9 @@ use std::marker::Model;
 use std::ops::Bound;
 use usb_bus::Bus;
 use usb_enum::Finding;
-use usb_pipe::PipeFault;
-use usb_port::PortPath;
+use usb_port::{Address, PortPath};
 use usb_request::EndpointAddress;
-use usb_resources::Address;
+use usb_transfer::PipeFault;
 
 /// What is at each port, by the port's path, with the host's pipes to it.
 #[derive(Debug, Drop)]

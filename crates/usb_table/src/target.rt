@@ -1,11 +1,11 @@
 //! Endpoint 0 of a device that was accepted.
 ghost use Rattle.std.specs.Prelude.{◌≡◌, ◌≤◌};
-ghost use Rattle.usb_transaction.specs.Transactions.{IsTarget};
+ghost use Rattle.usb_transfer.specs.Transactions.{IsTarget};
 ghost use Rattle.usb_enum.specs.Device.{target_of};
 ghost use Rattle.usb_table.specs.Findings.{IsSoundDevice};
 
 use usb_enum::Accepted;
-use usb_transaction::Target;
+use usb_transfer::Target;
 
 /// Endpoint 0 of a device that was accepted, below an external hub or not.
 #[tactic(auto, using(crate::proofs::levels::NewPipes::sound_target_fits, crate::proofs::levels::NewPipes::sound_target_wide))]

@@ -7,7 +7,7 @@ ghost use Rattle.usb_bus.specs.Rows.{IsDestination};
 use arrayvec::ArrayVec;
 use std::alloc::{AllocError, Global};
 use usb_bus::{Bus, BusFault, Destination, Speed};
-use usb_driver::{Attempt, Outcome, Statuses, Toggle};
+use usb_dialogue::{Attempt, Outcome, Statuses, Toggle};
 use usb_request::feature::{
     C_PORT_CONNECTION, C_PORT_ENABLE, C_PORT_RESET, PORT_ENABLE, PORT_POWER, PORT_RESET,
 };

@@ -2,7 +2,7 @@
 use crate::controller::{answer_record, put, put_row, statuses};
 use std::alloc::Global;
 use usb_bus::{Bus, BusFault};
-use usb_driver::{Answer, Driver, DriverFault, HostOptions, Outcome, Question, Want};
+use usb_dialogue::{Answer, Driver, DriverFault, HostOptions, Outcome, Question, Want};
 use usb_sim::{Ask, Plan, SimBus, Untraced};
 
 /// The most questions of a call, and the most rounds until one is quiet.

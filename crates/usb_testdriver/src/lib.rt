@@ -7,5 +7,5 @@ mod course;
 
 pub use controller::statuses;
 pub use course::Course;
-pub use usb_driver::{Answer, Driver, DriverFault, Outcome, Statuses, Want};
+pub use usb_dialogue::{Answer, Driver, DriverFault, Outcome, Statuses, Want};
 pub use usb_sim::{Ask, Plan, SimBus, Untraced};

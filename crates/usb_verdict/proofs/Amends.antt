@@ -4,9 +4,10 @@ use Rattle.std.proofs.Common.{slice_index_or, slice_set, suc, zero, true, false,
 use Rattle.std.proofs.Common.{Result, IfErr}
 use Rattle.std.proofs.lemmas.Bool.{false≢true}
 use Rattle.usb_judge.specs.declared.listed.ListedPort.{ListedPort}
-use Rattle.usb_listing.specs.declared.fault.ListingFault.{ListingFault}
-use Rattle.usb_listing.specs.declared.fault.ListingFault.TheVariants.{NoDevice}
-use Rattle.usb_verdict.specs.{DetailSaid, alone, amended, amended_port, behind, port_said}
+use Rattle.usb_verdict.specs.declared.fault.ListingFault.{ListingFault}
+use Rattle.usb_verdict.specs.declared.fault.ListingFault.TheVariants.{NoDevice}
+use Rattle.usb_verdict.specs.{DetailSaid, alone, amended, amended_port, behind}
+use Rattle.usb_verdict.specs.Reports.{port_said}
 
 amended_at : (path : List ℕ) (detail : DetailSaid) (xs : List ListedPort) (i : ℕ)
     (x y : ListedPort) → length xs ≡ suc i → x ≡ slice_index_or xs i x

@@ -6,10 +6,9 @@ use Rattle.usb_judge.specs.declared.listed.Claim.{Claim}
 use Rattle.usb_judge.specs.declared.listed.Claim.TheVariants.{Device, Refused}
 use Rattle.usb_judge.specs.declared.listed.ListedDevice.{ListedDevice}
 use Rattle.usb_judge.specs.declared.listed.ListedPort.{ListedPort}
-use Rattle.usb_listing.specs.{Line, bytes_in, line_says}
-use Rattle.usb_listing.specs.Lines.{device, refused, chosen, hub, other}
-use Rattle.usb_listing.specs.declared.fault.ListingFault.{ListingFault}
-use Rattle.usb_listing.specs.declared.fault.ListingFault.TheVariants.{BadHex, NoDevice}
+use Rattle.usb_verdict.specs.Lines.{Line, bytes_in, line_says, device, refused, chosen, hub, other}
+use Rattle.usb_verdict.specs.declared.fault.ListingFault.{ListingFault}
+use Rattle.usb_verdict.specs.declared.fault.ListingFault.TheVariants.{BadHex, NoDevice}
 use Rattle.usb_verdict.specs.declared.report.Detail.{Detail}
 use Rattle.usb_verdict.specs.declared.report.Detail.TheVariants as kind
 

@@ -4,8 +4,8 @@ use Rattle.std.specs.Prelude.{if◌then◌else◌}
 use Rattle.usb_port.specs.{path_text}
 use Rattle.usb_judge.specs.declared.judgement.Cause.{Cause}
 use Rattle.usb_judge.specs.declared.judgement.Cause.TheVariants as cause
-use Rattle.usb_listing.specs.declared.fault.ListingFault.{ListingFault}
-use Rattle.usb_listing.specs.declared.fault.ListingFault.TheVariants as fault
+use Rattle.usb_verdict.specs.declared.fault.ListingFault.{ListingFault}
+use Rattle.usb_verdict.specs.declared.fault.ListingFault.TheVariants as fault
 use Rattle.usb_verdict.specs.declared.tally.Tally.{Tally}
 
 -- Lines

@@ -4,9 +4,9 @@ ghost use Rattle.usb_judge.specs.Judgements.{Judges, RisesByPath};
 ghost use Rattle.usb_judge.specs.Worlds.{scene_of};
 ghost use Rattle.usb_sim.specs.Sim.{world_of};
 
+use crate::plugged;
 use std::alloc::{AllocError, Global};
 use usb_judge::{Judgement, ListedPort, judge, judged_world};
-use usb_plugged::plugged;
 use usb_sim::{SimBus, Trace};
 
 /// What is wrong with a listing, as the world is now: nothing exactly if it is right. The judgements

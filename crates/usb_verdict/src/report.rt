@@ -1,13 +1,13 @@
 //! A listing as a host reports it, line by line.
 ghost use Rattle.std.specs.Prelude.{◌≡◌, ◌++◌, ◌∷◌, ◌⊎◌, [], map, IfErr, Ok, Err, OnErr, OnOk};
-ghost use Rattle.usb_listing.specs.declared.fault.ListingFault.TheVariants.{Memory};
-ghost use Rattle.usb_listing.specs.Lines.{said};
+ghost use Rattle.usb_verdict.specs.declared.fault.ListingFault.TheVariants.{Memory};
+ghost use Rattle.usb_verdict.specs.Lines.{said};
 ghost use Rattle.usb_verdict.specs.Reports.{accepted, amended, amended_port, detail_said, device_said, joined, line_joined, port_said, with_detail};
 
+use crate::{ListingFault, ListingLine, read_bytes, read_listing_line};
 use std::alloc::Global;
 use std::marker::Model;
 use usb_judge::{Claim, ListedDevice, ListedPort};
-use usb_listing::{ListingFault, ListingLine, read_bytes, read_listing_line};
 use usb_port::PortPath;
 
 /// The ports that the lines of a listing name, so far.

@@ -2,9 +2,9 @@
 ghost use Rattle.std.specs.Prelude.{◌≡◌, ◌++◌, decimal, IfOk, OnOk};
 ghost use Rattle.usb_verdict.specs.Texts.{cause_text, fault_line_text, fault_text, judgement_text, line_head, refusal_text};
 
+use crate::ListingFault;
 use std::alloc::{AllocError, Global};
 use usb_judge::{Cause, Judgement};
-use usb_listing::ListingFault;
 use usb_port::PortPath;
 
 /// Room for a line, in bytes.

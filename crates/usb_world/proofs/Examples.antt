@@ -21,8 +21,8 @@ use Rattle.usb_world.specs.{with_attempt, outcome_in, attempt, root_call, event,
 use Rattle.usb_world.specs.{resets, is_setup, HolderIn}
 use Rattle.usb_world.specs.declared.event.Action.TheVariants.{Change}
 use Rattle.usb_world.specs.declared.types.Outcome.TheVariants as got
-use Rattle.usb_tree.specs.{pending_at, pending, resets_at}
-use Rattle.usb_tree.proofs.Interface.{false_true}
+use Rattle.usb_world.specs.{pending_at, pending, resets_at}
+use Rattle.usb_world.proofs.Booleans.{false_true}
 use Rattle.usb_world.proofs.holders.OneHolderAttempts.{setup_sound_in, ExchangedIn}
 
 -- Devices, requests and attempts

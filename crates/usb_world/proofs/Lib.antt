@@ -1,3 +1,10 @@
+pub mod Booleans
+pub mod Equality
+pub mod States
+pub mod TreeHolders
+pub mod HolderOfAddress
+pub mod OnWays
+pub mod Interface
 pub mod addresses
 pub mod attempts
 pub mod courses
@@ -6,5 +13,4 @@ pub mod holders
 pub mod packets
 pub mod ports
 pub mod ways
-pub mod Interface
 pub mod Examples

@@ -5,7 +5,7 @@ use Rattle.usb_packet.specs.{TokenKind, OutTok, InTok, SetupTok}
 use Rattle.usb_device.specs.{State, is_busy, ends_with_address, is_whole, Ports, reach_at, state_at}
 use Rattle.usb_world.specs.declared.damage.Damage.{Damage}
 use Rattle.usb_world.specs.PlainAttempts.{Attempt}
-use Rattle.usb_tree.specs.{address_of, same_path, is_way}
+use Rattle.usb_world.specs.Paths.{address_of, same_path, is_way}
 use Rattle.usb_world.specs.Worlds.{World}
 use Rattle.usb_world.specs.Steps.{at_attempt, Step, attempt, root_call, event, report}
 use Rattle.usb_world.specs.Courses.{QuietStep}

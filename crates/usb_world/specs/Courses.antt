@@ -9,8 +9,9 @@ use Rattle.usb_device.specs.{Is, Spec, Ports, reach, place, state_there}
 use Rattle.usb_world.specs.declared.event.Event.{Event}
 use Rattle.usb_world.specs.PlainAttempts.{Attempt}
 use Rattle.usb_world.specs.declared.types.BusFault.{BusFault}
-use Rattle.usb_tree.specs.{has_power, pending, address_of, same_path, IsNew, call_resets}
-use Rattle.usb_tree.specs.{call_keeps_pending, attempt_resets, attempt_keeps_pending}
+use Rattle.usb_world.specs.Paths.{has_power, pending, address_of, same_path}
+use Rattle.usb_world.specs.WayEffects.{IsNew, call_resets, call_keeps_pending}
+use Rattle.usb_world.specs.AttemptPackets.{attempt_resets, attempt_keeps_pending}
 use Rattle.usb_world.specs.Worlds.{World}
 use Rattle.usb_world.specs.Exchanges.{token_out, payload_out}
 use Rattle.usb_world.specs.Steps.{names_path, at_attempt, damage_in, Step, attempt, root_call}

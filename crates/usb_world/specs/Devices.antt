@@ -7,7 +7,8 @@ use Rattle.usb_device.specs.{reach_on, state_on, place_on}
 use Rattle.usb_device.specs.Attempt.{whole}
 use Rattle.usb_world.specs.PlainAttempts.{Attempt}
 use Rattle.usb_world.specs.declared.types.Outcome.TheVariants.{Nothing}
-use Rattle.usb_tree.specs.{address_of, deep_at}
+use Rattle.usb_world.specs.Paths.{address_of}
+use Rattle.usb_world.specs.AttemptPackets.{deep_at}
 use Rattle.usb_world.specs.OneHolder.{got, hears_attempt}
 use Rattle.usb_world.specs.Worlds.{World}
 use Rattle.usb_world.specs.Steps.{at_attempt, damage_in, outcome_in}

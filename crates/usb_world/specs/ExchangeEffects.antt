@@ -4,7 +4,8 @@ use Rattle.usb_device.specs.{Heard, Sent, Ports, row_of, both, heard_of, figure}
 use Rattle.usb_world.specs.declared.damage.Damage.{Damage}
 use Rattle.usb_world.specs.declared.exchange.Exchange.{Exchange}
 use Rattle.usb_world.specs.PlainAttempts.{Attempt}
-use Rattle.usb_tree.specs.{after_sent, answers_to, IsSettled, AloneAt, KeptAt}
+use Rattle.usb_world.specs.AttemptPackets.{after_sent, answers_to, IsSettled}
+use Rattle.usb_world.specs.LonePackets.{AloneAt, KeptAt}
 use Rattle.usb_world.specs.Exchanges.{exchange_in, ended_in, ports_in}
 use Rattle.usb_world.specs.CutPackets.{IsStopped}
 use Rattle.usb_world.specs.Steps.{IsCut}

@@ -18,7 +18,7 @@ use Rattle.usb_world.specs.declared.wire.Mark.{Mark}
 use Rattle.usb_world.specs.declared.wire.Mark.TheVariants.{Whole, Lost, PreLost, Flipped}
 use Rattle.usb_world.specs.declared.wire.Outgoing.{Outgoing}
 use Rattle.usb_world.specs.Wire.{harm_to, mark_of, is_read, marked, marked_some}
-use Rattle.usb_tree.specs.{after_sent, answers_to, after_attempt}
+use Rattle.usb_world.specs.AttemptPackets.{after_sent, answers_to, after_attempt}
 
 -- of no attempt yet
 abbrev pub blank : Exchange

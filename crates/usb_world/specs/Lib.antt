@@ -1,3 +1,8 @@
+pub mod Paths
+pub mod WayEffects
+pub mod AttemptPackets
+pub mod FoundHolder
+pub mod LonePackets
 pub mod PlainAttempts
 pub mod Worlds
 pub mod PluggedDevices
@@ -25,6 +30,18 @@ pub mod WriteRequests
 pub mod HostSides
 pub mod Trace
 -- the words of this crate, wherever one stands
+pub use Paths.{HoldsAddress, Two, address_of, has_power, on_way, pending, same_number, same_path}
+unfoldable pub use Paths.{has_power_at, is_way, pending_at}
+pub use WayEffects.{IsNew, call_keeps_pending, call_resets, effect_keeps_pending, effect_resets}
+pub use WayEffects.{keeps_pending, leaves_port, reset_if, takes_reset}
+unfoldable pub use WayEffects.{packet_keeps_pending, resets_at, way_leaves}
+pub use AttemptPackets.{IfOut, IsAckOut, IsAttemptAt, IsDataOut, IsSettled, IsTokenFor, NobodyHolds}
+pub use AttemptPackets.{OneHolds, after_attempt, after_sent, answers_to, attempt_keeps_pending}
+pub use AttemptPackets.{attempt_resets, calls_on, deep_at, heard_by, sent_keeps_pending}
+pub use AttemptPackets.{sent_resets}
+pub use FoundHolder.{Found}
+pub use LonePackets.{Alone, AloneAt, IsQuiet, IsWayTo, KeptAt, OthersForgot, OthersUncalled}
+pub use LonePackets.{is_deep, is_whole_tree, without_port}
 pub use PlainAttempts.{Attempt, attempt_data, attempt_kind, attempt_payload, destination_of}
 pub use WriteRequests.{IsWrite, Write}
 pub use Worlds.{AnswerFits, AttemptEnds, Attempted, AttemptsWithin, FitsMaximum, FitsPayload}
@@ -40,8 +57,7 @@ pub use PlanLimits.{after_most, attempt_most, damage_most, event_most}
 pub use Wire.{AtMostTwoRunning}
 unfoldable pub use Wire.{bit_count, damage_of, damages_until, harm_to, has_its_bit, is_read}
 unfoldable pub use Wire.{mark_of, marked, marked_some}
-pub use Exchanges.{ack_if, answered_in, blank, cleared_in, clears_at, ended_in, goes_out}
-pub use Exchanges.{heard_all}
+pub use Exchanges.{ack_if, answered_in, blank, cleared_in, clears_at, ended_in, goes_out, heard_all}
 pub use Exchanges.{heard_in, is_lost, mark_in, outcome_heard, payload_in, payload_out}
 pub use Exchanges.{place_of_answer, readable, reply_in, reply_out, sent_as, token_out}
 unfoldable pub use Exchanges.{answer_mark, answer_place, exchange_in, lost_in, outcome_of}
@@ -68,8 +84,7 @@ pub use Courses.{Undisturbed, UndisturbedOrPends, address_at, at_path, is_harmle
 pub use Courses.{is_quiet, made_keeps_pending, made_resets, quiet_data, root_keeps_pending}
 pub use Courses.{root_resets}
 unfoldable pub use Courses.{resets, step_keeps_pending}
-pub use OneHolder.{AttemptAnswerer, HolderIn, IsIn, IsMade, IsOut, IsSetup, answer_way}
-pub use OneHolder.{content_way}
+pub use OneHolder.{AttemptAnswerer, HolderIn, IsIn, IsMade, IsOut, IsSetup, answer_way, content_way}
 pub use OneHolder.{got, hears_attempt, in_alone, out_alone, payload_way, reply_way, setup_asked}
 pub use OneHolder.{token_way, way_back, way_to}
 pub use Addresses.{GivesNoAddress, MovesData, NoneTakes, after_reset, after_taking, ends_status}
@@ -104,4 +119,3 @@ pub use declared.wire.Outgoing.{Outgoing}
 -- words of crates below, for crates that need no more of these
 pub use Rattle.usb_device.specs.{Ports, Spec}
 unfoldable pub use Rattle.usb_device.specs.{held_addresses, repeats}
-pub use Rattle.usb_tree.specs.{IsSettled}

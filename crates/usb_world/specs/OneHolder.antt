@@ -17,7 +17,8 @@ use Rattle.usb_world.specs.declared.damage.Damage.{Damage}
 use Rattle.usb_world.specs.declared.wire.Mark.{Mark}
 use Rattle.usb_world.specs.declared.wire.Mark.TheVariants as mark
 use Rattle.usb_world.specs.Exchanges.{token_out, payload_out, reply_out, mark_in}
-use Rattle.usb_tree.specs.{IsSettled, Found}
+use Rattle.usb_world.specs.AttemptPackets.{IsSettled}
+use Rattle.usb_world.specs.FoundHolder.{Found}
 use Rattle.usb_world.specs.Worlds.{World}
 use Rattle.usb_world.specs.Steps.{at_attempt, attempt, after}
 

@@ -8,7 +8,9 @@ use Rattle.usb_port.specs.{PortState}
 use Rattle.usb_device.specs.{Is, Sent, Ports, reach}
 use Rattle.usb_world.specs.PlainAttempts.{Attempt}
 use Rattle.usb_world.specs.Exchanges.{token_out, payload_out}
-use Rattle.usb_tree.specs.{is_way, same_number, same_path, after_sent, way_leaves}
+use Rattle.usb_world.specs.Paths.{is_way, same_number, same_path}
+use Rattle.usb_world.specs.AttemptPackets.{after_sent}
+use Rattle.usb_world.specs.WayEffects.{way_leaves}
 use Rattle.usb_world.specs.Worlds.{World}
 use Rattle.usb_world.specs.Steps.{at_attempt, damage_in, Step, attempt, root_call, event, report}
 use Rattle.usb_world.specs.Courses.{at_path, resets, step_keeps_pending}

@@ -1,7 +1,7 @@
 -- A port of which nothing is asked, and on whose way nothing is plugged or unplugged.
 use Rattle.std.specs.Prelude.{◌≡◌, ◌⊎◌, List, ℕ, true, option_map}
 use Rattle.usb_device.specs.{Ports, reach, state_there, port_there}
-use Rattle.usb_tree.specs.{has_power, pending}
+use Rattle.usb_world.specs.Paths.{has_power, pending}
 use Rattle.usb_world.specs.PlanCourses.{spec_of}
 use Rattle.usb_world.specs.Worlds.{World}
 use Rattle.usb_world.specs.Steps.{Step}

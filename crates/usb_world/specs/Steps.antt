@@ -20,7 +20,8 @@ use Rattle.usb_world.specs.Wire.{damage_of}
 use Rattle.usb_world.specs.Exchanges.{heard_in, mark_in, lost_in, cleared_in, exchange_in, ports_in}
 use Rattle.usb_world.specs.Exchanges.{outcome_of, token_out, payload_out}
 use Rattle.usb_world.specs.Losses.{no_losses, counted, after_clearing}
-use Rattle.usb_tree.specs.{is_way, IsSettled, after_sent}
+use Rattle.usb_world.specs.Paths.{is_way}
+use Rattle.usb_world.specs.AttemptPackets.{IsSettled, after_sent}
 use Rattle.usb_world.specs.SanePorts.{Consistent}
 use Rattle.usb_world.specs.Plans.{PlanData}
 use Rattle.usb_world.specs.Worlds.{World, root_row, root_port_at, to_come, AttemptsWithin, HasFault}

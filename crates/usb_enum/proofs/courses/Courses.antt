@@ -6,8 +6,8 @@ use Rattle.usb_world.specs.{World, after_event, with_attempt}
 use Rattle.usb_world.proofs.Interface.{between_course, course_then, course_joined}
 use Rattle.usb_bus.specs.{Attempts, Traced, still, attempted, called, StepRun}
 use Rattle.usb_enum.specs.{IsInOrder, IsOrderly, IsRegular, KeepingSteps, Leads, Went}
-use Rattle.usb_transaction.specs.{NoThreeDamaged}
-use Rattle.usb_pipe.proofs.Interface.{never_three}
+use Rattle.usb_transfer.specs.{NoThreeDamaged}
+use Rattle.usb_transfer.proofs.Interface.{never_three}
 use Rattle.usb_bus.proofs.Interface.{OverFaults, over_traced, went_then, went_wider}
 
 -- the bus was at work, and these were its steps

@@ -6,14 +6,13 @@ use Rattle.usb_port.specs.{parent_of, PortCall}
 use Rattle.usb_port.proofs.Interface.{parent}
 use Rattle.usb_device.specs.{State, Location, path_to, reach_on, state_on, Spec}
 use Rattle.usb_world.specs.{KeepsPendingAt, Was, LeavesPortAlone, SameAt, Consistent, Course, World}
-use Rattle.usb_tree.specs.{is_way, has_power, pending, deep_at}
+use Rattle.usb_world.specs.{is_way, has_power, pending, deep_at}
 use Rattle.usb_world.proofs.Interface.{course_wider, pending_persists, reach_live, rests_or_pends}
 use Rattle.usb_world.proofs.Interface.{stands_or_pends}
-use Rattle.usb_transaction.specs.{Target, Listens}
-use Rattle.usb_address.specs.{AddressMap}
-use Rattle.usb_address.proofs.Interface.{live_port, not_way, pend_or_live}
-use Rattle.usb_pipe.specs.{PipeFault}
-use Rattle.usb_pipe.specs.declared.fault.PipeFault.TheVariants as pipe
+use Rattle.usb_transfer.specs.{Target, Listens, PipeFault}
+use Rattle.usb_hub.specs.{AddressMap}
+use Rattle.usb_hub.proofs.Interface.{live_port, not_way, pend_or_live}
+use Rattle.usb_transfer.specs.declared.fault.PipeFault.TheVariants as pipe
 use Rattle.usb_hub.specs.{HubPort, Root, External, IsAt, IsBelow, StaysAs, HasPort, HubServes}
 use Rattle.usb_hub.specs.{NoHubFailed}
 use Rattle.usb_enum.specs.{Cause, EnumFault, Stop, IsSpare, AtPort, CalledAt, StatusAt, ServesAt}

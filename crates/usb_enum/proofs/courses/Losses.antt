@@ -6,21 +6,20 @@ use Rattle.usb_device.specs.{Sent, Ports, row_of}
 use Rattle.usb_port.specs.{is_clearing, PortStatus, PortCall, set_call, clear_call}
 use Rattle.usb_world.specs.{Damage, Attempt, ports_in, one_more, counted, AnyStep, after_event}
 use Rattle.usb_world.specs.{with_attempt, Step, after, Course, World, roots_of, IsMade, attempt}
-use Rattle.usb_world.specs.{root_call}
+use Rattle.usb_world.specs.{root_call, after_sent, after_attempt, IsSettled}
 use Rattle.usb_world.specs.declared.losses.Losses.{Losses}
-use Rattle.usb_tree.specs.{after_sent, after_attempt, IsSettled}
 use Rattle.usb_world.proofs.Interface.{OverSteps, happened_long, over_course, over_step, row_long}
 use Rattle.usb_world.proofs.Interface.{with_limit_told, attempt_cases, in_clears, kept_course}
 use Rattle.usb_world.proofs.Interface.{loses, losses_as, out_counts, set_up_counts, settled_after}
+use Rattle.usb_world.proofs.Interface.{not-true}
 use Rattle.usb_enum.specs.{FewLosses, NoNewStretch}
 use Rattle.std.specs.Global.{Vec}
 use Rattle.usb_request.specs.{Setup, bytes_of, clear_port_feature, get_device_descriptor}
 use Rattle.usb_request.specs.{get_port_status, set_port_feature}
 use Rattle.usb_request.proofs.Interface.{same_setup}
-use Rattle.usb_tree.proofs.Interface.{not-true}
-use Rattle.usb_transaction.specs.{Target, begins_no_stretch, in_attempt, out_attempt, setup_attempt}
-use Rattle.usb_pipe.specs.{PipeFault, IsOfTransfer, IsBehind}
-use Rattle.usb_pipe.proofs.Interface.{read_attempts, write_attempts}
+use Rattle.usb_transfer.specs.{Target, begins_no_stretch, in_attempt, out_attempt, setup_attempt}
+use Rattle.usb_transfer.specs.{PipeFault, IsOfTransfer, IsBehind}
+use Rattle.usb_transfer.proofs.Interface.{read_attempts, write_attempts}
 use Rattle.usb_hub.specs.{HubPort, Root, External, PortRead, PortSet, PortCleared, Queried}
 use Rattle.usb_hub.specs.{Commanded}
 

@@ -2,15 +2,13 @@
 -- next.
 use Rattle.std.proofs.Common.{◌≡◌, ◌⊎◌, ◌≤◌, ℕ, inr, true, false, List, [], ◌∷◌, ◌++◌, Some, refl}
 use Rattle.std.proofs.Common.{subst, arith}
-use Rattle.usb_world.specs.{after_taking, World}
-use Rattle.usb_tree.specs.{same_path, is_way}
-use Rattle.usb_address.specs.{AddressMap, Unused, MapHolds, Enumerating, WhileBusWorks}
-use Rattle.usb_address.specs.{KeepsAddresses}
-use Rattle.usb_address.proofs.Interface.{after_a_reset, after_an_address, after_taking-zero}
-use Rattle.usb_address.proofs.Interface.{is_way-same_path}
+use Rattle.usb_world.specs.{after_taking, World, same_path, is_way}
+use Rattle.usb_hub.specs.{AddressMap, Unused, MapHolds, Enumerating, WhileBusWorks, KeepsAddresses}
 use Rattle.usb_hub.specs.{HubPort, IsAt, IsClaimed, Resets, GivesAddress}
+use Rattle.usb_hub.proofs.Interface.{after_a_reset, after_an_address, after_taking-zero}
+use Rattle.usb_hub.proofs.Interface.{is_way-same_path}
 use Rattle.usb_enum.specs.{IsSpare, Within, TakesAddress}
-use Rattle.usb_tree.proofs.Interface.{self_number}
+use Rattle.usb_world.proofs.Interface.{self_number}
 
 -- Till a fault
 

@@ -7,25 +7,22 @@ use Rattle.usb_request.specs.{set_configuration, set_address, Setup}
 use Rattle.usb_device.specs.{State, Spec, Location, path_to}
 use Rattle.usb_port.specs.{PortCall, SetReset, ClearEnable, set_call, clear_call, PortStatus}
 use Rattle.usb_world.specs.{BusFault, after_taking, Relation, Was, EachWas, is_above, here, World}
-use Rattle.usb_tree.specs.{address_of, is_way, keeps_pending}
+use Rattle.usb_world.specs.{address_of, is_way, keeps_pending}
 use Rattle.usb_world.proofs.Interface.{course_joined, course_wider, each_joined, each_none}
-use Rattle.usb_world.proofs.Interface.{each_wider}
-use Rattle.usb_tree.proofs.Interface.{and_false, decided, self_path}
-use Rattle.usb_transaction.specs.{Target}
-use Rattle.usb_address.specs.{AddressMap, Unused, MapHolds, Enumerating, WhileBusWorks}
-use Rattle.usb_address.specs.{KeepsAddresses}
-use Rattle.usb_address.proofs.Interface.{keeps_none, keeps_then, is_way-same_path, write_nothing}
-use Rattle.usb_pipe.specs.{PipeFault, FaultAfter, IsNoBusFault}
+use Rattle.usb_world.proofs.Interface.{each_wider, and_false, decided, self_path}
+use Rattle.usb_transfer.specs.{Target, PipeFault, FaultAfter, IsNoBusFault}
+use Rattle.usb_hub.specs.{AddressMap, Unused, MapHolds, Enumerating, WhileBusWorks, KeepsAddresses}
 use Rattle.usb_hub.specs.{HubPort, Root, External, StaysAs, EachElsewhere, KeepsDevices, KeepsAsked}
 use Rattle.usb_hub.specs.{KeepsCleared, Resets, GivesAddress, ReadAsked, IsCall, CommandsPort}
 use Rattle.usb_hub.specs.{PortRead, TouchesNoPort, TouchesPortsBelow, EndsAfter, Queried, Commanded}
 use Rattle.usb_hub.specs.{AddressAsked, ConfigurationAsked, ControlCourse, EachNamedElsewhere}
+use Rattle.usb_hub.specs.{KeepsAll, gives_power}
+use Rattle.usb_hub.proofs.Interface.{keeps_none, keeps_then, is_way-same_path, write_nothing}
 use Rattle.usb_hub.proofs.Interface.{power_backlog, stays_itself, keeps_devices_none}
-use Rattle.usb_hub.proofs.Interface.{commanded_control, queried_control}
+use Rattle.usb_hub.proofs.Interface.{commanded_control, queried_control, all_none, all_then}
+use Rattle.usb_hub.proofs.Interface.{found_all, found_called, found_then}
 use Rattle.usb_enum.specs.{IsSpare, TakesAddress, OnlyCalls, AtPort, FoundAt, OnlyAsks, OnlyTells}
 use Rattle.usb_enum.specs.{StaysBut, OnlySets, OnlyAt, Went}
-use Rattle.usb_backlog.specs.{KeepsAll, gives_power}
-use Rattle.usb_backlog.proofs.Interface.{all_none, all_then, found_all, found_called, found_then}
 use Rattle.usb_enum.proofs.devices.Enumerations.{Having, having, at_taking, within_then}
 use Rattle.usb_enum.proofs.devices.Enumerations.{within-keeps_addresses, within_kept, within_reset}
 use Rattle.usb_enum.proofs.devices.Enumerations.{within_given, zero_there}

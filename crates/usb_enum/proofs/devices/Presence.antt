@@ -5,16 +5,13 @@ use Rattle.usb_port.specs.{PortState, is_low, speed_of, seen, PortStatus}
 use Rattle.usb_device.specs.{State, Spec, Ports, vacant, taken, reach, state_at, port_at, Location}
 use Rattle.usb_device.specs.{path_to, reach_on, state_on, state_there, port_there}
 use Rattle.usb_world.specs.{after_taking, Relation, Was, EachWas, spec_of, Consistent, AnyStep}
-use Rattle.usb_world.specs.{Course, World}
-use Rattle.usb_tree.specs.{address_of}
-use Rattle.usb_address.proofs.Interface.{live_port}
+use Rattle.usb_world.specs.{Course, World, address_of}
+use Rattle.usb_hub.proofs.Interface.{live_port, stays-spec}
 use Rattle.usb_world.proofs.Interface.{reach_live, between_course, course_wider, each_wider}
-use Rattle.usb_world.proofs.Interface.{same_device, undisturbed_keeps}
-use Rattle.usb_tree.proofs.Interface.{false_true}
-use Rattle.usb_transaction.specs.{Target}
-use Rattle.usb_address.specs.{AddressMap, MapHolds, KeepsAddresses}
-use Rattle.usb_hub.specs.{HubPort, Resets, StaysAs, KeepsDevices, PortStatusAt, AddressAsked}
-use Rattle.usb_hub.proofs.Interface.{stays-spec}
+use Rattle.usb_world.proofs.Interface.{same_device, undisturbed_keeps, false_true}
+use Rattle.usb_transfer.specs.{Target}
+use Rattle.usb_hub.specs.{AddressMap, MapHolds, KeepsAddresses, HubPort, Resets, StaysAs}
+use Rattle.usb_hub.specs.{KeepsDevices, PortStatusAt, AddressAsked}
 use Rattle.usb_enum.specs.{Addressed, Within, StatusAt, Learned, AnswersSo, IsRegular, AtPath}
 use Rattle.usb_enum.specs.{Finds, HasDescriptor, HasHead, HasSpeed, IsAddressed, AwaitsAddress}
 use Rattle.usb_enum.specs.{AtMaximum, Went, IsResponsive}

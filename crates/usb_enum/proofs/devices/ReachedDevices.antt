@@ -9,15 +9,12 @@ use Rattle.usb_port.specs.{called_port, PortCall}
 use Rattle.usb_device.specs.{State, Ports, vacant, taken, reach_at, state_at, state_there}
 use Rattle.usb_device.specs.{port_there}
 use Rattle.usb_world.specs.{after_taking, KeepsPendingAt, spec_of, LeavesPortAlone, Course, World}
-use Rattle.usb_tree.specs.{has_power, pending, keeps_pending}
+use Rattle.usb_world.specs.{has_power, pending, keeps_pending}
 use Rattle.usb_world.proofs.Interface.{course_wider, pending_persists, rests_or_pends}
-use Rattle.usb_world.proofs.Interface.{stands_or_pends, step_pend}
-use Rattle.usb_tree.proofs.Interface.{both, decided, false_true}
-use Rattle.usb_address.specs.{AddressMap, Enumerating, WhileBusWorks}
-use Rattle.usb_transaction.specs.{Target}
-use Rattle.usb_pipe.specs.{PipeFault}
-use Rattle.usb_hub.specs.{HubPort, OnReachedRow, PortStatusAt, CommandsPort, PortCallDone}
-use Rattle.usb_hub.specs.{TouchesNoPort, Commanded}
+use Rattle.usb_world.proofs.Interface.{stands_or_pends, step_pend, both, decided, false_true}
+use Rattle.usb_hub.specs.{AddressMap, Enumerating, WhileBusWorks, HubPort, OnReachedRow}
+use Rattle.usb_hub.specs.{PortStatusAt, CommandsPort, PortCallDone, TouchesNoPort, Commanded}
+use Rattle.usb_transfer.specs.{Target, PipeFault}
 use Rattle.usb_hub.proofs.Interface.{disabled_port, done_stands, enabled_reach, told_stands}
 use Rattle.usb_enum.specs.{Cause, EnumFault, IsSpare, TakesAddress, AtPort, CalledAt, StatusAt}
 use Rattle.usb_enum.specs.{SettlesReset, Disables, OnlyAsks, OnlySets, IsKnownAs, IsOccupied}

@@ -5,12 +5,11 @@ use Rattle.std.proofs.lemmas.List.{take-take}
 use Rattle.std.specs.Global.{Vec}
 use Rattle.usb_request.specs.{get_device_descriptor}
 use Rattle.usb_world.specs.{EachWas, World}
-use Rattle.usb_transaction.specs.{Target}
-use Rattle.usb_address.specs.{KeepsAddresses}
-use Rattle.usb_hub.specs.{AddressAsked, HubPort}
+use Rattle.usb_transfer.specs.{Target}
+use Rattle.usb_hub.specs.{KeepsAddresses, AddressAsked, HubPort}
 use Rattle.usb_enum.specs.{Answers, AtMaximum, AwaitsAddress, BeginsWith, Finds, EnumFault, Finding}
 use Rattle.usb_enum.specs.{IsSaid, IsSaidWhole, IsSpokenTo, Leads, Says, Within, Went}
-use Rattle.usb_resources.specs.{Addresses, IsFree}
+use Rattle.usb_port.specs.{Addresses, IsFree}
 use Rattle.usb_enum.proofs.courses.Courses.{leads_none, leads_then}
 use Rattle.usb_enum.proofs.devices.Presence.{answered_finds, spoken_finds}
 use Rattle.usb_enum.proofs.readings.Heads.{answered, head_packet, gave, Gave}

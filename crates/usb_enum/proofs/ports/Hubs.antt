@@ -3,8 +3,7 @@ use Rattle.std.proofs.Common.{◌≡◌, ◌⊎◌, refl, ap, subst, ℕ, ◌+�
 use Rattle.std.proofs.Common.{Result, Ok, Err, IfOk, ◌≤◌, ◌<◌, Some, arith, not, take, Option, None}
 use Rattle.std.proofs.Common.{option_map, if◌then◌else◌, is_ok}
 use Rattle.usb_world.specs.{World, EachWas, Was}
-use Rattle.usb_transaction.specs.{Target}
-use Rattle.usb_pipe.specs.{PipeFault}
+use Rattle.usb_transfer.specs.{Target, PipeFault}
 use Rattle.std.specs.Global.{Vec}
 use Rattle.usb_request.specs.{PORT_POWER, get_hub_descriptor, set_port_feature}
 use Rattle.usb_hub.specs.{Queried, Commanded, DeviceStatus, KeepsDevices, hub_given, HubAsked}
@@ -12,7 +11,7 @@ use Rattle.usb_hub.specs.{StatusAsked, unless_refused, External, StaysAs, HasPor
 use Rattle.usb_descriptor.specs.{hub_spelled, port_count, most_ports, status_endpoint_of}
 use Rattle.usb_descriptor.specs.{DescriptorFault}
 use Rattle.usb_descriptor.proofs.Interface.{hub_spelled-wide, status_endpoint-wide}
-use Rattle.usb_resources.specs.{supply_of}
+use Rattle.usb_port.specs.{supply_of}
 use Rattle.usb_enum.specs.{Cause, Stop, CountTold, IsPowered, Powered, answered_or, CanServe}
 use Rattle.usb_enum.specs.{holds_changes, gives_hub, DeviceFact, AtMaximum, HasPorts, HasSupply}
 use Rattle.usb_enum.specs.{IsGoodHub, Went, BadHub, FailureReason, Refuses, hub_fault, Learned}
@@ -27,7 +26,7 @@ use Rattle.usb_port.specs.{IsPortNumber}
 use Rattle.usb_enum.proofs.readings.Readings.{given_allows, answer_learned, text_learned}
 use Rattle.std.specs.Prelude.{⊤}
 use Rattle.usb_world.proofs.Interface.{each_wider}
-use Rattle.usb_pipe.specs.declared.fault.PipeFault.TheVariants as pipe
+use Rattle.usb_transfer.specs.declared.fault.PipeFault.TheVariants as pipe
 use Rattle.usb_hub.proofs.Interface.{hub_sets, stays-registers, stays-spec}
 use Rattle.usb_enum.proofs.courses.Courses.{went_on}
 use Rattle.usb_enum.proofs.courses.Fairness.{serves_still}

@@ -11,22 +11,18 @@ use Rattle.usb_port.specs.{PortState, SetPower}
 use Rattle.usb_device.specs.{Registers, Is, port_named, State, Hub, Ports, ended, vacant, taken}
 use Rattle.usb_device.specs.{port_of, all_off, place_at, Location, path_to, state_on, port_there}
 use Rattle.usb_world.specs.{is_harmless, Was, EachWas, hub_ports, LeavesPortAlone, AnyStep, Course}
-use Rattle.usb_world.specs.{World}
-use Rattle.usb_tree.specs.{is_way, same_number}
+use Rattle.usb_world.specs.{World, is_way, same_number}
 use Rattle.usb_world.proofs.Interface.{course_wider, pending_persists, ports_stand, rests_or_pends}
-use Rattle.usb_world.proofs.Interface.{same_number-is}
+use Rattle.usb_world.proofs.Interface.{same_number-is, and_false, false_true}
 use Rattle.std.proofs.lemmas.Bool.{cases_order}
-use Rattle.usb_tree.proofs.Interface.{and_false, false_true}
-use Rattle.usb_transaction.specs.{Target, Answerer}
-use Rattle.usb_pipe.specs.{PipeFault}
-use Rattle.usb_pipe.proofs.Interface.{who_writes}
-use Rattle.usb_address.specs.{AddressMap, MapHolds, WhileBusWorks, KeepsAddresses}
-use Rattle.usb_address.proofs.Interface.{KeepsClaim, NoPower, claimed_path, quiet_follows}
-use Rattle.usb_address.proofs.Interface.{read_keeps, stays_unpowered}
-use Rattle.usb_hub.specs.{PortCallDone, TouchesNoPort, Queried, Commanded, ConfigurationAsked}
-use Rattle.usb_hub.specs.{WentOff}
-use Rattle.usb_hub.proofs.Interface.{AsksFor, hub_done, hub_named, hub_rests, place_below}
-use Rattle.usb_hub.proofs.Interface.{port_of_place, powered_stands, set_asks, set_keeps}
+use Rattle.usb_transfer.specs.{Target, Answerer, PipeFault}
+use Rattle.usb_transfer.proofs.Interface.{who_writes}
+use Rattle.usb_hub.specs.{AddressMap, MapHolds, WhileBusWorks, KeepsAddresses, PortCallDone}
+use Rattle.usb_hub.specs.{TouchesNoPort, Queried, Commanded, ConfigurationAsked, WentOff}
+use Rattle.usb_hub.proofs.Interface.{KeepsClaim, NoPower, claimed_path, quiet_follows, read_keeps}
+use Rattle.usb_hub.proofs.Interface.{stays_unpowered, AsksFor, hub_done, hub_named, hub_rests}
+use Rattle.usb_hub.proofs.Interface.{place_below, port_of_place, powered_stands, set_asks}
+use Rattle.usb_hub.proofs.Interface.{set_keeps}
 use Rattle.usb_enum.specs.{HubFacts, OnlyAsks, IsPowered, Powered, Started, IsKnownAs}
 use Rattle.usb_enum.specs.{HasEmptyPorts, IsInOrder, IsOrderly, Went}
 use Rattle.usb_enum.proofs.courses.Courses.{orderly_on}

@@ -8,12 +8,12 @@ use Rattle.std.specs.Global.{Vec}
 use Rattle.usb_request.specs.{get_device_descriptor}
 use Rattle.usb_request.proofs.Interface.{same_setup}
 use Rattle.usb_descriptor.specs.{device_head_of, is_max_packet, DescriptorFault, device_spelled}
-use Rattle.usb_world.specs.{World, EachWas, BusFault}
-use Rattle.usb_world.proofs.Interface.{each_wider}
-use Rattle.usb_transaction.specs.{Target, HadOne, NoThreeDamaged}
-use Rattle.usb_pipe.specs.{PipeFault, IsMaximum, FaultAfter, IsTransferAnswer}
+use Rattle.usb_world.specs.{World, EachWas, BusFault, address_of}
+use Rattle.usb_world.proofs.Interface.{each_wider, decided}
+use Rattle.usb_transfer.specs.{Target, HadOne, NoThreeDamaged, PipeFault, IsMaximum, FaultAfter}
+use Rattle.usb_transfer.specs.{IsTransferAnswer}
 use Rattle.usb_hub.specs.{device_given, HasText, DeviceAsked, KeepsAnswered, ReadFailure, IsClaimed}
-use Rattle.usb_hub.specs.{Queried}
+use Rattle.usb_hub.specs.{Queried, AddressMap, MapHolds}
 use Rattle.usb_enum.specs.{Cause, Learned, AnswersSo, HasHead, answered_or, Stalled, BadDevice}
 use Rattle.usb_enum.specs.{Stop, is_device, device_bytes, FailureReason, Both, StopsDescriptor}
 use Rattle.usb_enum.specs.{HasDescriptor, AtMaximum, DescriptorRead, DescriptorTold, bad_front}
@@ -25,11 +25,8 @@ use Rattle.usb_enum.proofs.readings.Readings.{given_allows}
 use Rattle.usb_enum.proofs.Targets.{head_maximum}
 use Rattle.std.specs.Prelude.{unwrap_or}
 use Rattle.std.specs.Result.{result_eq}
-use Rattle.usb_tree.specs.{address_of}
-use Rattle.usb_tree.proofs.Interface.{decided}
-use Rattle.usb_address.specs.{AddressMap, MapHolds}
-use Rattle.usb_pipe.proofs.Interface.{who_read_had}
-use Rattle.usb_pipe.specs.declared.fault.PipeFault.TheVariants as pipe
+use Rattle.usb_transfer.proofs.Interface.{who_read_had}
+use Rattle.usb_transfer.specs.declared.fault.PipeFault.TheVariants as pipe
 use Rattle.usb_enum.specs.declared.cause.Request.TheVariants as request
 use Rattle.usb_enum.specs.declared.stop.Stop.TheVariants.{Refused}
 use Rattle.usb_enum.proofs.courses.Losses.{device_goes}

@@ -8,10 +8,9 @@ use Rattle.usb_descriptor.specs.{config_head_of, config_of, configuration_value,
 use Rattle.usb_device.specs.{said_length, Spec, State}
 use Rattle.usb_world.specs.{EachWas, World}
 use Rattle.usb_world.proofs.Interface.{each_joined, each_wider}
-use Rattle.usb_transaction.specs.{Target, NoThreeDamaged}
+use Rattle.usb_transfer.specs.{Target, NoThreeDamaged, PipeFault}
 use Rattle.usb_bus.specs.{StepRun}
-use Rattle.usb_pipe.specs.{PipeFault}
-use Rattle.usb_pipe.specs.declared.fault.PipeFault.TheVariants as pipe
+use Rattle.usb_transfer.specs.declared.fault.PipeFault.TheVariants as pipe
 use Rattle.usb_hub.specs.{StaysAs, KeepsDevices, unless_refused, config_given, ReadAsked, TextAsked}
 use Rattle.usb_hub.specs.{ConfigAsked, ReadFailure}
 use Rattle.usb_hub.proofs.Interface.{stays_joined}

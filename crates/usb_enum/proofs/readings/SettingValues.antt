@@ -13,7 +13,7 @@ use Rattle.usb_descriptor.specs.{device_head_of, configuration_count}
 use Rattle.usb_descriptor.proofs.Interface.{header_of}
 use Rattle.usb_device.specs.Bulk as device
 use Rattle.usb_device.specs.{is_value, said_length, Spec, total_of, text_with, has_value as carries}
-use Rattle.usb_tree.proofs.Interface.{neither, swapped}
+use Rattle.usb_world.proofs.Interface.{neither, swapped}
 use Rattle.usb_enum.specs.{Cause, Stalled, text_read, is_good_text, texts_below, config_fault}
 use Rattle.usb_enum.specs.{first_fault, HasConfigurations, any_has_value, is_over, left_of}
 use Rattle.usb_enum.specs.{said_below, Silent, Busy, BadDevice, TooDeep, verdict, read_verdict}

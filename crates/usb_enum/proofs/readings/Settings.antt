@@ -4,10 +4,9 @@ use Rattle.std.proofs.Common.{arith, ◌≡◌, ℕ, ◌==◌, List, Result, Ok,
 use Rattle.std.proofs.Common.{◌≢◌, ◌<◌, ◌&&◌, true, [], Bool, length, slice_index_or, Option, None}
 use Rattle.std.proofs.Common.{Some, Err}
 use Rattle.usb_descriptor.specs.{configuration_value, configuration_count}
-use Rattle.usb_world.specs.{EachWas, World}
+use Rattle.usb_world.specs.{EachWas, World, address_of}
 use Rattle.usb_world.proofs.Interface.{each_joined, each_wider}
-use Rattle.usb_transaction.specs.{Target, NoThreeDamaged}
-use Rattle.usb_pipe.specs.{PipeFault, WriteFailure}
+use Rattle.usb_transfer.specs.{Target, NoThreeDamaged, PipeFault, WriteFailure}
 use Rattle.usb_hub.specs.{ConfigurationAsked}
 use Rattle.usb_enum.specs.{Learned, DeviceFact, LearnedSet, LearnsSet, AtMaximum, HasConfigurations}
 use Rattle.usb_enum.specs.{HostOptions, Went, Cause, Stalled, NoPower, Stop, first_fault}
@@ -16,8 +15,7 @@ use Rattle.usb_enum.specs.{IsResponsive, IsRefusedFor, Refuses, no_fault, settin
 use Rattle.usb_enum.specs.{start_fault, chosen_fault, configured_fault, stop_of, answered_or}
 use Rattle.usb_enum.specs.{choice_of}
 use Rattle.std.specs.Prelude.{unwrap_or, ⊤}
-use Rattle.usb_tree.specs.{address_of}
-use Rattle.usb_pipe.specs.declared.fault.PipeFault.TheVariants as pipe
+use Rattle.usb_transfer.specs.declared.fault.PipeFault.TheVariants as pipe
 use Rattle.usb_enum.specs.declared.cause.Request.TheVariants as request
 use Rattle.usb_enum.specs.declared.stop.Stop.TheVariants.{Refused}
 use Rattle.usb_enum.proofs.refusals.Refusals.{answered_err, each_joint, explained_wider}

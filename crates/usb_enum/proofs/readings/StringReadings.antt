@@ -4,9 +4,8 @@ use Rattle.std.proofs.Common.{option_and_then, refl, Result, Err}
 use Rattle.std.specs.Global.{Vec}
 use Rattle.usb_device.specs.{Spec}
 use Rattle.usb_world.specs.{World}
-use Rattle.usb_transaction.specs.{Target}
-use Rattle.usb_pipe.specs.{PipeFault}
-use Rattle.usb_pipe.specs.declared.fault.PipeFault.TheVariants as pipe
+use Rattle.usb_transfer.specs.{Target, PipeFault}
+use Rattle.usb_transfer.specs.declared.fault.PipeFault.TheVariants as pipe
 use Rattle.usb_hub.specs.{string_given}
 use Rattle.usb_enum.specs.{Strings, string_read, string_at, DeviceFact, Answered, HasString}
 use Rattle.usb_enum.specs.{bytes_given, language_of, string_in, stop_of, AsksLanguage, AsksString}

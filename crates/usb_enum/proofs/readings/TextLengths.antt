@@ -17,11 +17,10 @@ use Rattle.usb_world.specs.{PluggedMap, index_at, device_indexed, plugged_after,
 use Rattle.usb_world.specs.{plugged_without}
 use Rattle.usb_world.proofs.Interface.{same_is, course_joined, devices_left}
 use Rattle.usb_bus.specs.{StepRun}
-use Rattle.usb_transaction.specs.{Target, Answerer, HadOne, is_at}
-use Rattle.usb_pipe.specs.{control_bound}
-use Rattle.usb_pipe.proofs.Interface.{who_reads, bound_wide}
-use Rattle.usb_address.specs.{AddressMap, MapHolds, Enumerating, WhileBusWorks, KeepsAddresses}
-use Rattle.usb_hub.specs.{HubPort, KeepsDevices, config_given, TextAsked, ConfigAsked, Queried}
+use Rattle.usb_transfer.specs.{Target, Answerer, HadOne, is_at, control_bound}
+use Rattle.usb_transfer.proofs.Interface.{who_reads, bound_wide}
+use Rattle.usb_hub.specs.{AddressMap, MapHolds, Enumerating, WhileBusWorks, KeepsAddresses, HubPort}
+use Rattle.usb_hub.specs.{KeepsDevices, config_given, TextAsked, ConfigAsked, Queried}
 use Rattle.usb_enum.specs.{Addressed, Stop, IsSpare, read_bound, text_bound, texts_bound}
 use Rattle.usb_enum.specs.{pass_bound, configured_by, Learned, DeviceFact, AtPath, HasTaken}
 use Rattle.usb_enum.specs.{IsAddressed, IsRegular, AtMaximum, HasTotal, SaysWithin, HasPlanWithin}

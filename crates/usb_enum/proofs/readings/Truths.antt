@@ -4,10 +4,8 @@ use Rattle.std.proofs.Common.{Result, Ok, Err, ap, ◌∙◌, arith, IfOk}
 use Rattle.usb_descriptor.specs.{configuration_value, configuration_count}
 use Rattle.usb_device.specs.{State, Ports, Location, state_there, Spec, IsSpec}
 use Rattle.usb_world.specs.{after_taking, Consistent, World}
-use Rattle.usb_world.proofs.Interface.{sane_spec}
-use Rattle.usb_tree.proofs.Interface.{self_path}
-use Rattle.usb_address.specs.{KeepsAddresses}
-use Rattle.usb_hub.specs.{HubPort}
+use Rattle.usb_world.proofs.Interface.{sane_spec, self_path}
+use Rattle.usb_hub.specs.{KeepsAddresses, HubPort}
 use Rattle.usb_enum.specs.{Addressed, Accepted, HubFacts, Stop, Within, verdict, is_good_hub}
 use Rattle.usb_enum.specs.{facts_of, IsAs, is_hub_device, string_indexes, configuration_of}
 use Rattle.usb_enum.specs.{HasFacts, OnlySets, IsAccepted, IsListed, IsOwn, IsWhole, Finds}

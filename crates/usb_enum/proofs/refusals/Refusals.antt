@@ -5,9 +5,8 @@ use Rattle.std.proofs.Common.{Err, IfErr, IsErrAnd}
 use Rattle.std.specs.Prelude.{unwrap_or, ⊤}
 use Rattle.usb_world.specs.{Relation, EachWas, World}
 use Rattle.usb_world.proofs.Interface.{each_both, each_joined, each_wider}
-use Rattle.usb_transaction.specs.{Target, is_at, NoThreeDamaged}
-use Rattle.usb_pipe.specs.{PipeFault}
-use Rattle.usb_pipe.specs.declared.fault.PipeFault.TheVariants as pipe
+use Rattle.usb_transfer.specs.{Target, is_at, NoThreeDamaged, PipeFault}
+use Rattle.usb_transfer.specs.declared.fault.PipeFault.TheVariants as pipe
 use Rattle.usb_hub.specs.{ReadAsked, ReadFailure}
 use Rattle.usb_enum.specs.{Cause, EnumFault, Stop, Learned, DeviceFact, Hears, HearsSet, Explained}
 use Rattle.usb_enum.specs.{FailureReason, ExplainsSet, IsRefusedFor, Refuses, stop_of, AtMaximum}

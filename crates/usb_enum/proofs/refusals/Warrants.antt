@@ -2,7 +2,7 @@
 use Rattle.std.proofs.Common.{arith, ◌≡◌, ℕ, true, take, Option, None, Some, Result, Err, refl}
 use Rattle.usb_device.specs.{Spec}
 use Rattle.usb_world.specs.{after_taking, World}
-use Rattle.usb_transaction.specs.{Target}
+use Rattle.usb_transfer.specs.{Target}
 use Rattle.usb_hub.specs.{HubPort}
 use Rattle.usb_enum.specs.{Addressed, Cause, NoAddress, Stop, AtPort, verdict, gives_head, IsRight}
 use Rattle.usb_enum.specs.{is_device, StopsFairly, OnlySets, FailureReason, Awaits, HasTaken}

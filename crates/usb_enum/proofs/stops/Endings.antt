@@ -10,17 +10,16 @@ use Rattle.usb_enum.specs.{IsDisabled}
 use Rattle.std.proofs.Common.{◌≡◌, ◌⊎◌, ◌≤◌, ◌+◌, inl, inr, ℕ, true, List, Option, None, Some}
 use Rattle.std.proofs.Common.{Result, Ok, Err, refl, sym, subst, ◌∙◌, arith, IfErr, get_or-set_same}
 use Rattle.std.proofs.Common.{◌-◌, false, slice_index_or}
-use Rattle.usb_world.specs.{after_taking, World, root_row, root_port_at}
+use Rattle.usb_world.specs.{after_taking, World, root_row, root_port_at, pending}
 use Rattle.usb_device.specs.{State, Spec, state_there}
-use Rattle.usb_tree.specs.{pending}
-use Rattle.usb_tree.proofs.Interface.{false_true}
+use Rattle.usb_world.proofs.Interface.{false_true}
 use Rattle.usb_bus.specs.{StepRun}
-use Rattle.usb_resources.specs.Pool as pool
-use Rattle.usb_resources.specs.{Addresses, IsFull, IsTaken, HasAddresses}
-use Rattle.usb_address.specs.{AddressMap, Free, map_without, MapHolds, Enumerating, WhileBusWorks}
-use Rattle.usb_address.proofs.Interface.{enumerating_begins, owned_as}
+use Rattle.usb_port.specs.Pool as pool
+use Rattle.usb_port.specs.{Addresses, IsFull, IsTaken, HasAddresses}
+use Rattle.usb_hub.specs.{AddressMap, Free, map_without, MapHolds, Enumerating, WhileBusWorks}
 use Rattle.usb_hub.specs.{HubPort, IsAt, Isolates, order_bound, KeepsCleared, CommandsPort, Root}
 use Rattle.usb_hub.specs.{External, IsPort, PortCleared}
+use Rattle.usb_hub.proofs.Interface.{enumerating_begins, owned_as}
 use Rattle.usb_enum.specs.declared.fault.EnumFault.TheVariants as fault
 use Rattle.usb_enum.specs.declared.finding.Finding.TheVariants.{Device, Refused}
 use Rattle.usb_enum.specs.declared.stop.Stop.TheVariants as stop
@@ -32,7 +31,7 @@ use Rattle.usb_enum.proofs.devices.ReachedDevices.{clear_enable_disables}
 use Rattle.usb_enum.proofs.Targets.{examined_most}
 use Rattle.usb_port.specs.{clear_call, PortState, off}
 use Rattle.usb_request.specs.{PORT_ENABLE}
-use Rattle.usb_pipe.specs.{PipeFault, FaultAfter}
+use Rattle.usb_transfer.specs.{PipeFault, FaultAfter}
 
 -- Claims at the port
 

@@ -1,9 +1,9 @@
 -- What a stop is, whatever the bus does.
 use Rattle.std.proofs.Common.{arith, ◌≡◌, ◌&&◌, ℕ, ◌==◌, Bool, true, List, Some, Result, Ok, Err}
 use Rattle.std.proofs.Common.{IfOk, IfSome, MatchResult, Option, IfErr, false}
-use Rattle.usb_resources.specs.{Addresses, IsFull}
-use Rattle.usb_pipe.specs.{PipeFault, BusToldIt}
-use Rattle.usb_pipe.specs.declared.fault.PipeFault.TheVariants as pipe
+use Rattle.usb_port.specs.{Addresses, IsFull}
+use Rattle.usb_transfer.specs.{PipeFault, BusToldIt}
+use Rattle.usb_transfer.specs.declared.fault.PipeFault.TheVariants as pipe
 use Rattle.usb_enum.specs.{Accepted, Cause, EnumFault, Finding, Stop, device_bytes, fits_tier}
 use Rattle.usb_enum.specs.{HostOptions, is_device, is_hub_device, HandsOn, IsFound, FitsStop}
 use Rattle.usb_enum.specs.{IsHubStop, IsPlain, IsEarly, IsEarlyStop, IsPlainStop, IsSaidAt}

@@ -5,9 +5,8 @@ use Rattle.std.specs.Prelude.{⊤}
 use Rattle.std.specs.Global.{Vec}
 use Rattle.usb_request.specs.{Setup, get_status}
 use Rattle.usb_world.specs.{World}
-use Rattle.usb_transaction.specs.{Target, AttemptsMade}
-use Rattle.usb_pipe.specs.{PipeFault, FaultAfter, Reads, WasRead, Writes}
-use Rattle.usb_pipe.specs.declared.fault.PipeFault.TheVariants as pipe
+use Rattle.usb_transfer.specs.{Target, AttemptsMade, PipeFault, FaultAfter, Reads, WasRead, Writes}
+use Rattle.usb_transfer.specs.declared.fault.PipeFault.TheVariants as pipe
 use Rattle.usb_hub.specs.{HubPort, DeviceStatus, PortCleared, PortRead, PortSet, Queried, EndsAfter}
 use Rattle.usb_hub.specs.{Commanded, ReadAs, device_status, said_in}
 use Rattle.usb_enum.specs.{Cause, Request, EnumFault, Stop, Leads, FailsAs, EndsFailing}

@@ -9,14 +9,14 @@ use Rattle.usb_port.specs.{PortState, reset, PortStatus, SetReset, set_call, cle
 use Rattle.usb_device.specs.{State, Spec, IsSpec, Ports, reach, state_at, Location, path_to}
 use Rattle.usb_device.specs.{reach_on, state_on, state_there, port_there}
 use Rattle.usb_world.specs.{after_taking, Relation, Was, EachWas, one_more, Consistent, World}
-use Rattle.usb_tree.specs.{address_of, pending}
+use Rattle.usb_world.specs.{address_of, pending}
 use Rattle.usb_world.proofs.Interface.{course_wider, pending_persists, rests_or_pends, sane_spec}
-use Rattle.usb_tree.proofs.Interface.{false_true}
-use Rattle.usb_transaction.specs.{Target, Listens, NoThreeDamaged}
-use Rattle.usb_address.specs.{AddressMap, Enumerating, WhileBusWorks}
-use Rattle.usb_address.proofs.Interface.{attached_there, live_port}
-use Rattle.usb_pipe.specs.{PipeFault, WriteFailure, TookItOrLost, took, lost}
-use Rattle.usb_pipe.specs.declared.fault.PipeFault.TheVariants as pipe
+use Rattle.usb_world.proofs.Interface.{false_true}
+use Rattle.usb_transfer.specs.{Target, Listens, NoThreeDamaged, PipeFault, WriteFailure}
+use Rattle.usb_transfer.specs.{TookItOrLost, took, lost}
+use Rattle.usb_hub.specs.{AddressMap, Enumerating, WhileBusWorks}
+use Rattle.usb_hub.proofs.Interface.{attached_there, live_port}
+use Rattle.usb_transfer.specs.declared.fault.PipeFault.TheVariants as pipe
 use Rattle.usb_hub.specs.{HubPort, IsAt, PortCallDone, PortStatusAt, Commanded, AddressAsked}
 use Rattle.usb_hub.proofs.Interface.{done_stands}
 use Rattle.usb_enum.specs.{Cause, Lost, Stalled, EnumFault, Stop, IsSpare, AtPort, CalledAt}

@@ -1,10 +1,10 @@
 -- Why the parts of an enumeration behind the device descriptor stop, and the whole.
 use Rattle.std.proofs.Common.{arith, ◌≡◌, inl, inr, ℕ, ◌==◌, true, List, [], slice_index_or, Some}
 use Rattle.std.proofs.Common.{Result, Ok, Err, refl, sym, subst, IfErr}
-use Rattle.usb_resources.specs.{Addresses, IsFree, IsFull}
+use Rattle.usb_port.specs.{Addresses, IsFree, IsFull}
 use Rattle.usb_world.specs.{World}
-use Rattle.usb_tree.proofs.Interface.{both, equal_same}
-use Rattle.usb_transaction.specs.{Target}
+use Rattle.usb_world.proofs.Interface.{both, equal_same}
+use Rattle.usb_transfer.specs.{Target}
 use Rattle.usb_hub.specs.{HubPort}
 use Rattle.usb_enum.specs.{EnumFault, Finding, Stop, LAST_TIER, fits_tier, is_hub_device, GivesUp}
 use Rattle.usb_enum.specs.{Leads, DescriptorRead, CauseAllowed, CauseAllowedAtStart, AllTexts}

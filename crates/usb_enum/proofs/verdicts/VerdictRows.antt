@@ -12,7 +12,7 @@ use Rattle.usb_enum.specs.{is_good_hub, texts_of, config_fault, first_fault, rea
 use Rattle.usb_enum.specs.{HostOptions, left_of, said_below, texts_below, chosen_fault}
 use Rattle.usb_enum.specs.{configured_fault}
 use Rattle.std.proofs.lemmas.Option.{same_Some}
-use Rattle.usb_tree.proofs.Interface.{decided}
+use Rattle.usb_world.proofs.Interface.{decided}
 use Rattle.usb_enum.specs.declared.cause.Request.TheVariants as request
 
 -- What is read of the first 18 bytes of a descriptor

@@ -2,16 +2,14 @@
 use Rattle.std.proofs.Common.{◌≡◌, ℕ, zero, suc, false, List, [], ◌∷◌, ◌++◌}
 use Rattle.std.proofs.Common.{Option, None, ap}
 use Rattle.std.proofs.Common.{sym, subst, ◌∙◌, ◌+◌}
-use Rattle.usb_device.specs.{Ports, put, changed_at}
+use Rattle.usb_device.specs.{Ports, put}
 use Rattle.usb_device.specs.{all_reached}
 use Rattle.usb_function.specs.{IsIndexOf, IsIndexWithout}
 use Rattle.usb_function.specs.declared.holders.Holders.{Holders}
 use Rattle.usb_device.proofs.Interface.{changed_at-zero}
 use Rattle.usb_function.proofs.Interface.{index_around, same_index}
-use Rattle.usb_world.specs.{Attempt, Damage, ports_in}
-use Rattle.usb_tree.specs.{IsSettled, is_whole_tree}
-use Rattle.usb_tree.specs.{IsWayTo, KeptAt}
-use Rattle.usb_tree.proofs.Interface.{false_true}
+use Rattle.usb_world.specs.{Attempt, Damage, ports_in, IsSettled, is_whole_tree, IsWayTo, KeptAt}
+use Rattle.usb_world.proofs.Interface.{false_true}
 use Rattle.usb_world.proofs.ways.Routes.{alone_token}
 use Rattle.usb_world.proofs.ways.RoutedAttempts.{left_is, n, w, x}
 

@@ -5,7 +5,7 @@ use Rattle.usb_device.specs.{Ports}
 use Rattle.usb_function.specs.{IsIndexOf}
 use Rattle.usb_function.specs.declared.holders.Holders.{Holders}
 use Rattle.usb_device.proofs.Interface.{one_is_held}
-use Rattle.usb_tree.specs.{IsWayTo}
+use Rattle.usb_world.specs.{IsWayTo}
 use Rattle.usb_world.proofs.ways.Routes.{one_at}
 
 -- the way that is taken: to the one that the index names, or the whole tree's

@@ -6,10 +6,10 @@ mod pipe;
 use std::alloc::{AllocError, Global};
 use std::test::Fail;
 use usb_bus::Bus;
-use usb_pipe::{PipeFault, Setup, Target, control_none};
 use usb_plan::read_plan;
 use usb_request::feature::{C_PORT_CONNECTION, C_PORT_RESET, PORT_POWER, PORT_RESET};
 use usb_sim::{Plan, SimBus, Tracer};
+use usb_transfer::{PipeFault, Setup, Target, control_none};
 use usb_watch::Watched;
 
 /// A function with packets of 8 bytes at bulk OUT 2 and bulk IN 2, which takes the requests of a

@@ -3,13 +3,11 @@ use super::frail::{Frail, Trouble};
 use arrayvec::ArrayVec;
 use std::test::Fail;
 use usb_bus::{Attempt, Destination, Outcome};
-use usb_conduct::{Outs, Remark, data_line, empty_line, remark_line};
-use usb_judge::{Cause, Judgement};
-use usb_listing::{ListingFault, read_bytes};
+use usb_judge::{Cause, Judgement, Outs, Remark, data_line, empty_line, remark_line};
 use usb_packet::{Speed, Toggle};
 use usb_pcap::{PcapFault, capture};
 use usb_port::PortPath;
-use usb_verdict::{ReportedListing, Tally, fault_line, judgement_line};
+use usb_verdict::{ListingFault, ReportedListing, Tally, fault_line, judgement_line, read_bytes};
 use usb_watch::Watched;
 
 const REMARKS: &[(Remark, &str)] = &[

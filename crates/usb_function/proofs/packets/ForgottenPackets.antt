@@ -2,7 +2,7 @@
 use Rattle.std.proofs.Common.{◌≡◌, Bool, false, List, [], ◌∷◌, length}
 use Rattle.std.proofs.Common.{refl, arith}
 use Rattle.usb_function.specs.declared.ports.Place.{Place as Kept}
-use Rattle.usb_device.specs.{before, Sent, all_forgotten, has_loss}
+use Rattle.usb_device.specs.{Sent, all_forgotten, has_loss}
 use Rattle.usb_device.specs.{clears_change}
 use Rattle.usb_function.specs.{ports_kept}
 use Rattle.usb_device.proofs.packets.ForgottenPackets.{clears-before, forgotten-taken}

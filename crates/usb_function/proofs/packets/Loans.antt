@@ -2,7 +2,7 @@
 use Rattle.std.proofs.Common.{◌≡◌, ℕ, zero, suc, ◌<◌, ◌-◌, List, [], ◌∷◌, Option}
 use Rattle.std.proofs.Common.{length, slice_index_or, slice_set, ap, sym, ◌∙◌, arith}
 use Rattle.usb_function.specs.declared.ports.Place.{Place as Kept}
-use Rattle.usb_device.specs.{Plugged, port_of, before, plugged_at}
+use Rattle.usb_device.specs.{Plugged, before, plugged_at}
 use Rattle.usb_device.specs.{standing, holding}
 use Rattle.usb_function.specs.{stood, ports_kept}
 use Rattle.usb_device.specs.{with_device}

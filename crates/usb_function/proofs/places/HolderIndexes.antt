@@ -3,7 +3,7 @@ use Rattle.std.proofs.Common.{◌≡◌, ℕ}
 use Rattle.std.proofs.Common.{false, List, [], ◌∷◌, length}
 use Rattle.std.proofs.Common.{refl, ap, sym, ◌∙◌, arith}
 use Rattle.usb_function.specs.declared.ports.Place.{Place as Kept}
-use Rattle.usb_device.specs.{Holder, Ports, before}
+use Rattle.usb_device.specs.{Holder, Ports}
 use Rattle.usb_device.specs.{held_addresses, repeats}
 use Rattle.usb_function.specs.{ports_kept}
 use Rattle.usb_device.specs.{reached, all_reached, paths_at, holder_among}

@@ -5,7 +5,6 @@ use Rattle.std.proofs.Common.{None, Some, ap, ◌∙◌}
 use Rattle.usb_port.specs.{PortCall}
 use Rattle.usb_device.specs.{Ports, Plugged}
 use Rattle.usb_device.specs.{called, put, changed}
-use Rattle.usb_device.specs.{reached}
 use Rattle.usb_function.specs.{IsIndexOf, IsIndexWithout}
 use Rattle.usb_device.specs.{all_reached, keeps_enable, Place}
 use Rattle.usb_function.specs.declared.holders.Holders.{Holders}

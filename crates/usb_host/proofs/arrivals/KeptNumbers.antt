@@ -1,5 +1,5 @@
 -- Numbers are given once: devices keep theirs, and no two that are listed have the same.
-use Rattle.usb_tree.proofs.Interface.{decided}
+use Rattle.usb_world.proofs.Interface.{decided, same_is}
 use Rattle.std.proofs.Common.{◌≡◌, ◌∙◌, ap, arith, refl, ℕ, ◌+◌, ◌<◌, List, [], ◌∷◌, length, map}
 use Rattle.std.proofs.Common.{get_or, set, ◌≢◌, ◌⊎◌, inl, inr, subst, sym, ◌≤◌, Ok, Bool, true}
 use Rattle.std.proofs.Common.{false, Option, Some, None, get_or-set_other, get_or-set_same}
@@ -12,8 +12,7 @@ use Rattle.usb_host.specs.{KeepsNumbers, Known, KnownDevice, OnlyBusSteps, devic
 use Rattle.usb_host.specs.{known_in, claims, with_number, NumbersFit}
 use Rattle.std.specs.BTreeMap.{insert_entry, is_at}
 use Rattle.std.specs.Map.{lookup}
-use Rattle.usb_port.specs.{path_cmp}
-use Rattle.usb_resources.specs.{Addresses, HasAddresses}
+use Rattle.usb_port.specs.{path_cmp, Addresses, HasAddresses}
 use Rattle.usb_enum.specs.{Accepted, Cause, Finding, TakesFor, HostOptions}
 use Rattle.usb_enum.specs.declared.finding.Finding.TheVariants.{Device, Refused}
 use Rattle.usb_table.specs.{Entries, accepted_device_at, accepted_device_of, address_in, without}
@@ -22,7 +21,6 @@ use Rattle.usb_host.specs.Accounts.{Accounts}
 use Rattle.usb_host.proofs.entries.Agreements.{lookup-insert_entry_elsewhere, lookup-without}
 use Rattle.usb_host.proofs.entries.Agreements.{claims_taken, lookup-insert_entry_here}
 use Rattle.usb_host.proofs.entries.Agreements.{claims_distinct}
-use Rattle.usb_world.proofs.Interface.{same_is}
 
 map_same : (xs : List ℕ) → map (λ k. k) xs ≡ xs
 map_same [] = refl

@@ -1,5 +1,5 @@
 -- Where the devices are that were reported, which news comes next, and how few they are.
-use Rattle.usb_tree.proofs.Interface.{decided}
+use Rattle.usb_world.proofs.Interface.{decided, same_is}
 use Rattle.std.proofs.Common.{◌≡◌, ◌≢◌, ◌∙◌, ap, arith, refl, subst, sym, ℕ, zero, suc, ◌+◌, ◌-◌}
 use Rattle.std.proofs.Common.{◌<◌, List, [], ◌∷◌, Bool, true, false, ◌||◌, Option, Some, None}
 use Rattle.std.proofs.Common.{length, cond, inl, inr, is_some, nat_eq, eqb, map, unwrap_or}
@@ -9,7 +9,7 @@ use Rattle.std.specs.List.{list_any, slice_get, AllByRecursion, insert, remove, 
 use Rattle.std.specs.Ordering.{match_ordering, is_eq}
 use Rattle.std.specs.declared.cmp.Ordering.{Ordering}
 use Rattle.std.specs.declared.cmp.Ordering.TheVariants.{Less, Equal, Greater}
-use Rattle.usb_port.specs.{path_cmp}
+use Rattle.usb_port.specs.{path_cmp, Addresses, HasAddresses}
 use Rattle.usb_table.proofs.Interface.{path_tied, path_itself}
 use Rattle.usb_host.specs.{HasArrived, IsFirstLeft, IsLeast, NoneLeft, ReportsArrived, ReportsLeft}
 use Rattle.usb_host.specs.{news_left, number_in, HostState, Known, ReportedDevices, known_in}
@@ -29,8 +29,6 @@ use Rattle.std.specs.Cmp.{eq_by_cmp_equiv}
 use Rattle.usb_host.proofs.entries.Agreements.{claims_distinct, claims_taken}
 use Rattle.usb_host.proofs.entries.Agreements.{lookup-insert_entry_elsewhere, lookup-removed}
 use Rattle.std.proofs.lemmas.Map.Steps.{length-le_from_distinct_below}
-use Rattle.usb_resources.specs.{Addresses, HasAddresses}
-use Rattle.usb_world.proofs.Interface.{same_is}
 use Rattle.usb_enum.specs.{Finding}
 use Rattle.usb_table.specs.{Entries, address_in, ComesAfter, IsLast, IsNext, Stands}
 use Rattle.usb_table.specs.{accepted_device_of, is_accepted}

@@ -8,16 +8,14 @@ use Rattle.arrayvec.specs.ArrayVec.{ArrayVec}
 use Rattle.usb_port.specs.{path_cmp, parent_of, port_on_hub, PortStatus, ClearEnable, clear_call}
 use Rattle.usb_request.specs.{PORT_ENABLE}
 use Rattle.usb_port.proofs.Interface.{rejoined}
-use Rattle.usb_tree.specs.{is_way, pending}
-use Rattle.usb_world.specs.{World}
-use Rattle.usb_world.proofs.Interface.{course_wider, way_apart, way_parent}
-use Rattle.usb_tree.proofs.Interface.{decided}
-use Rattle.usb_address.specs.{KeepsAddresses}
-use Rattle.usb_pipe.specs.{PipeFault, FaultAfter, IsNoBusFault}
-use Rattle.usb_pipe.specs.declared.fault.PipeFault.TheVariants as pipe
+use Rattle.usb_world.specs.{is_way, pending, World}
+use Rattle.usb_world.proofs.Interface.{course_wider, way_apart, way_parent, decided}
+use Rattle.usb_hub.specs.{KeepsAddresses}
+use Rattle.usb_transfer.specs.{PipeFault, FaultAfter, IsNoBusFault}
+use Rattle.usb_transfer.specs.declared.fault.PipeFault.TheVariants as pipe
 use Rattle.usb_hub.specs.{NoHubFailed, HubPort, Root, External, IsAt, KeepsDevices, CommandsPort}
 use Rattle.usb_hub.specs.{PortCleared, TouchesNoPort}
-use Rattle.usb_transaction.specs.{Target}
+use Rattle.usb_transfer.specs.{Target}
 use Rattle.usb_enum.specs.{Lost, EnumFault, ParentLost, Memory, Finding, HasServer, ServesAt}
 use Rattle.usb_enum.specs.{IsFair, IsKnownAs, FaultAllowedAt, HostOptions}
 use Rattle.usb_enum.specs.declared.finding.Finding.TheVariants.{Refused}

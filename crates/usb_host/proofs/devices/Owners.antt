@@ -3,12 +3,10 @@
 use Rattle.std.proofs.Common.{◌≡◌, refl, sym, ap, subst, arith, length-append, Bool, true, false, ℕ}
 use Rattle.std.proofs.Common.{List, Option, None, Some, Result, Ok, Err, is_err, if◌then◌else◌, ◌≤◌}
 use Rattle.std.proofs.Common.{IsSome, OnOk}
-use Rattle.usb_world.specs.{BusFault, World, roots_of}
-use Rattle.usb_tree.specs.{is_way}
+use Rattle.usb_world.specs.{BusFault, World, roots_of, is_way}
 use Rattle.usb_world.proofs.Interface.{way_apart, way_shorter, way_itself}
-use Rattle.usb_address.specs.{AddressMap, map_without, MapHolds, MapHoldsExcept, WhileBusWorks}
-use Rattle.usb_address.specs.{KeepsAddresses}
-use Rattle.usb_hub.specs.{HubPort, IsAt, Isolates, KeepsCleared, PortCleared}
+use Rattle.usb_hub.specs.{AddressMap, map_without, MapHolds, MapHoldsExcept, WhileBusWorks}
+use Rattle.usb_hub.specs.{KeepsAddresses, HubPort, IsAt, Isolates, KeepsCleared, PortCleared}
 use Rattle.usb_enum.specs.{Cause, EndsOwned, Lost, EnumFault, Memory, Finding}
 use Rattle.usb_enum.specs.declared.finding.Finding.TheVariants.{Refused, Device}
 use Rattle.std.specs.BTreeMap.{insert_entry}
@@ -24,7 +22,7 @@ use Rattle.usb_host.proofs.entries.Agreements.{claims_taken, claims-device}
 use Rattle.usb_host.proofs.entries.Roots.{rooted_kept, rooted_dropped, rooted_came, rooted_stands}
 use Rattle.usb_host.proofs.entries.Roots.{root_way}
 use Rattle.usb_request.specs.{PORT_ENABLE}
-use Rattle.usb_pipe.specs.{PipeFault}
+use Rattle.usb_transfer.specs.{PipeFault}
 use Rattle.arrayvec.specs.ArrayVec.{ArrayVec}
 use Rattle.usb_host.proofs.PortLocations.{stands_at-claim, nowhere_reached}
 use Rattle.usb_host.proofs.StepSums.{EnumerationAt}

@@ -6,13 +6,12 @@ use Rattle.arrayvec.specs.ArrayVec.{ArrayVec}
 use Rattle.usb_port.specs.{path_cmp}
 use Rattle.usb_device.specs.{State, reach, state_there}
 use Rattle.usb_world.specs.{Was, EachWas, AnyStep, Course, after, event, here, World, Consistent}
-use Rattle.usb_tree.specs.{is_way}
+use Rattle.usb_world.specs.{is_way}
 use Rattle.usb_world.proofs.Interface.{course_joined, each_wider, way_itself, at_or_below_way}
-use Rattle.usb_tree.proofs.Interface.{decided}
-use Rattle.usb_address.specs.{MapHolds}
-use Rattle.usb_pipe.specs.{PipeFault}
-use Rattle.usb_hub.specs.{ControlCourse, StaysAs, EachElsewhere, EachNamedElsewhere, KeepsDevices}
-use Rattle.usb_hub.specs.{TouchesNoPort}
+use Rattle.usb_world.proofs.Interface.{decided}
+use Rattle.usb_hub.specs.{MapHolds, ControlCourse, StaysAs, EachElsewhere, EachNamedElsewhere}
+use Rattle.usb_hub.specs.{KeepsDevices, TouchesNoPort}
+use Rattle.usb_transfer.specs.{PipeFault}
 use Rattle.usb_enum.specs.{Cause, Accepted, Finding, IsOwn, HostOptions, usual_options}
 use Rattle.usb_enum.specs.declared.finding.Finding.TheVariants.{Device, Refused}
 use Rattle.usb_enum.proofs.Interface.{went_course, ruled_there}

@@ -9,17 +9,15 @@ use Rattle.std.specs.BTreeMap.{insert_entry, is_at}
 use Rattle.std.specs.Ordering.{match_ordering}
 use Rattle.std.proofs.lemmas.List.Sums.{sum_by-cons}
 use Rattle.std.proofs.lemmas.Map.Steps.{le-length_from_below}
-use Rattle.usb_port.specs.{path_cmp, PortCall, ClearEnable, PortStatus}
-use Rattle.usb_resources.specs.{IsFull}
+use Rattle.usb_port.specs.{path_cmp, PortCall, ClearEnable, PortStatus, IsFull}
 use Rattle.usb_device.specs.{State, state_there}
 use Rattle.usb_world.specs.{Action, Plug, Unplug, Event, AtPorts, spec_of, PlanData, IsPlan}
 use Rattle.usb_world.specs.{PluggedMap, device_indexed, index_at, plugged_after, plugged_by}
 use Rattle.usb_world.specs.{plugged_without, AnyStep, Course, opening, World}
 use Rattle.usb_world.specs.declared.event.Action.TheVariants.{Change, Ask}
 use Rattle.usb_world.proofs.Interface.{course_joined, course_taken, course_wider, devices_left}
-use Rattle.usb_world.proofs.Interface.{way_itself}
-use Rattle.usb_tree.proofs.Interface.{decided}
-use Rattle.usb_address.proofs.Interface.{attached_there}
+use Rattle.usb_world.proofs.Interface.{way_itself, decided}
+use Rattle.usb_hub.proofs.Interface.{attached_there}
 use Rattle.usb_hub.specs.{PortCallDone, PortStatusAt}
 use Rattle.usb_enum.specs.{Lost, NoAddress, Accepted, Finding, IsOrderly}
 use Rattle.usb_enum.specs.declared.finding.Finding.TheVariants.{Device, Refused}

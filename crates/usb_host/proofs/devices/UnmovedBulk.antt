@@ -2,9 +2,8 @@
 use Rattle.std.proofs.Common.{arith, ◌≡◌, inl, inr, refl, subst, Bool, ℕ, Some, Result, Ok}
 use Rattle.usb_request.specs.{PORT_ENABLE}
 use Rattle.usb_port.specs.{ClearConnectionChange, ClearEnable, PortCall, PortStatus, clear_call}
-use Rattle.usb_tree.proofs.Interface.{decided}
-use Rattle.usb_address.specs.{AddressMap, MapHolds, WhileBusWorks}
-use Rattle.usb_hub.specs.{HubPort}
+use Rattle.usb_world.proofs.Interface.{decided}
+use Rattle.usb_hub.specs.{AddressMap, MapHolds, WhileBusWorks, HubPort}
 use Rattle.usb_enum.specs.{EnumFault}
 use Rattle.usb_host.specs.{ClearsAndAsks, ClearsFeature, ClearsInTurn, ClearsPort, ClearsWhere}
 use Rattle.usb_host.specs.{DisablesAfter, HostState, InOrder, LetsGoOn, MovesNoBulk, ShowsPort}

@@ -14,20 +14,19 @@ use Rattle.std.specs.declared.cmp.Ordering.TheVariants.{Less, Equal, Greater}
 use Rattle.std.proofs.lemmas.List.Elements.{All-from_recursion, recursion_from_All}
 use Rattle.std.proofs.lemmas.List.Kept.{IsStrictlySortedBy-filter}
 use Rattle.std.proofs.lemmas.Map.Views.{All-keys-insert_entry}
-use Rattle.usb_port.specs.{path_cmp, is_below, parent_of, port_on_hub, IsPath}
+use Rattle.usb_port.specs.{path_cmp, is_below, parent_of, port_on_hub, IsPath, Addresses, IsTaken}
+use Rattle.usb_port.specs.{IsFull, HasAddresses}
 use Rattle.usb_enum.specs.{Finding, Cause, Accepted, TakesFor}
 use Rattle.usb_table.specs.{Entries, Rises, is_at_or_below, without, has_at, known_port, port_below}
 use Rattle.usb_table.specs.{address_found, has_address, address_in, entry_address, Table, TakesOut}
 use Rattle.std.proofs.lemmas.Map.Entries.{lookup-filter-keys}
 use Rattle.usb_port.proofs.Interface.{is_below-extension, rejoined}
 use Rattle.usb_table.proofs.Interface.{path_tied, has_its, path_itself}
-use Rattle.usb_tree.proofs.Interface.{neither, self_path, decided}
+use Rattle.usb_world.proofs.Interface.{neither, self_path, decided, at_or_below_way, same_is}
+use Rattle.usb_world.proofs.Interface.{way_itself}
 use Rattle.usb_host.specs.{Nested, claims, Frees}
-use Rattle.usb_resources.specs.{Addresses, IsTaken, IsFull, HasAddresses}
-use Rattle.usb_world.specs.{after_taking, Injective}
-use Rattle.usb_tree.specs.{is_way, same_path}
-use Rattle.usb_world.proofs.Interface.{at_or_below_way, same_is, way_itself}
-use Rattle.usb_address.specs.{Free, map_without}
+use Rattle.usb_world.specs.{after_taking, Injective, is_way, same_path}
+use Rattle.usb_hub.specs.{Free, map_without}
 use Rattle.usb_enum.specs.declared.finding.Finding.TheVariants.{Device, Refused}
 use Rattle.usb_host.specs.Accounts.{Accounts}
 use Rattle.std.specs.FinSet.{empty, contains, contains-empty}

@@ -4,7 +4,7 @@ use Rattle.std.proofs.Common.{Some, ◌≤◌, ◌<◌, ◌*◌, ◌||◌, ◌�
 use Rattle.std.proofs.Common.{slice_index_or}
 use Rattle.std.specs.Map.{lookup, keys_of}
 use Rattle.std.specs.BTreeMap.{is_at, insert_entry}
-use Rattle.usb_port.specs.{path_cmp}
+use Rattle.usb_port.specs.{path_cmp, Addresses, HasAddresses, IsAddress}
 use Rattle.usb_enum.specs.{Finding, HostOptions}
 use Rattle.usb_table.specs.{Entries, KnownPort, has_at, is_at_or_below, known_port, without}
 use Rattle.usb_table.specs.{finding_at, has_address}
@@ -25,7 +25,6 @@ use Rattle.std.specs.Cmp.{eq_by_cmp_equiv}
 use Rattle.std.specs.Cmp.Lexicographic.{nat_list_cmp_total}
 use Rattle.std.specs.List.{All, AllByRecursion, IsDistinct, list_any}
 use Rattle.std.specs.FinSet.{contains}
-use Rattle.usb_resources.specs.{Addresses, HasAddresses, IsAddress}
 use Rattle.usb_enum.specs.declared.finding.Finding.TheVariants.{Device, Refused}
 use Rattle.usb_host.specs.Accounts.{Accounts}
 use Rattle.usb_host.proofs.entries.KindCounts.{of_kind, of_kind-cons}

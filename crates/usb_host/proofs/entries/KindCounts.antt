@@ -1,5 +1,5 @@
 -- How many entries are of a kind, hubs and devices that wait, as entries go and come.
-use Rattle.usb_tree.proofs.Interface.{decided}
+use Rattle.usb_world.proofs.Interface.{decided, at_or_below_way}
 use Rattle.std.proofs.Common.{◌≡◌, refl, ap, arith, true, false, Bool, ℕ, ◌+◌, ◌≤◌, cond, List, []}
 use Rattle.std.proofs.Common.{◌∷◌, not, Some, Option, IsSome, inl, inr}
 use Rattle.std.specs.Map.{lookup}
@@ -10,12 +10,11 @@ use Rattle.std.specs.declared.cmp.Ordering.{Ordering}
 use Rattle.std.specs.declared.cmp.Ordering.TheVariants.{Less, Equal, Greater}
 use Rattle.std.proofs.lemmas.List.Sums.{sum_by-cons}
 use Rattle.usb_port.specs.{path_cmp}
-use Rattle.usb_tree.specs.{is_way}
+use Rattle.usb_world.specs.{is_way}
 use Rattle.usb_enum.specs.{Finding, Lost}
 use Rattle.usb_table.specs.{Entries, is_at_or_below, without, is_hub, finding_at, hub_facts_at}
 use Rattle.usb_table.specs.{hub_facts_in, is_waiting}
 use Rattle.usb_host.proofs.entries.Agreements.{one_when-most, one_when}
-use Rattle.usb_world.proofs.Interface.{at_or_below_way}
 use Rattle.usb_table.proofs.Interface.{path_tied}
 use Rattle.usb_enum.specs.declared.finding.Finding.TheVariants.{Refused}
 use Rattle.usb_host.specs.{FindsNone, hubs, HostState, EntersOne, HostSteps, OnlyBusSteps, waiting}

@@ -4,10 +4,8 @@ use Rattle.std.proofs.Common.{Some, Result, arith, IsSome, OnOk}
 use Rattle.std.specs.BTreeMap.{insert_entry}
 use Rattle.usb_port.specs.{path_cmp, parent_of, port_on_hub}
 use Rattle.usb_port.proofs.Interface.{rejoined}
-use Rattle.usb_tree.specs.{is_way}
-use Rattle.usb_world.specs.{World, roots_of}
-use Rattle.usb_world.proofs.Interface.{way_rest}
-use Rattle.usb_tree.proofs.Interface.{false_true}
+use Rattle.usb_world.specs.{is_way, World, roots_of}
+use Rattle.usb_world.proofs.Interface.{way_rest, false_true}
 use Rattle.usb_enum.specs.{Finding, HostOptions}
 use Rattle.usb_table.specs.{KnownPort, Entries, without, port_below, finding_at}
 use Rattle.usb_host.specs.{Agrees, Nested, HostState, opening_host, IsRooted, root_of, StandsAt}

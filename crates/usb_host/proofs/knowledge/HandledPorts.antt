@@ -6,12 +6,10 @@ use Rattle.std.proofs.Common.{Bool, true, false, List, [], ◌∷◌, length, Op
 use Rattle.std.proofs.Common.{IsSome, IsSomeAnd, ◌≤◌, ◌⊎◌, Result, Ok, IfErr, ◌+◌, ◌*◌}
 use Rattle.usb_port.specs.{parent_of, port_on_hub, PortStatus, path_cmp, ClearEnable, clear_call}
 use Rattle.usb_port.proofs.Interface.{rejoined}
-use Rattle.usb_world.specs.{Was, World, roots_of, WorldInvariant}
-use Rattle.usb_tree.specs.{is_way, pending}
-use Rattle.usb_world.proofs.Interface.{way_apart, way_parent, way_shorter}
-use Rattle.usb_address.specs.{KeepsAddresses}
-use Rattle.usb_hub.specs.{StaysAs, EachElsewhere, KeepsDevices, TouchesNoPort, CommandsPort, IsCall}
-use Rattle.usb_hub.specs.{PortCleared}
+use Rattle.usb_world.specs.{Was, World, roots_of, WorldInvariant, is_way, pending}
+use Rattle.usb_world.proofs.Interface.{way_apart, way_parent, way_shorter, decided}
+use Rattle.usb_hub.specs.{KeepsAddresses, StaysAs, EachElsewhere, KeepsDevices, TouchesNoPort}
+use Rattle.usb_hub.specs.{CommandsPort, IsCall, PortCleared}
 use Rattle.usb_hub.proofs.Interface.{is_port-spends}
 use Rattle.usb_enum.specs.{EnumFault, ParentLost, Finding, IsKnownAs, IsOccupied, FaultAllowedAt}
 use Rattle.usb_enum.specs.{IsOrderly, Accepted, HubFacts, Begins, IsOwn, OnlyAt, IsPlaced}
@@ -44,7 +42,6 @@ use Rattle.usb_host.proofs.knowledge.Places.{known_each, known_but_each, truthfu
 use Rattle.usb_host.proofs.knowledge.Places.{truthful_but_stays, known_stays, known_dropped}
 use Rattle.usb_host.proofs.knowledge.Places.{known_vacant, truthful_dropped, finding-none}
 use Rattle.usb_host.proofs.knowledge.Places.{known_found, truthful_found}
-use Rattle.usb_tree.proofs.Interface.{decided}
 use Rattle.usb_host.proofs.rests.ClearedPorts.{known_way}
 use Rattle.std.specs.BTreeMap.{insert_entry}
 use Rattle.arrayvec.specs.ArrayVec.{ArrayVec}
@@ -54,9 +51,9 @@ use Rattle.usb_host.proofs.devices.Fairness.{fair_before, fair_after}
 use Rattle.usb_host.proofs.devices.Plugs.{plugs_then}
 use Rattle.usb_request.specs.{PORT_ENABLE}
 use Rattle.usb_bus.specs.{StepRun}
-use Rattle.usb_pipe.specs.{PipeFault, FaultAfter, IsNoBusFault}
-use Rattle.usb_pipe.specs.declared.fault.PipeFault.TheVariants as pipe
-use Rattle.usb_backlog.specs.{KeepsAll}
+use Rattle.usb_transfer.specs.{PipeFault, FaultAfter, IsNoBusFault}
+use Rattle.usb_transfer.specs.declared.fault.PipeFault.TheVariants as pipe
+use Rattle.usb_hub.specs.{KeepsAll}
 use Rattle.usb_host.proofs.payments.Backlogs.{call_all}
 
 -- What a host knows as the world alone goes on, as a port is tidied, and as its change is cleared

@@ -4,15 +4,13 @@ use Rattle.std.proofs.Common.{None, Some, option_map, refl, ap, sym, subst, ◌�
 use Rattle.std.proofs.Common.{◌++◌, length, take, Bool, if◌then◌else◌, arith, append-nil}
 use Rattle.std.proofs.Common.{length-append, IsSomeAnd}
 use Rattle.std.specs.Prelude.{⊤, unwrap_or}
-use Rattle.usb_resources.specs.{Addresses}
+use Rattle.usb_port.specs.{Addresses, path_cmp, parent_of, port_on_hub}
 use Rattle.usb_device.specs.{State, Location, path_to, reach_on, state_on, state_there}
 use Rattle.usb_world.specs.{KeepsPendingAt, Was, spec_of, LeavesPortAlone, SameDeviceOrPending}
-use Rattle.usb_world.specs.{Course, World, roots_of}
-use Rattle.usb_tree.specs.{has_power, pending, is_way, same_number}
+use Rattle.usb_world.specs.{Course, World, roots_of, has_power, pending, is_way, same_number}
 use Rattle.usb_world.proofs.Interface.{course_wider, pending_persists, rests_or_pends}
 use Rattle.usb_world.proofs.Interface.{stands_or_pends, at_or_below_way, way_itself, way_parent}
-use Rattle.usb_world.proofs.Interface.{way_rest, way_trans}
-use Rattle.usb_tree.proofs.Interface.{false_true, and_of, both, decided}
+use Rattle.usb_world.proofs.Interface.{way_rest, way_trans, false_true, and_of, both, decided}
 use Rattle.usb_enum.specs.{Cause, Accepted, Finding, IsRight, IsKnownAs, HostOptions}
 use Rattle.usb_enum.specs.declared.finding.Finding.TheVariants.{Refused}
 use Rattle.usb_table.specs.{Entries, finding_at, IsListedPort, tier_of, SameDevice, KnownPort}
@@ -23,7 +21,6 @@ use Rattle.usb_host.specs.{CausesBut, EachStill, EachStillBut, Accounted}
 use Rattle.usb_host.proofs.knowledge.SettledListings.{listed_port}
 use Rattle.std.proofs.lemmas.Bool.{lt-ltb}
 use Rattle.std.specs.BTreeMap.{is_at, insert_entry}
-use Rattle.usb_port.specs.{path_cmp, parent_of, port_on_hub}
 use Rattle.usb_port.proofs.Interface.{rejoined}
 use Rattle.usb_table.proofs.Interface.{path_tied}
 use Rattle.usb_host.proofs.entries.Agreements.{lookup-without, lookup-insert_entry_elsewhere}

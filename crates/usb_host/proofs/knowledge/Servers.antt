@@ -2,21 +2,18 @@
 use Rattle.std.proofs.Common.{◌≡◌, refl, arith, Bool, true, false, ℕ, ◌≤◌, List, [], ◌∷◌, ◌++◌}
 use Rattle.std.proofs.Common.{length, Some, ◌⊎◌, inl, inr, suc, Option, None, ap, sym, subst, ◌∙◌}
 use Rattle.std.proofs.Common.{length-append}
-use Rattle.usb_world.specs.{World, IsRootPort, WorldInvariant}
-use Rattle.usb_port.specs.{parent_of, port_on_hub, IsPortNumber}
+use Rattle.usb_world.specs.{World, IsRootPort, WorldInvariant, is_way, pending}
+use Rattle.usb_port.specs.{parent_of, port_on_hub, IsPortNumber, supply_of, IsAddress}
 use Rattle.usb_port.proofs.Interface.{parent, rejoined}
 use Rattle.usb_hub.specs.{Root, External}
 use Rattle.usb_table.specs.{KnownPort, Entries, known_port, is_below_hub, accepted_device_of}
 use Rattle.usb_table.specs.{address_in, port_below, finding_at}
 use Rattle.usb_table.proofs.Interface.{port_found-some, FoundPort}
-use Rattle.usb_resources.specs.{supply_of, IsAddress}
 use Rattle.usb_host.specs.{Agrees, HostState, IsDue, IsPortAt, StandsAt, IsAccurateAt, known_supply}
 use Rattle.usb_host.specs.{IsSoundBut}
 use Rattle.usb_descriptor.specs.{configuration_value}
 use Rattle.usb_device.specs.{Spec, Hub, reach}
-use Rattle.usb_tree.specs.{is_way, pending}
-use Rattle.usb_world.proofs.Interface.{sane_spec, way_shorter}
-use Rattle.usb_tree.proofs.Interface.{false_true}
+use Rattle.usb_world.proofs.Interface.{sane_spec, way_shorter, false_true}
 use Rattle.usb_enum.specs.{Accepted, HubFacts, facts_of, target_of, configuration_of, HasServer}
 use Rattle.usb_enum.specs.{ServesAt, IsKnownAs, HostOptions}
 use Rattle.usb_enum.specs.declared.finding.Finding.TheVariants.{Device}

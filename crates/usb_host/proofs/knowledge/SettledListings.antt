@@ -3,14 +3,11 @@ use Rattle.std.proofs.Common.{◌≡◌, ◌⊎◌, inl, inr, ◌≤◌, ◌-◌
 use Rattle.std.proofs.Common.{[], ◌∷◌, Option, None, Some, option_map, refl, ap, subst, ◌∙◌, arith}
 use Rattle.std.proofs.Common.{IsSome, IsSomeAnd}
 use Rattle.std.specs.Prelude.{⊤, unwrap_or}
-use Rattle.usb_port.specs.{port_on_hub, IsPath, IsPortNumber}
-use Rattle.usb_resources.specs.{Addresses, IsAddress, supply_of}
+use Rattle.usb_port.specs.{port_on_hub, IsPath, IsPortNumber, Addresses, IsAddress, supply_of}
 use Rattle.usb_device.specs.{State, Spec, Ports, vacant, taken, reach, reach_at, state_at}
 use Rattle.usb_device.specs.{state_there}
-use Rattle.usb_tree.specs.{pending}
-use Rattle.usb_world.specs.{spec_of, hub_ports, World, roots_of}
-use Rattle.usb_world.proofs.Interface.{same_is}
-use Rattle.usb_tree.proofs.Interface.{both, false_true}
+use Rattle.usb_world.specs.{pending, spec_of, hub_ports, World, roots_of}
+use Rattle.usb_world.proofs.Interface.{same_is, both, false_true}
 use Rattle.usb_enum.specs.{Cause, Accepted, Finding, HubFacts, facts_of, IsRight, IsThere}
 use Rattle.usb_enum.specs.{IsKnownAs, HostOptions}
 use Rattle.usb_enum.specs.declared.finding.Finding.TheVariants.{Device, Refused}

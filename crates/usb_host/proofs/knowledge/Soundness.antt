@@ -4,13 +4,12 @@ use Rattle.std.proofs.Common.{Option, None, Result, Ok, Err, IsSome, inl, inr}
 use Rattle.std.specs.BTreeMap.{is_at}
 use Rattle.usb_port.specs.{path_cmp}
 use Rattle.usb_world.specs.{BusFault, event_taken, event, after, step, here as no_more, AnyStep}
-use Rattle.usb_world.specs.{World, roots_of}
-use Rattle.usb_tree.specs.{pending, is_way}
+use Rattle.usb_world.specs.{World, roots_of, pending, is_way}
 use Rattle.usb_device.specs.{Location, State}
 use Rattle.usb_world.proofs.Interface.{course_wider, each_wider, first_fault, way_itself}
-use Rattle.usb_tree.proofs.Interface.{false_true, decided}
-use Rattle.usb_transaction.specs.{NoThreeDamaged}
-use Rattle.usb_address.specs.{KeepsAddresses, MapHolds, WhileBusWorks}
+use Rattle.usb_world.proofs.Interface.{false_true, decided}
+use Rattle.usb_transfer.specs.{NoThreeDamaged}
+use Rattle.usb_hub.specs.{KeepsAddresses, MapHolds, WhileBusWorks}
 use Rattle.usb_enum.specs.{Finding, IsOccupied, IsInOrder}
 use Rattle.usb_enum.proofs.Interface.{orderly_on, step_later, went_in_order}
 use Rattle.usb_table.specs.{finding_at, AllInSync, IsHeld, KeepsInSync, KeepsLevels, OnlySets}
@@ -33,7 +32,7 @@ use Rattle.usb_host.proofs.knowledge.Places.{known_each, truthful_stays, causes_
 use Rattle.usb_host.proofs.knowledge.HandledPorts.{occupied_by}
 use Rattle.usb_world.specs.declared.event.Ask.{Ask}
 use Rattle.usb_bus.specs.{TakesEvent}
-use Rattle.usb_address.proofs.Interface.{event_keeps}
+use Rattle.usb_hub.proofs.Interface.{event_keeps}
 
 -- One part after another
 

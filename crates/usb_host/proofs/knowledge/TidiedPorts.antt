@@ -7,18 +7,15 @@ use Rattle.usb_device.specs.{State, Ports, vacant, taken, port_of, called, place
 use Rattle.usb_device.specs.{state_at, port_at, port_there, state_there, Place}
 use Rattle.usb_world.specs.{Attempt, step_keeps_pending, row_reached, LeavesPortAlone, Step}
 use Rattle.usb_world.specs.{attempt, root_call, after, with_attempt, at_attempt, Course, here, step}
-use Rattle.usb_world.specs.{World}
-use Rattle.usb_tree.specs.{has_power, pending, is_way, keeps_pending}
+use Rattle.usb_world.specs.{World, has_power, pending, is_way, keeps_pending}
 use Rattle.usb_world.proofs.Interface.{MadeOrNot, attempt_cases, course_wider, made_live, made_pend}
 use Rattle.usb_world.proofs.Interface.{made_sound, pending_persists, root_live, root_pend, stands}
-use Rattle.usb_world.proofs.Interface.{stands_or_pends, way_rest}
-use Rattle.usb_tree.proofs.Interface.{both, false_true}
+use Rattle.usb_world.proofs.Interface.{stands_or_pends, way_rest, both, false_true}
 use Rattle.usb_hub.specs.{PortCallDone, ActsAt}
 use Rattle.usb_hub.proofs.Interface.{due_course, enabled_reach, port_of_place, row_reached-back}
-use Rattle.usb_hub.proofs.Interface.{state_of_place}
+use Rattle.usb_hub.proofs.Interface.{state_of_place, place_ports, live_below, not_way, pend-below}
+use Rattle.usb_hub.proofs.Interface.{port_there-below, reach_below, state_below}
 use Rattle.usb_enum.specs.{Finding, IsKnownAs}
-use Rattle.usb_address.proofs.Interface.{place_ports, live_below, not_way, pend-below}
-use Rattle.usb_address.proofs.Interface.{port_there-below, reach_below, state_below}
 use Rattle.usb_host.specs.{HoldsAt}
 use Rattle.usb_host.proofs.parts.Events.{event_calm}
 use Rattle.usb_host.proofs.knowledge.Places.{known_stays}

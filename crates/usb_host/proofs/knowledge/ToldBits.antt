@@ -9,8 +9,7 @@ use Rattle.usb_port.specs.{parent_of, port_on_hub, IsPath, IsPortNumber, PortSta
 use Rattle.usb_port.proofs.Interface.{parent, rejoined}
 use Rattle.usb_device.specs.{hub_ports, State, Spec, Ports, full, place, reach, row_of, port_there}
 use Rattle.usb_device.specs.{state_there}
-use Rattle.usb_tree.specs.{is_way}
-use Rattle.usb_world.specs.{row_reached, Consistent, at_attempt}
+use Rattle.usb_world.specs.{is_way, row_reached, Consistent, at_attempt}
 use Rattle.usb_world.proofs.Interface.{course_taken, ports_counted, ready_taken, stands, way_parent}
 use Rattle.usb_world.proofs.Interface.{reach_on_way}
 use Rattle.usb_hub.proofs.Interface.{port_of_place, sane_there, state_of_place}

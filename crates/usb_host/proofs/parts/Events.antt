@@ -1,6 +1,6 @@
 -- What is known of ports and devices stays so as an event comes.
 use Rattle.std.proofs.Common.{arith, ◌≡◌, List, [], ℕ, refl, ◌∙◌, sym}
-use Rattle.usb_resources.specs.{Addresses}
+use Rattle.usb_port.specs.{Addresses}
 use Rattle.usb_device.specs.{path_to}
 use Rattle.usb_world.specs.{resets, step_keeps_pending, EachWas, leaves_step, LeavesPortAlone}
 use Rattle.usb_world.specs.{event, after, Course, here, step, World, roots_of}

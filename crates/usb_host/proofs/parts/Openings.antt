@@ -6,12 +6,11 @@ use Rattle.std.proofs.Common.{◌≡◌, ◌⊎◌, ◌∙◌, ◌<◌, inl, inr
 use Rattle.std.proofs.Common.{List, Option, None, ◌∷◌, Bool, true, [], false, length, ◌-◌, ◌≤◌}
 use Rattle.std.specs.FinSet as set
 use Rattle.usb_port.specs.{parent_of, port_on_hub, PortState, powered_off, powered_on, speed_of}
-use Rattle.usb_port.specs.{ClearPower, SetPower}
+use Rattle.usb_port.specs.{ClearPower, SetPower, Addresses}
 use Rattle.usb_device.specs.{forgotten, Ports, ended, vacant, taken, row_of, reach, reach_at}
 use Rattle.usb_device.specs.{state_at, all_forgotten, called, changed_at}
-use Rattle.usb_tree.specs.{has_power_at, IsSettled, pending_at}
-use Rattle.usb_world.specs.{Consistent, World, roots_of, ClearsRoot, SetsRoot, after, root_call}
-use Rattle.usb_resources.specs.{Addresses}
+use Rattle.usb_world.specs.{has_power_at, IsSettled, pending_at, Consistent, World, roots_of}
+use Rattle.usb_world.specs.{ClearsRoot, SetsRoot, after, root_call}
 use Rattle.usb_table.specs.{Table, empty}
 use Rattle.usb_host.specs.{DeviceNumbers, ReportedDevices, first_numbers, BusCounts, HostState}
 use Rattle.usb_host.specs.{no_counts, opening_host, repowered, HostMapHolds, HostInvariant}

@@ -6,14 +6,12 @@ use Rattle.usb_port.specs.{ClearResetChange, is_reset}
 use Rattle.usb_device.specs.{State, Ports, full, port_of, place, port_there, Place}
 use Rattle.usb_world.specs.{AtPorts, Consistent, ConsistentPlace, after, World}
 use Rattle.usb_world.proofs.Interface.{course_then, stands}
-use Rattle.usb_address.proofs.Interface.{attached_there}
-use Rattle.usb_backlog.specs.{KeepsAll, KeepsBy, KeepsCall, KeepsFound, only, unmarked, gives_power}
-use Rattle.usb_backlog.specs.{KeepsPlain, PaysBare, PaysLook, PaysStray}
-use Rattle.usb_backlog.proofs.Interface.{ClearedAt, all_then, bare_pays, cleared_at, few-changed}
-use Rattle.usb_backlog.proofs.Interface.{few-none, few-only, found_all, found_pays, found_then}
-use Rattle.usb_backlog.proofs.Interface.{tidied_pays}
-use Rattle.usb_hub.specs.{PortCallDone, PortStatusAt}
-use Rattle.usb_hub.proofs.Interface.{port_of_place, sane_there, state_of_place}
+use Rattle.usb_hub.proofs.Interface.{attached_there, ClearedAt, all_then, bare_pays, cleared_at}
+use Rattle.usb_hub.proofs.Interface.{few-changed, few-none, few-only, found_all, found_pays}
+use Rattle.usb_hub.proofs.Interface.{found_then, tidied_pays, port_of_place, sane_there}
+use Rattle.usb_hub.proofs.Interface.{state_of_place}
+use Rattle.usb_hub.specs.{KeepsAll, KeepsBy, KeepsCall, KeepsFound, only, unmarked, gives_power}
+use Rattle.usb_hub.specs.{KeepsPlain, PaysBare, PaysLook, PaysStray, PortCallDone, PortStatusAt}
 use Rattle.usb_enum.specs.{IsOrderly}
 use Rattle.usb_enum.proofs.Interface.{orderly_on}
 use Rattle.usb_host.specs.{ResetCleared, ChangeCleared}

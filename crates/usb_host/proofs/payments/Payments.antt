@@ -5,7 +5,7 @@ use Rattle.std.proofs.lemmas.List.Elements.{All-drop}
 use Rattle.usb_world.specs.{BusFault, PlanData, AtPorts, FollowsPlan, PlugsAtPort, AnyStep, Course}
 use Rattle.usb_world.specs.{opening, World}
 use Rattle.usb_world.proofs.Interface.{course_joined, events_went}
-use Rattle.usb_backlog.specs.{looks_by, strays_by, unmarked}
+use Rattle.usb_hub.specs.{looks_by, strays_by, unmarked}
 use Rattle.usb_enum.specs.{HasPlanWithin}
 use Rattle.usb_enum.proofs.Interface.{traced_faulted, went_course}
 use Rattle.usb_host.specs.{Part, hubs, Costs, Pays, PaysPart, StopsWithin, Weights, WorksOn}

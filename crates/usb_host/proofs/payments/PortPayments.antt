@@ -4,12 +4,11 @@ use Rattle.std.proofs.Common.{◌⊎◌, refl, arith, ◌+◌, ◌*◌, false, O
 use Rattle.std.proofs.Common.{Option, Some, IsSome, IsSomeAnd, IfOk}
 use Rattle.usb_port.specs.{PortStatus, parent_of, port_on_hub, IsPath}
 use Rattle.usb_world.specs.{AtPorts, World, PlanData}
-use Rattle.usb_backlog.specs.{KeepsFound, PaysLook, KeepsAll, KeepsBy, unmarked, KeepsPlain}
-use Rattle.usb_backlog.specs.{PaysBare, OwesAnew}
-use Rattle.usb_hub.specs.{PortStatusAt}
+use Rattle.usb_hub.specs.{KeepsFound, PaysLook, KeepsAll, KeepsBy, unmarked, KeepsPlain, PaysBare}
+use Rattle.usb_hub.specs.{OwesAnew, PortStatusAt}
 use Rattle.usb_enum.specs.{EnumFault, ParentLost, IsOrderly, HasPlanWithin, read_bound}
 use Rattle.usb_enum.proofs.Interface.{went_course}
-use Rattle.usb_world.proofs.Interface.{course_joined, way_shorter}
+use Rattle.usb_world.proofs.Interface.{course_joined, way_shorter, decided}
 use Rattle.usb_table.specs.{KnownPort, Entries, without, known_port, port_below, hub_facts_at}
 use Rattle.usb_host.specs.{ChangeCleared, ClearsConnection, FindsNone, LookPaid, LookPays, unseen}
 use Rattle.usb_host.specs.{clearing_bound, HostState, claims, ClearsChange, StandsAt, HostSteps}
@@ -23,14 +22,13 @@ use Rattle.usb_host.proofs.StepSums.{went_before}
 use Rattle.usb_host.proofs.payments.Backlogs.{told_pays_bare, told_keeps, told_looks, plain_of}
 use Rattle.usb_host.proofs.payments.Backlogs.{told_resets, told_steady}
 use Rattle.usb_host.proofs.PortLocations.{stands_at-claim, parent_length}
-use Rattle.usb_tree.proofs.Interface.{decided}
 use Rattle.usb_bus.proofs.Interface.{went_then, went_wider}
-use Rattle.usb_pipe.specs.{write_bound}
+use Rattle.usb_transfer.specs.{write_bound}
 use Rattle.usb_host.proofs.devices.Owners.{owned_rests}
 use Rattle.usb_host.proofs.entries.KindCounts.{hubs-rest, none_rests}
 use Rattle.usb_host.proofs.knowledge.HandledPorts.{rests_stands}
 use Rattle.std.proofs.Math.Nat.{mul-le-mul_left}
-use Rattle.usb_backlog.proofs.Interface.{few-none, devices_in-plan}
+use Rattle.usb_hub.proofs.Interface.{few-none, devices_in-plan}
 use Rattle.usb_host.proofs.RoundLoops.{part-fails, part-none, part-wider}
 use Rattle.usb_host.proofs.payments.Payments.{few_stop, looks_pay, plain_costs, plain_pays}
 use Rattle.usb_host.proofs.payments.Payments.{works_on-plan, ports_after, works_on-ports, sums_anew}

@@ -11,29 +11,26 @@ use Rattle.usb_device.specs.{full, called, place, state_there, Place, ended}
 use Rattle.usb_world.specs.{Action, leaves_step, LeavesPort, after, after_change, after_event}
 use Rattle.usb_world.specs.{at_attempt, Course, World, Attempt, step_keeps_pending, AsksNothing}
 use Rattle.usb_world.specs.{UnchangedOrPending, Consistent, Step, attempt, with_attempt, here, step}
-use Rattle.usb_world.specs.{LeavesPortAlone}
+use Rattle.usb_world.specs.{LeavesPortAlone, has_power, pending, is_way, pending_at}
 use Rattle.usb_world.proofs.Interface.{Keeps, OverSteps, course_joined, course_wider, happened_by}
 use Rattle.usb_world.proofs.Interface.{made_port, over_course, root_port, MadeOrNot, attempt_cases}
 use Rattle.usb_world.proofs.Interface.{kept_course, made_pend, made_sound, pending_persists}
 use Rattle.usb_world.proofs.Interface.{rests_or_pends, step_pend, OverEvents, over_ready}
-use Rattle.usb_tree.proofs.Interface.{false_true, and_none}
+use Rattle.usb_world.proofs.Interface.{false_true, and_none}
 use Rattle.usb_hub.specs.{PortCallDone, PortStatusAt, ActsAt, ports_at_step, TouchesNoPort, HubPort}
-use Rattle.usb_hub.specs.{Isolates}
+use Rattle.usb_hub.specs.{Isolates, KeepsAddresses}
 use Rattle.usb_hub.proofs.Interface.{port_of_place, StandsTold, done_stands, due_course}
-use Rattle.usb_hub.proofs.Interface.{told_stands}
+use Rattle.usb_hub.proofs.Interface.{told_stands, IsUp, attached_there, live_of_up, live_port}
+use Rattle.usb_hub.proofs.Interface.{not_way, pend_down, pend_or_live, up_of_live, keeps_then}
+use Rattle.usb_hub.proofs.Interface.{pend-below as pend_under, port_there-below}
 use Rattle.usb_host.proofs.payments.Backlogs.{told_steady}
-use Rattle.usb_tree.specs.{has_power, pending, is_way, pending_at}
 use Rattle.usb_enum.specs.{Finding, IsKnownAs, EnumFault, Accepted, CanFail}
 use Rattle.usb_enum.proofs.Interface.{pends_there, some_of, devices_then}
-use Rattle.usb_address.proofs.Interface.{IsUp, attached_there, live_of_up, live_port, not_way}
-use Rattle.usb_address.proofs.Interface.{pend_down, pend_or_live, up_of_live, keeps_then}
-use Rattle.usb_address.proofs.Interface.{pend-below as pend_under, port_there-below}
 use Rattle.usb_host.specs.{HasWay, Decides, HasOnlyWorldChanges, KeepsEach, was_disabled, HostState}
 use Rattle.usb_host.specs.{claims, IsOwned, Watches, ProgressOrLost, StandsAt, HostRuns}
 use Rattle.usb_host.specs.{OnlyBusSteps, HostInvariant}
 use Rattle.usb_host.proofs.knowledge.Places.{none_same}
 use Rattle.usb_bus.specs.{StepRun}
-use Rattle.usb_address.specs.{KeepsAddresses}
 use Rattle.usb_table.specs.{KnownPort}
 use Rattle.usb_host.proofs.PortLocations.{stands_at-claim}
 

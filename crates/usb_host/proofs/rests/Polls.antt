@@ -14,19 +14,16 @@ use Rattle.usb_device.specs.declared.transfer.InEndpoint.TheVariants as by
 use Rattle.usb_world.specs.{Outcome, Was, DidIn, IsMade, leaves_step, attempt, after, at_attempt}
 use Rattle.usb_world.specs.{outcome_in, World, roots_of}
 use Rattle.usb_world.specs.declared.types.Outcome.TheVariants as outcome
-use Rattle.usb_tree.specs.{IsSettled, pending}
+use Rattle.usb_world.specs.{IsSettled, pending}
 use Rattle.usb_world.proofs.Interface.{data_asks_nothing, each_in, got_nak, made_is, made_of}
-use Rattle.usb_world.proofs.Interface.{made_port, sane_spec}
-use Rattle.usb_tree.proofs.Interface.{false_true}
-use Rattle.usb_transaction.specs.{Target, is_at, AttemptLog, next, in_attempt, is_at as has_address}
-use Rattle.usb_transaction.specs.{Waiting}
-use Rattle.usb_transaction.proofs.Interface.{trail_settled}
-use Rattle.usb_hub.proofs.Interface.{row_port}
-use Rattle.usb_address.proofs.Interface.{in_kept}
+use Rattle.usb_world.proofs.Interface.{made_port, sane_spec, false_true}
+use Rattle.usb_transfer.specs.{Target, is_at, AttemptLog, next, in_attempt, is_at as has_address}
+use Rattle.usb_transfer.specs.{Waiting, Interrupt}
+use Rattle.usb_transfer.proofs.Interface.{trail_settled}
+use Rattle.usb_hub.proofs.Interface.{row_port, in_kept}
 use Rattle.usb_device.proofs.Interface.{law_is}
 use Rattle.usb_host.proofs.knowledge.ChangeWords.{none_counts, weight_of}
-use Rattle.usb_resources.specs.{Addresses}
-use Rattle.usb_pipe.specs.{Interrupt}
+use Rattle.usb_port.specs.{Addresses}
 use Rattle.usb_enum.specs.{Accepted, Finding, HubFacts, facts_of, HostOptions}
 use Rattle.usb_enum.specs.declared.finding.Finding.TheVariants.{Device}
 use Rattle.usb_table.specs.{Pipes, Hub as HubPipe, Entries, accepted_device_of, accepted_device_at}

@@ -3,17 +3,15 @@ use Rattle.std.proofs.Common.{◌≡◌, refl, arith, suc, zero, false, ℕ, ◌
 use Rattle.std.proofs.Common.{◌∷◌, length, slice_index_or, ◌⊎◌, ◌∙◌, inl, inr, sym, ap, subst}
 use Rattle.std.proofs.Common.{length-append, Bool, true, ◌++◌, Option, None, Some, Result, Ok}
 use Rattle.std.proofs.Common.{slice_get, if◌then◌else◌, IfSome, IfNone, IsSome, IsSomeAnd, is_err}
-use Rattle.usb_port.specs.{PortState, off, path_cmp, parent_of, port_on_hub}
-use Rattle.usb_world.specs.{World, root_row, roots_of, root_port_at, change_of, changes}
+use Rattle.usb_port.specs.{PortState, off, path_cmp, parent_of, port_on_hub, Addresses, IsFull}
+use Rattle.usb_world.specs.{World, root_row, roots_of, root_port_at, change_of, changes, pending}
 use Rattle.std.specs.Ordering.{is_eq}
 use Rattle.std.specs.declared.cmp.Ordering.{Ordering}
 use Rattle.std.specs.declared.cmp.Ordering.TheVariants.{Less, Equal, Greater}
 use Rattle.usb_port.proofs.Interface.{rejoined}
-use Rattle.usb_resources.specs.{Addresses, IsFull}
 use Rattle.usb_device.specs.{port_there}
-use Rattle.usb_tree.specs.{pending}
-use Rattle.usb_world.proofs.Interface.{course_joined, course_wider, pending_persists}
-use Rattle.usb_tree.proofs.Interface.{false_true, decided}
+use Rattle.usb_world.proofs.Interface.{course_joined, course_wider, pending_persists, false_true}
+use Rattle.usb_world.proofs.Interface.{decided}
 use Rattle.usb_hub.specs.{TouchesNoPort}
 use Rattle.usb_hub.proofs.Interface.{row_port}
 use Rattle.usb_enum.specs.{Finding, HubFacts, HostOptions}

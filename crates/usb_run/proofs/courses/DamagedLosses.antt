@@ -1,13 +1,11 @@
 -- There is a damage for each address that a run has lost.
 use Rattle.std.proofs.Common.{◌≡◌, refl, sym, ap, subst, List, Option, None, Some, Result, Ok, Err}
 use Rattle.std.proofs.Common.{◌∙◌, inl, inr, ℕ, is_some}
-use Rattle.usb_tree.specs.{IsSettled}
-use Rattle.usb_world.specs.{Attempt, BusFault, Damage, Limit, Memory, Failed, Outcome}
+use Rattle.usb_world.specs.{IsSettled, Attempt, BusFault, Damage, Limit, Memory, Failed, Outcome}
 use Rattle.usb_world.specs.{AreOfDamages, IsAttempt, Left, at_event, at_packet, at_line, GaveUp}
 use Rattle.usb_world.specs.{after, at_attempt, attempt, cleared_in, damage_in, event, lost_in}
-use Rattle.usb_world.specs.{root_call}
+use Rattle.usb_world.specs.{root_call, after_event, with_attempt, World}
 use Rattle.usb_port.specs.{PortCall, is_clearing}
-use Rattle.usb_world.specs.{after_event, with_attempt, World}
 use Rattle.usb_world.specs.declared.event.Ask.{Ask}
 use Rattle.usb_world.proofs.Interface.{Keeps, MadeOrNot, OverEvents, attempt_cases, keeps_events}
 use Rattle.usb_world.proofs.Interface.{losses_after, losses_cleared, over_coming, over_ready}

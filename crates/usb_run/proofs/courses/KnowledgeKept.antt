@@ -4,16 +4,14 @@ use Rattle.std.proofs.Common.{◌≡◌, ◌∙◌, refl, sym, ap, subst, Bool, 
 use Rattle.std.proofs.Common.{Some, Result, Ok, is_some}
 use Rattle.usb_device.specs.{Ports}
 use Rattle.usb_world.specs.declared.event.Ask.{Ask}
-use Rattle.usb_world.specs.{Show, Look as LookAt, News as AskNews}
-use Rattle.usb_tree.specs.{pending}
-use Rattle.usb_world.specs.{EventEnds, AtMostTwoRunning, World, roots_of}
-use Rattle.usb_address.proofs.Interface.{event_keeps}
+use Rattle.usb_world.specs.{Show, Look as LookAt, News as AskNews, pending, EventEnds}
+use Rattle.usb_world.specs.{AtMostTwoRunning, World, roots_of, BusFault}
+use Rattle.usb_hub.proofs.Interface.{event_keeps}
 use Rattle.usb_enum.proofs.Interface.{course_later, few_before}
 use Rattle.usb_table.specs.{Entries, IsListedPort}
 use Rattle.usb_host.specs.{Agrees, HostFault, HostState, IsAtRest, IsFairTo, HostInvariant}
 use Rattle.usb_host.specs.{KeepsInvariant, TransferTells, is_final}
 use Rattle.usb_host.proofs.Interface.{accounted, settled_matches, sound_event, sound_none}
-use Rattle.usb_world.specs.{BusFault}
 use Rattle.usb_run.specs.{Item, Mode, Arrives, Comes, Knows, LeavesSettled, Ran, idle, silent}
 use Rattle.usb_run.specs.{Reaches, Rounds, none, more, Settled, Settles, AppendsText, Makes, asked}
 use Rattle.usb_run.specs.{last, CallGives, CallTells, IsItemOf, begun as run_begun}

@@ -3,8 +3,8 @@ use Rattle.std.proofs.Common.{◌≡◌, sym, ap, subst, false, ℕ, List, Optio
 use Rattle.std.proofs.Common.{Err, OnOk, IsSome, is_some}
 use Rattle.usb_world.specs.declared.event.Ask.{Ask}
 use Rattle.usb_world.specs.{BusFault, Limit, Memory, Failed, TookEvent, after, event, World}
-use Rattle.usb_address.specs.{MapHolds, WhileBusWorks}
-use Rattle.usb_address.proofs.Interface.{event_keeps}
+use Rattle.usb_hub.specs.{MapHolds, WhileBusWorks}
+use Rattle.usb_hub.proofs.Interface.{event_keeps}
 use Rattle.usb_host.specs.{HostState, HostMapHolds, claims}
 use Rattle.usb_run.proofs.AskedCalls.{OnlyReported}
 

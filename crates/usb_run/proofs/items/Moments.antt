@@ -14,7 +14,7 @@ use Rattle.usb_world.specs.declared.event.Ask.{Ask}
 use Rattle.usb_bus.specs.{next_due}
 use Rattle.usb_world.specs.{AreOfDamages, Damage}
 use Rattle.usb_world.proofs.Interface.{no_losses_yet}
-use Rattle.usb_address.proofs.Interface.{opening_settled}
+use Rattle.usb_hub.proofs.Interface.{opening_settled}
 use Rattle.usb_enum.specs.{FewLosses, usual_options}
 use Rattle.usb_enum.proofs.Interface.{IsWorse, course_later}
 use Rattle.usb_table.specs.{Delivered, EndpointChoice, FirstBulk, At, Matches, TransferFault}

@@ -18,9 +18,8 @@ use Rattle.usb_host.specs.{table_in, ClearTells, ReceiveTells, SendTells, ReadTe
 use Rattle.usb_host.specs.{ClearOfTells, ControlsAt, InterfaceTells, Look, LookDid, LookTells}
 use Rattle.usb_host.specs.{ReportTells}
 use Rattle.usb_host.specs.declared.fault.HostFault.TheVariants as host
-use Rattle.usb_pipe.specs.{report_in}
+use Rattle.usb_transfer.specs.{report_in, Target}
 use Rattle.usb_request.specs.{Setup}
-use Rattle.usb_transaction.specs.{Target}
 use Rattle.usb_run.specs.{as_answer, ControlIfAsked, Knows, LookShows, transfer_ended, sent_count}
 use Rattle.usb_run.specs.{InterfaceIfAsked, table_told}
 use Rattle.usb_run.specs.Transfers.{Transfers}

@@ -13,11 +13,10 @@ use Rattle.usb_world.specs.{after_event, after_first_event, World, to_come}
 use Rattle.usb_world.specs.declared.event.Action.TheVariants as action
 use Rattle.usb_world.specs.declared.event.Ask.{Ask}
 use Rattle.usb_world.proofs.Interface.{course_joined}
-use Rattle.usb_backlog.specs.{KeepsBy, looks_by, strays_by, unmarked}
-use Rattle.usb_backlog.proofs.Interface.{few-none, keeps-event}
+use Rattle.usb_hub.specs.{KeepsBy, looks_by, strays_by, unmarked}
+use Rattle.usb_hub.proofs.Interface.{few-none, keeps-event}
 use Rattle.usb_bus.specs.{next_due, Traced}
-use Rattle.usb_transaction.specs.{transaction_bound}
-use Rattle.usb_pipe.specs.{write_bound}
+use Rattle.usb_transfer.specs.{transaction_bound, write_bound}
 use Rattle.usb_table.specs.{control_most}
 use Rattle.usb_enum.specs.{usual_options}
 use Rattle.usb_host.specs.{HostFault, Round, Worked, Quiet, hubs, clear_bound, Affords, Costs}

@@ -6,7 +6,7 @@ use Rattle.std.proofs.lemmas.List.Elements.{All-cons, All-nil}
 use Rattle.usb_device.specs.{Spec, said_lengths, new_ports, row_of}
 use Rattle.usb_world.specs.{Action, Plug, Unplug, Event, PlanData, IsPlan, change_of, changes}
 use Rattle.usb_world.specs.declared.event.Action.TheVariants.{Change, Ask}
-use Rattle.usb_backlog.specs.{PortMark, after_first, looks_by, strays_by}
+use Rattle.usb_hub.specs.{PortMark, after_first, looks_by, strays_by}
 use Rattle.usb_enum.specs.{PlugsWithin}
 use Rattle.usb_host.specs.{Weights, repowered}
 use Rattle.usb_plan.specs.{bound_of, enough_for, greatest_total, looks_in, moved, plugged_total}

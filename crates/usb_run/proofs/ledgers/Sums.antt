@@ -1,7 +1,7 @@
 -- Sums of a run: what attempts cost, what is left to do, and what the events to come pay.
 use Rattle.std.proofs.Common.{◌≡◌, ◌≤◌, ℕ, ◌+◌, ◌*◌, ap, min, arith}
 use Rattle.std.proofs.Math.Nat.{mul-le-mul_left}
-use Rattle.usb_backlog.proofs.Interface.{within_bound}
+use Rattle.usb_hub.proofs.Interface.{within_bound}
 
 -- what is left to do after so many events, where each adds seven looks and one change that asks for
 -- none

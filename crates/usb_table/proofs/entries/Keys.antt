@@ -27,7 +27,7 @@ use Rattle.usb_table.specs.{values_by_path, findings, finding_under, entries_of,
 use Rattle.usb_table.specs.{with_address, without_address, without, TakesOut, address_found}
 use Rattle.usb_table.specs.{HasDevice, HasNoDevice, AreIndexes, has_address, HasNewAddress}
 use Rattle.usb_table.specs.{table_of, with_entry}
-use Rattle.usb_tree.proofs.Interface.{neither}
+use Rattle.usb_world.proofs.Interface.{neither}
 use Rattle.std.proofs.lemmas.List.Sums.{sum_by-cons}
 use Rattle.std.proofs.lemmas.List.{append-nil}
 

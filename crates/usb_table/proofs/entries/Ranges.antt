@@ -20,7 +20,7 @@ use Rattle.usb_port.proofs.Interface.{is_below-extension, rejoined}
 use Rattle.usb_table.specs.{is_at_or_below, PathKeys, Entries, Rises, Slots, entries_of}
 use Rattle.usb_table.specs.{finding_under, start_after, ComesAfter, Stands, IsNext, IsLast, without}
 use Rattle.usb_table.specs.{known_port, port_below, port_found, port_of_hub, KnownPort}
-use Rattle.usb_tree.proofs.Interface.{or_left, or_right}
+use Rattle.usb_world.proofs.Interface.{or_left, or_right}
 use Rattle.std.specs.BTreeMap.{is_at}
 use Rattle.std.specs.declared.cmp.Ordering.{Ordering}
 use Rattle.std.proofs.lemmas.Map.{lookup-none}

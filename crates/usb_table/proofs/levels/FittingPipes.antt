@@ -9,12 +9,10 @@ use Rattle.std.proofs.Common.{[], Option, None, Some, Result, Ok, Err, IsOk, Boo
 use Rattle.std.proofs.Common.{◌≢◌}
 use Rattle.arrayvec.specs.ArrayVec.{ArrayVec}
 use Rattle.usb_packet.specs.{Toggle}
-use Rattle.usb_tree.specs.{address_of}
-use Rattle.usb_world.specs.{World, BusFault, Relation, EachWas}
-use Rattle.usb_transaction.specs.{IsStatusEndpoint, Target}
-use Rattle.usb_pipe.specs.{PipeFault, PipeState, Interrupt, OutPipeInSync, InPipeInSync, pipe_known}
-use Rattle.usb_pipe.specs.{got_after, SendLeaves, ClearLeaves, PollLeaves, interrupt_made}
-use Rattle.usb_pipe.specs.{pipe_made}
+use Rattle.usb_world.specs.{address_of, World, BusFault, Relation, EachWas}
+use Rattle.usb_transfer.specs.{IsStatusEndpoint, Target, PipeFault, PipeState, Interrupt}
+use Rattle.usb_transfer.specs.{OutPipeInSync, InPipeInSync, pipe_known, got_after, SendLeaves}
+use Rattle.usb_transfer.specs.{ClearLeaves, PollLeaves, interrupt_made, pipe_made}
 use Rattle.usb_enum.specs.{Accepted}
 use Rattle.usb_table.specs.{AreInPlace, FunctionInSync, FunctionPipes, pipe_at, with_pipe, Pipes}
 use Rattle.usb_table.specs.{Hub, Function, Absent, StatusPipeInSync, FitsOut, FitsIn, PipesInSync}
@@ -23,7 +21,7 @@ use Rattle.usb_table.proofs.levels.StandingPipes.{at_elsewhere, at_with, same_nu
 use Rattle.usb_table.proofs.levels.StandingPipes.{IsPipeOf, addressed}
 use Rattle.usb_table.proofs.transfers.FreeRequests.{in_cleared, out_cleared}
 use Rattle.usb_table.proofs.transfers.DevicesKept.{RanAs, PipeKeeps}
-use Rattle.usb_pipe.specs.declared.fault.PipeFault.TheVariants as pipe_fault
+use Rattle.usb_transfer.specs.declared.fault.PipeFault.TheVariants as pipe_fault
 use Rattle.usb_enum.proofs.Interface.{each_joint}
 
 -- What each call through pipes leaves of the device at their other ends: it is as far as the

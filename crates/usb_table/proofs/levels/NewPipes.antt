@@ -12,7 +12,7 @@ use Rattle.usb_table.specs.{none_lost, AreFunctionPipes, IsPipe, first_endpoint,
 use Rattle.usb_table.specs.{new_function, new_pipe, new_pipes, number_of, row_of_ends, usable_end}
 use Rattle.usb_table.specs.{end_under}
 use Rattle.std.proofs.lemmas.Bool.{and_parts, cases_lt}
-use Rattle.usb_transaction.specs.{IsTarget, Target}
+use Rattle.usb_transfer.specs.{IsTarget, Target}
 use Rattle.usb_enum.proofs.Interface.{device_fits, AcceptsChosen, HasChosen, accepts, has_chosen}
 use Rattle.std.proofs.lemmas.Bool.Decides.{nat_tests}
 use Rattle.std.proofs.lemmas.Option.{same_Some}
@@ -23,10 +23,10 @@ use Rattle.usb_descriptor.proofs.Interface.{length-default_settings, status_endp
 use Rattle.usb_descriptor.proofs.Interface.{usable_under-small}
 use Rattle.usb_device.specs.{rested, served_at, tells_changes, text_of, hub_ports, status_length}
 use Rattle.usb_device.specs.{State, IsSpec, in_end}
-use Rattle.usb_tree.proofs.Interface.{and_false}
+use Rattle.usb_world.proofs.Interface.{and_false}
 use Rattle.usb_hub.specs.{IsFresh}
 use Rattle.usb_enum.specs.declared.finding.Finding.TheVariants.{Device}
-use Rattle.usb_pipe.proofs.Interface.{is_some_byte}
+use Rattle.usb_transfer.proofs.Interface.{is_some_byte}
 use Rattle.usb_table.proofs.levels.FittingPipes.{FitsWay, state_at, way-none}
 
 -- A hub that is accepted has a status endpoint (11.12.1).

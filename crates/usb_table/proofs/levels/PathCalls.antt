@@ -2,11 +2,11 @@
 use Rattle.std.proofs.Common.{List, ℕ, Option, arith, ◌≡◌, refl, ap, Bool, None, Some, Result, Err}
 use Rattle.std.proofs.Common.{◌≢◌, ◌∙◌, sym, true, false, suc, ◌==◌, eq-eqb, ◌∷◌, option_map, subst}
 use Rattle.std.proofs.Common.{inl, inr, [], is_some}
-use Rattle.usb_world.specs.{World, Relation, Was, EachWas}
+use Rattle.usb_world.specs.{World, Relation, Was, EachWas, address_of, is_way}
 use Rattle.usb_bus.specs.{StepRun, Traced, still}
 use Rattle.usb_bus.proofs.Interface.{went_none, went_wider}
 use Rattle.arrayvec.specs.ArrayVec.{ArrayVec}
-use Rattle.usb_pipe.specs.{PipeState, pipe_made}
+use Rattle.usb_transfer.specs.{PipeState, pipe_made}
 use Rattle.usb_enum.specs.{Accepted, Finding}
 use Rattle.usb_table.specs.{TableFault, Transfer, TransferFault, FunctionPipes, Pipes, Function}
 use Rattle.usb_table.specs.{Absent, AreFunctionPipes, ArePipesIf, ArePipesOf, ArePipesTo, ArePlaced}
@@ -26,11 +26,8 @@ use Rattle.std.proofs.lemmas.Option.{same_Some}
 use Rattle.std.specs.BTreeMap.{is_at}
 use Rattle.usb_port.specs.{path_cmp}
 use Rattle.usb_device.specs.{State, reach, Location, path_to, reach_on, state_on, state_there}
-use Rattle.usb_tree.specs.{address_of, is_way}
-use Rattle.usb_world.proofs.Interface.{same_is}
-use Rattle.usb_tree.proofs.Interface.{equal_same, false_true}
-use Rattle.usb_address.specs.{KeepsAddresses}
-use Rattle.usb_hub.specs.{StaysAs, EachElsewhere}
+use Rattle.usb_world.proofs.Interface.{same_is, equal_same, false_true}
+use Rattle.usb_hub.specs.{KeepsAddresses, StaysAs, EachElsewhere}
 use Rattle.usb_table.proofs.levels.FittingPipes.{PipesMove, still_level}
 use Rattle.usb_table.proofs.entries.Keys.{path_itself, path_tied, entries_of-key, entries_of-no_key}
 use Rattle.usb_table.proofs.entries.Keys.{findings-standing, values_by_path-lookup}

@@ -17,17 +17,16 @@ use Rattle.usb_table.specs.{number_of, lost_at, lost_function, lost_row, mark_of
 use Rattle.usb_table.specs.{new_pipe, pipe_at, row_at, row_of_ends, set_function, set_pipe, set_row}
 use Rattle.usb_table.specs.{AreInPlace, FitsIn, FitsOut, FunctionInSync}
 use Rattle.std.proofs.Math.Path.{fun_ext}
-use Rattle.usb_transaction.specs.{Target}
+use Rattle.usb_transfer.specs.{Target, PipeState}
 use Rattle.usb_descriptor.proofs.Interface.{length-default_settings, length-with_setting}
 use Rattle.usb_descriptor.proofs.Interface.{setting_of-with_setting, usable-elsewhere, usable-named}
 use Rattle.usb_descriptor.proofs.Interface.{usable-own, usable_under-small}
-use Rattle.usb_pipe.specs.{PipeState}
 use Rattle.usb_enum.specs.{Accepted, configuration_of, target_of}
 use Rattle.usb_table.proofs.levels.NewPipes.{new_pipe_fits, row_of_ends-at, none_at, new_fits}
 use Rattle.std.proofs.lemmas.Bool.Decides.{nat_tests}
 use Rattle.usb_device.proofs.Interface.{in_end-setting, in_max-elsewhere, is_of_setting-elsewhere}
 use Rattle.usb_device.proofs.Interface.{out_end-setting, out_max-elsewhere}
-use Rattle.usb_tree.proofs.Interface.{or_right}
+use Rattle.usb_world.proofs.Interface.{or_right}
 use Rattle.usb_hub.specs.{TookSetting, offers_setting}
 use Rattle.usb_table.proofs.levels.FittingPipes.{is_status, same_halts, sink_level, source_level}
 use Rattle.usb_table.proofs.levels.FittingPipes.{FitsWay, state_at, way-none}

@@ -7,8 +7,8 @@ use Rattle.usb_descriptor.specs.{EndpointKind, UsableEndpoint}
 use Rattle.usb_descriptor.proofs.Interface.{usable_under-small}
 use Rattle.usb_device.specs.{with_at}
 use Rattle.usb_device.proofs.Interface.{at_mapped, at_other, at_same}
-use Rattle.usb_tree.proofs.Interface.{both, not-true}
-use Rattle.usb_pipe.specs.{PipeState, pipe_made, Interrupt, interrupt_made, Condition}
+use Rattle.usb_world.proofs.Interface.{both, not-true}
+use Rattle.usb_transfer.specs.{PipeState, pipe_made, Interrupt, interrupt_made, Condition}
 use Rattle.usb_enum.specs.{Accepted, Finding}
 use Rattle.usb_table.specs.{AreFunctionPipes, AreInPlace, At, EndpointChoice, FirstBulk}
 use Rattle.usb_table.specs.{FunctionPipes, end_under, first_lost, first_unclear, IsPlace, lost_at}
@@ -17,7 +17,7 @@ use Rattle.usb_table.specs.{pipe_if, pipe_to, polls_through, receives_through, r
 use Rattle.usb_table.specs.{sends_through, way_to, with_pipe, with_rest, Pipes, Absent, AreAbsent}
 use Rattle.usb_table.specs.{lost_row, IsStatusPipe, IsPipe, ArePipesTo, ArePipesOf, pipes_made}
 use Rattle.arrayvec.specs.ArrayVec.{ArrayVec}
-use Rattle.usb_pipe.specs.declared.condition.Condition.TheVariants.{Broken}
+use Rattle.usb_transfer.specs.declared.condition.Condition.TheVariants.{Broken}
 
 -- Rows
 

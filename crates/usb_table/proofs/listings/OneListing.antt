@@ -1,7 +1,7 @@
 -- What is plugged has one right listing, but for addresses.
 use Rattle.std.proofs.Common.{◌≡◌, ◌<◌, ◌+◌, ℕ, zero, suc, List, length, Option, None, Some, refl}
 use Rattle.std.proofs.Common.{sym, ◌∙◌, arith, IsSome, IsSomeAnd, subst, true, false, [], ◌∷◌, take}
-use Rattle.usb_port.specs.{parent_of, port_on_hub, path_cmp}
+use Rattle.usb_port.specs.{parent_of, port_on_hub, path_cmp, IsAddress, supply_of}
 use Rattle.usb_device.specs.{Spec}
 use Rattle.usb_enum.specs.{Finding, HostOptions, HubFacts, IsFindingOf, IsRight, Silent, Accepted}
 use Rattle.usb_enum.specs.{texts_of, strings_of, facts_of, usual_options}
@@ -16,7 +16,6 @@ use Rattle.usb_enum.proofs.Interface.{course_later, examples, row_silent, small,
 use Rattle.std.specs.Map.{lookup}
 use Rattle.std.specs.BTreeMap.{is_at}
 use Rattle.std.specs.List.Sorted.{IsStrictlySortedBy}
-use Rattle.usb_resources.specs.{IsAddress, supply_of}
 use Rattle.usb_table.proofs.entries.Keys.{path_tied}
 
 found_like : (spec : Spec) (options : HostOptions) (tier supply : ℕ) (f g : Finding)

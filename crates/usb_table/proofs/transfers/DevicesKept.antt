@@ -13,31 +13,26 @@ use Rattle.usb_device.specs.{on_endpoint, outcome, State, begun_again, begun, ac
 use Rattle.usb_device.specs.{Registers, first_stage, ending, Location}
 use Rattle.usb_world.specs.{Attempt, BusFault, is_setup, EachWas, DidIn, DidOut, IsMade, IsIn}
 use Rattle.usb_world.specs.{IsOut, asks_no_port, LeavesPortAlone, Step, attempt, after}
-use Rattle.usb_world.specs.{with_attempt, Course, here, step, World, HasFault}
-use Rattle.usb_tree.specs.{IsSettled}
+use Rattle.usb_world.specs.{with_attempt, Course, here, step, World, HasFault, IsSettled}
 use Rattle.usb_world.proofs.Interface.{AttemptCut, MadeOrNot, attempt_cases, cut_or_same}
 use Rattle.usb_world.proofs.Interface.{data_asks_nothing, each_in, each_joined, each_none, each_out}
 use Rattle.usb_world.proofs.Interface.{each_wider, made_here, made_is, made_whole, ready_shared}
 use Rattle.usb_world.proofs.Interface.{settled_after, settled_course, settled_wider, unmade}
-use Rattle.usb_tree.proofs.Interface.{neither, unequal}
-use Rattle.usb_backlog.specs.{Few, KeepsAll, PortMark}
-use Rattle.usb_backlog.proofs.Interface.{KeepsStep, all_none, data_allows, keeps-attempt}
-use Rattle.usb_backlog.proofs.Interface.{keeps-chain}
-use Rattle.usb_transaction.specs.{IsOnly, GivenUp, heard_as, set_up_as, in_attempt, setup_attempt}
-use Rattle.usb_transaction.specs.{Target}
-use Rattle.usb_transaction.proofs.Interface.{trail_settled, trail_unshared, transacted_unshared}
-use Rattle.usb_pipe.specs.{PipeFault, PipePolls, TransferAttempts, PipeState, Sends, Receives}
-use Rattle.usb_pipe.specs.{Clears, Cleared, polled_pipe, halt_address, packet_target, Interrupt}
-use Rattle.usb_pipe.specs.{Polls, SendsAt, WriteLeaves, Writes}
-use Rattle.usb_pipe.specs.declared.fault.PipeFault.TheVariants as pipe_fault
-use Rattle.usb_pipe.proofs.Interface.{given_registers, harmless, poll_attempts, receive_attempts}
-use Rattle.usb_pipe.proofs.Interface.{send_attempts}
-use Rattle.usb_address.specs.{KeepsAddresses}
-use Rattle.usb_address.proofs.Interface.{Ran, clears_keep, in_kept, keeps_none, out_kept}
-use Rattle.usb_address.proofs.Interface.{polls_keep, receives_keep, sends_keep}
-use Rattle.usb_hub.specs.{TouchesNoPort, Commanded}
-use Rattle.usb_hub.proofs.Interface.{each_leaves, order_elsewhere, write_backlog, write_rests}
-use Rattle.usb_hub.proofs.Interface.{write_so}
+use Rattle.usb_world.proofs.Interface.{neither, unequal}
+use Rattle.usb_hub.specs.{Few, KeepsAll, PortMark}
+use Rattle.usb_hub.proofs.Interface.{KeepsStep, all_none, data_allows, keeps-attempt, keeps-chain}
+use Rattle.usb_transfer.specs.{IsOnly, GivenUp, heard_as, set_up_as, in_attempt, setup_attempt}
+use Rattle.usb_transfer.specs.{Target, PipeFault, PipePolls, TransferAttempts, PipeState, Sends}
+use Rattle.usb_transfer.specs.{Receives, Clears, Cleared, polled_pipe, halt_address, packet_target}
+use Rattle.usb_transfer.specs.{Interrupt, Polls, SendsAt, WriteLeaves, Writes}
+use Rattle.usb_transfer.proofs.Interface.{trail_settled, trail_unshared, transacted_unshared}
+use Rattle.usb_transfer.specs.declared.fault.PipeFault.TheVariants as pipe_fault
+use Rattle.usb_transfer.proofs.Interface.{given_registers, harmless, poll_attempts}
+use Rattle.usb_transfer.proofs.Interface.{receive_attempts, send_attempts}
+use Rattle.usb_hub.specs.{KeepsAddresses, TouchesNoPort, Commanded}
+use Rattle.usb_hub.proofs.Interface.{Ran, clears_keep, in_kept, keeps_none, out_kept, polls_keep}
+use Rattle.usb_hub.proofs.Interface.{receives_keep, sends_keep, each_leaves, order_elsewhere}
+use Rattle.usb_hub.proofs.Interface.{write_backlog, write_rests, write_so}
 use Rattle.usb_enum.proofs.Interface.{ends_without_fault}
 use Rattle.usb_table.specs.{SameSettings, KeepsSettings, OnlyTransfers}
 use Rattle.usb_table.proofs.levels.StandingPipes.{broken_or_not, empty_or_not}

@@ -3,7 +3,7 @@ use Rattle.std.proofs.Common.{◌≡◌, ◌⊎◌, refl, ℕ, ◌==◌, ◌≤�
 use Rattle.std.proofs.Common.{◌&&◌, if◌then◌else◌, List, Option, None, Some, subst, eq-eqb, get_or}
 use Rattle.std.proofs.lemmas.Bool.{lt-ltb}
 use Rattle.std.proofs.lemmas.Bool.Decides.{nat_tests}
-use Rattle.usb_tree.proofs.Interface.{neither}
+use Rattle.usb_world.proofs.Interface.{neither}
 use Rattle.usb_request.specs.{CLEAR_FEATURE, SET_FEATURE, SET_ADDRESS, SET_CONFIGURATION}
 use Rattle.usb_request.specs.{DEVICE_OUT, ENDPOINT_OUT, PORT_OUT, ENDPOINT_HALT, DEVICE_IN, HUB_IN}
 use Rattle.usb_request.specs.{PORT_IN, GET_DESCRIPTOR, GET_STATUS, GET_CONFIGURATION, IsToDevice}
@@ -18,7 +18,7 @@ use Rattle.usb_device.specs.{OnlyChanges, OnlyStage, Location}
 use Rattle.usb_device.specs.Request.{answers}
 use Rattle.usb_device.proofs.Interface.{asked_own-any, at_each}
 use Rattle.usb_world.specs.{asks_no_port, is_harmless}
-use Rattle.usb_pipe.specs.{OnlyEndpoint}
+use Rattle.usb_transfer.specs.{OnlyEndpoint}
 use Rattle.usb_table.specs.{SparesBulk}
 
 -- What a request asks of a device that changes no address, no configuration, no toggle and no

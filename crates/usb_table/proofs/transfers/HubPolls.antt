@@ -8,17 +8,16 @@ use Rattle.arrayvec.specs.ArrayVec.{ArrayVec}
 use Rattle.usb_device.specs.{State, reach, Location, path_to, state_there, reach_on, change_bytes}
 use Rattle.usb_device.specs.{hub_ports, state_on, told_bits}
 use Rattle.usb_world.specs.{Attempt, Outcome, is_setup, Was, EachWas, LeavesPortAlone, Course, here}
-use Rattle.usb_world.specs.{Relation, World}
-use Rattle.usb_tree.specs.{address_of, IsSettled}
+use Rattle.usb_world.specs.{Relation, World, address_of, IsSettled}
 use Rattle.usb_world.proofs.Interface.{course_then, data_asks_nothing, each_none}
 use Rattle.usb_bus.specs.{StepRun}
-use Rattle.usb_transaction.specs.{AttemptsMade, transaction_bound, Answerer, is_at, AttemptLog}
-use Rattle.usb_transaction.specs.{NoThreeDamaged, Listens}
-use Rattle.usb_transaction.proofs.Interface.{trail_settled}
-use Rattle.usb_pipe.specs.{PipeFault, FaultAfter, Interrupt, IsNoBusFault, PollLeaves, PollTells}
-use Rattle.usb_pipe.specs.{ToldOf, PollingFailure, interrupt_made}
-use Rattle.usb_pipe.specs.declared.fault.PipeFault.TheVariants as why
-use Rattle.usb_pipe.proofs.Interface.{poll_tells, polling_why, who_polls}
+use Rattle.usb_transfer.specs.{AttemptsMade, transaction_bound, Answerer, is_at, AttemptLog}
+use Rattle.usb_transfer.specs.{NoThreeDamaged, Listens, PipeFault, FaultAfter, Interrupt}
+use Rattle.usb_transfer.specs.{IsNoBusFault, PollLeaves, PollTells, ToldOf, PollingFailure}
+use Rattle.usb_transfer.specs.{interrupt_made}
+use Rattle.usb_transfer.proofs.Interface.{trail_settled}
+use Rattle.usb_transfer.specs.declared.fault.PipeFault.TheVariants as why
+use Rattle.usb_transfer.proofs.Interface.{poll_tells, polling_why, who_polls}
 use Rattle.usb_hub.specs.{NoHubFailed}
 use Rattle.usb_enum.specs.{Accepted}
 use Rattle.usb_enum.proofs.Interface.{each_joint}

@@ -8,11 +8,9 @@ use Rattle.usb_device.specs.{Is, Location, State}
 use Rattle.usb_world.specs.{EachWas, World, asks_no_port}
 use Rattle.usb_world.proofs.Interface.{each_wider}
 use Rattle.usb_bus.specs.{StepRun}
-use Rattle.usb_transaction.specs.{Target, is_at}
-use Rattle.usb_pipe.specs.{PipeFault, write_bound}
-use Rattle.usb_pipe.specs.declared.fault.PipeFault.TheVariants as pipe_fault
-use Rattle.usb_address.specs.{KeepsAddresses}
-use Rattle.usb_hub.specs.{Commanded, InterfaceAsked}
+use Rattle.usb_transfer.specs.{Target, is_at, PipeFault, write_bound}
+use Rattle.usb_transfer.specs.declared.fault.PipeFault.TheVariants as pipe_fault
+use Rattle.usb_hub.specs.{KeepsAddresses, Commanded, InterfaceAsked}
 use Rattle.usb_enum.specs.{Accepted, configuration_of, target_of}
 use Rattle.usb_enum.proofs.Interface.{ends_without_fault}
 use Rattle.usb_table.specs.{AreFunctionPipes, ArePipesIf, ArePipesTo, Function, FunctionInSync}

@@ -4,12 +4,11 @@ use Rattle.std.proofs.Common.{arith, ◌≡◌, ◌≢◌, refl, ap, true, false
 use Rattle.std.proofs.Common.{None, Some, Result, Ok, Err, is_ok, Bool, is_some, append-nil, []}
 use Rattle.std.proofs.lemmas.Bool.{false_from_ne_true}
 use Rattle.usb_device.specs.{State, reach, Location, path_to, state_there}
-use Rattle.usb_world.specs.{BusFault, Relation, Was, EachWas, World}
-use Rattle.usb_tree.specs.{address_of}
-use Rattle.usb_transaction.specs.{Target, Answerer}
-use Rattle.usb_pipe.specs.{PipeFault, PipeState, pipe_made, Sends, OutPipeInSync, SendLeaves}
-use Rattle.usb_pipe.specs.{Receives, ReceiveLeaves, pipe_known, PipePolls, PacketLeaves, report_in}
-use Rattle.usb_pipe.specs.declared.fault.PipeFault.TheVariants as pipe_fault
+use Rattle.usb_world.specs.{BusFault, Relation, Was, EachWas, World, address_of}
+use Rattle.usb_transfer.specs.{Target, Answerer, PipeFault, PipeState, pipe_made, Sends}
+use Rattle.usb_transfer.specs.{OutPipeInSync, SendLeaves, Receives, ReceiveLeaves, pipe_known}
+use Rattle.usb_transfer.specs.{PipePolls, PacketLeaves, report_in}
+use Rattle.usb_transfer.specs.declared.fault.PipeFault.TheVariants as pipe_fault
 use Rattle.usb_enum.specs.{Accepted}
 use Rattle.usb_table.specs.declared.fault.TableFault.TheVariants as table_fault
 use Rattle.usb_table.specs.{through, TableFault, ChangesAt, accepted_device_at, Pipes, PipesInSync}
@@ -27,8 +26,8 @@ use Rattle.usb_table.proofs.levels.PathCalls.{through_pipes}
 use Rattle.usb_table.proofs.levels.StandingPipes.{Picks, addressed, in_place, sends_picks}
 use Rattle.usb_table.proofs.levels.StandingPipes.{sends_way, receives_picks, receives_way}
 use Rattle.usb_table.proofs.levels.StandingPipes.{some_bytes, polls_picks, polls_way}
-use Rattle.usb_pipe.proofs.Interface.{send_leaves, who_sends, receive_leaves, who_receives}
-use Rattle.usb_pipe.proofs.Interface.{packet_leaves, who_packets}
+use Rattle.usb_transfer.proofs.Interface.{send_leaves, who_sends, receive_leaves, who_receives}
+use Rattle.usb_transfer.proofs.Interface.{packet_leaves, who_packets}
 use Rattle.usb_table.proofs.levels.FittingPipes.{out_of, in_of, known_left}
 use Rattle.std.specs.Global.{Vec}
 use Rattle.arrayvec.specs.ArrayVec.{ArrayVec}

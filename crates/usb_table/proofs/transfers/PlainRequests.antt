@@ -13,13 +13,11 @@ use Rattle.usb_world.specs.{BusFault, EachWas, HasFault, Relation, World, is_har
 use Rattle.usb_world.proofs.Interface.{each_wider}
 use Rattle.usb_bus.specs.{StepRun}
 use Rattle.usb_bus.proofs.Interface.{went_wider}
-use Rattle.usb_transaction.specs.{Answerer, Target, is_at}
-use Rattle.usb_pipe.specs.{IsNoBusFault, PipeFault, DataWrite, DataWriteLeaves, PipeState}
-use Rattle.usb_pipe.specs.{ControlRead, ControlWrite, InPipeInSync, ReadLeaves, WriteLeaves}
-use Rattle.usb_pipe.specs.declared.fault.PipeFault.TheVariants as pipe_fault
-use Rattle.usb_address.specs.{KeepsAddresses}
-use Rattle.usb_backlog.specs.{KeepsAll}
-use Rattle.usb_hub.specs.{TouchesNoPort, EndsAfter}
+use Rattle.usb_transfer.specs.{Answerer, Target, is_at, IsNoBusFault, PipeFault, DataWrite}
+use Rattle.usb_transfer.specs.{DataWriteLeaves, PipeState, ControlRead, ControlWrite, InPipeInSync}
+use Rattle.usb_transfer.specs.{ReadLeaves, WriteLeaves}
+use Rattle.usb_transfer.specs.declared.fault.PipeFault.TheVariants as pipe_fault
+use Rattle.usb_hub.specs.{KeepsAddresses, KeepsAll, TouchesNoPort, EndsAfter}
 use Rattle.usb_enum.specs.{Accepted, target_of}
 use Rattle.usb_table.specs.{accepted_device_at, ArePipesAt, ControlledAt, control_most, GoesThrough}
 use Rattle.usb_table.specs.{is_below_hub, KeepsMoved, OnlyTransfers, pipes_at, PipesInSync}
@@ -41,12 +39,11 @@ use Rattle.std.specs.Global.{Vec}
 use Rattle.usb_port.specs.{PortState}
 use Rattle.usb_device.specs.Request.{answers}
 use Rattle.usb_device.proofs.Interface.{at_each}
-use Rattle.usb_transaction.proofs.Interface.{spared_all}
-use Rattle.usb_pipe.proofs.Interface.{first_stage-address, given_registers, host_harmless}
-use Rattle.usb_address.proofs.Interface.{put_keeps, read_keeps, reads_other}
-use Rattle.usb_address.proofs.Interface.{write_keeps}
-use Rattle.usb_hub.proofs.Interface.{put_backlog, put_rests, reads_backlog, reads_rests}
-use Rattle.usb_hub.proofs.Interface.{write_backlog, write_rests, write_so}
+use Rattle.usb_transfer.proofs.Interface.{spared_all, first_stage-address, given_registers}
+use Rattle.usb_transfer.proofs.Interface.{host_harmless}
+use Rattle.usb_hub.proofs.Interface.{put_keeps, read_keeps, reads_other, write_keeps, put_backlog}
+use Rattle.usb_hub.proofs.Interface.{put_rests, reads_backlog, reads_rests, write_backlog}
+use Rattle.usb_hub.proofs.Interface.{write_rests, write_so}
 use Rattle.usb_enum.proofs.Interface.{ends_without_fault}
 use Rattle.usb_table.proofs.transfers.FreeRequests.{IsAllowed, IsFree, free_asks_no_port}
 use Rattle.usb_table.proofs.transfers.FreeRequests.{free_is_harmless, outcome_fine, read_is_free}

@@ -2,12 +2,11 @@
 use Rattle.std.proofs.Common.{arith, ◌≡◌, ◌≢◌, ◌∙◌, refl, sym, ap, subst, Bool, true, false, ℕ}
 use Rattle.std.proofs.Common.{◌==◌, List, Option, None, Some, Result, Ok, Err, is_ok, is_some}
 use Rattle.usb_device.specs.{EndpointState as End, InEnd, Location, NothingMoved, OutEnd, State}
-use Rattle.usb_world.specs.{BusFault, EachWas, World}
-use Rattle.usb_tree.specs.{address_of}
+use Rattle.usb_world.specs.{BusFault, EachWas, World, address_of}
 use Rattle.usb_world.proofs.Interface.{each_joined, each_none, each_wider}
-use Rattle.usb_pipe.specs.{PipeFault, PipeState, Clears, BegunAgain, needs_clear, pipe_made}
-use Rattle.usb_pipe.specs.{ClearLeaves}
-use Rattle.usb_pipe.proofs.Interface.{clear_leaves}
+use Rattle.usb_transfer.specs.{PipeFault, PipeState, Clears, BegunAgain, needs_clear, pipe_made}
+use Rattle.usb_transfer.specs.{ClearLeaves}
+use Rattle.usb_transfer.proofs.Interface.{clear_leaves}
 use Rattle.usb_enum.proofs.Interface.{each_joint}
 use Rattle.usb_table.specs.{SameSettings, TableFault, Transfer, TransferFault, FunctionPipes, Pipes}
 use Rattle.usb_table.specs.{Function, AreFunctionPipes, AreInPlace, EndsCleared, FunctionInSync}
@@ -16,7 +15,7 @@ use Rattle.usb_table.specs.{accepted_device_at, first_pipe, pipe_to, clears_miss
 use Rattle.usb_table.specs.{IsHeld, InSyncAt, Table, way_to, pipes_at, ArePipesAt, ClearedBy}
 use Rattle.usb_table.specs.{ClearedAfter, ClearedInOrder, ClearedOfThrough, PipesCleared}
 use Rattle.usb_table.specs.{PipesClearedOf, table_answer, with_pipe, with_rest}
-use Rattle.usb_pipe.specs.declared.fault.PipeFault.TheVariants as pipe_fault
+use Rattle.usb_transfer.specs.declared.fault.PipeFault.TheVariants as pipe_fault
 use Rattle.usb_enum.specs.{Accepted}
 use Rattle.usb_table.specs.declared.fault.TableFault.TheVariants as table_fault
 use Rattle.usb_table.proofs.levels.FittingPipes.{clear_moves, in_of, out_of, state_at, EachMoves}

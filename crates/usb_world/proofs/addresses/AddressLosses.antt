@@ -14,8 +14,8 @@ use Rattle.usb_world.specs.{token_way, reply_way, IsIn, Outcome, clears_at, clea
 use Rattle.usb_world.specs.{counted, after_clearing, got, answer_way, IsMade, IsOut, HolderIn}
 use Rattle.usb_world.specs.{is_setup, EachWas, World, at_attempt, damage_in, with_attempt, attempt}
 use Rattle.usb_world.specs.{after, outcome_in, AreOfDamages, no_losses, one_more, damage_of}
-use Rattle.usb_world.specs.{damages_until, bit_count}
-use Rattle.usb_tree.specs.{after_sent, heard_by, deep_at, IfOut, IsAckOut, IsSettled, address_of}
+use Rattle.usb_world.specs.{damages_until, bit_count, after_sent, heard_by, deep_at, IfOut}
+use Rattle.usb_world.specs.{IsAckOut, IsSettled, address_of}
 use Rattle.usb_world.proofs.courses.Courses.{rests, goes}
 use Rattle.usb_world.proofs.packets.Packets.{ack_calls, sent_out, clears_if, none_clear}
 use Rattle.usb_world.proofs.packets.AwaitedAcks.{IsNoControlIn, data_no_control_in}
@@ -33,8 +33,8 @@ use Rattle.std.proofs.lemmas.Option.{same_Some}
 use Rattle.usb_request.specs.{CLEAR_FEATURE, PORT_OUT, C_PORT_CONNECTION, Setup, setup_of}
 use Rattle.usb_packet.specs.{Token, Toggle, One, InTok, SetupTok, Packet, Spells, Follows}
 use Rattle.usb_world.specs.declared.types.Outcome.TheVariants as outcome
-use Rattle.usb_tree.proofs.Interface.{false_true, not-true, decided, and_none, unequal, if-true}
-use Rattle.usb_tree.proofs.Interface.{if-false}
+use Rattle.usb_world.proofs.Booleans.{false_true, not-true, decided, and_none, if-true, if-false}
+use Rattle.usb_world.proofs.Equality.{unequal}
 use Rattle.usb_world.proofs.holders.Devices.{each_holder}
 use Rattle.usb_world.proofs.courses.LiftedSteps.{ready_beside}
 use Rattle.usb_world.proofs.holders.OneHolderAttempts.{made_is, ready_settled, holder_in, in_in}

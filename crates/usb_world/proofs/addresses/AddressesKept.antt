@@ -1,6 +1,9 @@
 -- Which courses keep each device at its own address, and set no mark.
-use Rattle.usb_tree.proofs.Interface.{and_none, false_true, decided, neither_of, twice_two}
-use Rattle.usb_tree.proofs.Interface.{kept_address, forgotten_address, resets_if, equal_same}
+use Rattle.usb_world.proofs.Booleans.{and_none, false_true, decided, neither_of}
+use Rattle.usb_world.proofs.TreeHolders.{twice_two}
+use Rattle.usb_world.proofs.States.{kept_address, forgotten_address}
+use Rattle.usb_world.proofs.OnWays.{resets_if}
+use Rattle.usb_world.proofs.Equality.{equal_same}
 use Rattle.std.proofs.Common.{◌||◌, arith, ◌≡◌, ℕ, zero, suc, ◌&&◌, inl, inr, Bool, true, false}
 use Rattle.std.proofs.Common.{List, [], ◌∷◌, ◌++◌, Option, None, Some, option_map, refl, ap, sym}
 use Rattle.std.proofs.Common.{◌∙◌, ◌==◌, if◌then◌else◌, subst}
@@ -22,9 +25,9 @@ use Rattle.usb_world.specs.{heard_all, ports_in, World, after_event, at_attempt,
 use Rattle.usb_world.specs.{with_attempt, event_taken, Step, attempt, root_call, event, after}
 use Rattle.usb_world.specs.{is_made, made_resets, root_resets, resets, address_at, HoldsMapped}
 use Rattle.usb_world.specs.{Injective, is_quiet, QuietStep, quiet_data, Course, is_setup, NoneTakes}
-use Rattle.usb_world.specs.{MovesData, GivesNoAddress, AsksNothing}
-use Rattle.usb_tree.specs.{address_of, after_sent, answers_to, after_attempt, sent_resets}
-use Rattle.usb_tree.specs.{attempt_resets, reset_if, deep_at, IsDataOut, IfOut, IsSettled}
+use Rattle.usb_world.specs.{MovesData, GivesNoAddress, AsksNothing, address_of, after_sent}
+use Rattle.usb_world.specs.{answers_to, after_attempt, sent_resets, attempt_resets, reset_if}
+use Rattle.usb_world.specs.{deep_at, IsDataOut, IfOut, IsSettled}
 use Rattle.usb_world.proofs.events.PlugEvents.{happened_there}
 use Rattle.usb_world.proofs.ports.PortCalls.{call_state}
 use Rattle.usb_world.proofs.packets.Packets.{packet_state, heard_state, stands, state_stands}

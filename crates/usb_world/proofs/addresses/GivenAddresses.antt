@@ -8,14 +8,15 @@ use Rattle.usb_device.specs.{Place, Registers, Outcome, registers_at_setup, Stat
 use Rattle.usb_device.specs.{row_of, reach, place, path_to, ending, Reply, is_busy}
 use Rattle.usb_device.specs.{ends_with_address, is_whole, in_law, in_stage_law, in_other_law}
 use Rattle.usb_device.specs.{in_end_law, source_law, held_law, heard, in_max}
-use Rattle.usb_tree.specs.{address_of, same_number, same_path, is_way, IsNew, call_resets, reset_if}
-use Rattle.usb_tree.specs.{deep_at}
-use Rattle.usb_world.specs.{World, root_call, after, root_resets, resets, HoldsMapped, Injective}
-use Rattle.usb_world.specs.{after_reset, after_taking, Attempt, at_attempt, with_attempt, attempt}
-use Rattle.usb_world.specs.{is_made, made_resets, address_at, IsSetup, HolderIn, damage_in, IsIn}
-use Rattle.usb_world.specs.{is_setup, ends_status}
-use Rattle.usb_tree.proofs.Interface.{false_true, both, self_path, kept_address, decided, and_false}
-use Rattle.usb_tree.proofs.Interface.{is_twice-one_path, self_number}
+use Rattle.usb_world.specs.{address_of, same_number, same_path, is_way, IsNew, call_resets}
+use Rattle.usb_world.specs.{reset_if, deep_at, World, root_call, after, root_resets, resets}
+use Rattle.usb_world.specs.{HoldsMapped, Injective, after_reset, after_taking, Attempt, at_attempt}
+use Rattle.usb_world.specs.{with_attempt, attempt, is_made, made_resets, address_at, IsSetup}
+use Rattle.usb_world.specs.{HolderIn, damage_in, IsIn, is_setup, ends_status}
+use Rattle.usb_world.proofs.Booleans.{false_true, both, decided, and_false}
+use Rattle.usb_world.proofs.Equality.{self_path, self_number}
+use Rattle.usb_world.proofs.States.{kept_address}
+use Rattle.usb_world.proofs.TreeHolders.{is_twice-one_path}
 use Rattle.usb_world.proofs.ports.PortCalls.{off_way, call_new, call_reach, call_state}
 use Rattle.usb_world.proofs.packets.Packets.{stands, state_stands}
 use Rattle.usb_world.proofs.courses.Courses.{unreset_reach, made_reach, step_new}

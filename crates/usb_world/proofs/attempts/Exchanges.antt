@@ -13,11 +13,10 @@ use Rattle.usb_world.specs.{Exchange, harm_to, marked, marked_some, heard_above,
 use Rattle.usb_world.specs.{PacketWent, PacketsWent, Exchanged, token_of, payload_of, answer_place}
 use Rattle.usb_world.specs.{answer_mark, goes_out, heard_all, token_out, heard_in, mark_in}
 use Rattle.usb_world.specs.{reply_in, answered_in, is_lost, lost_in, clears_at, cleared_in}
-use Rattle.usb_world.specs.{exchange_in, ended_in, ports_in}
+use Rattle.usb_world.specs.{exchange_in, ended_in, ports_in, IsSettled, after_sent, answers_to}
 use Rattle.usb_world.specs.declared.types.Outcome.TheVariants.{Payload, Ack, Nak, Stall, Nothing}
 use Rattle.usb_world.proofs.courses.LiftedSteps.{ready_beside, ready_shared}
 use Rattle.usb_device.proofs.Interface.{row_of-after, figure-after, row_of-forgotten}
-use Rattle.usb_tree.specs.{IsSettled, after_sent, answers_to}
 use Rattle.usb_world.proofs.packets.Packets.{after_attempt-settled}
 
 -- What the host got tells what was answered, and whether it acknowledges.

@@ -14,11 +14,11 @@ use Rattle.usb_world.specs.{token_of, reply_of, sent_as, goes_out, token_out, pa
 use Rattle.usb_world.specs.{IsStopped, IsCut, Lost, Flipped, IsAttempt, BusFault, World}
 use Rattle.usb_world.specs.{HoldsMapped, Injective, with_attempt, Left, at_event, at_packet}
 use Rattle.usb_world.specs.{at_line, GaveUp, Limit, Memory, Failed, IsMade, Attempted, Relation}
-use Rattle.usb_world.specs.{EachWas, at_attempt, attempt, after, AttemptFails}
-use Rattle.usb_tree.specs.{after_sent, address_of, IfOut, IsTokenFor, IsDataOut, IsSettled}
-use Rattle.usb_tree.specs.{calls_on}
-use Rattle.usb_tree.proofs.Interface.{false_true, and_false, one_if, occurs, occurs-most}
-use Rattle.usb_tree.proofs.Interface.{occurs_append, forgotten-nothing, neither}
+use Rattle.usb_world.specs.{EachWas, at_attempt, attempt, after, AttemptFails, after_sent}
+use Rattle.usb_world.specs.{address_of, IfOut, IsTokenFor, IsDataOut, IsSettled, calls_on}
+use Rattle.usb_world.proofs.Booleans.{false_true, and_false, neither}
+use Rattle.usb_world.proofs.TreeHolders.{one_if, occurs, occurs-most, occurs_append}
+use Rattle.usb_world.proofs.States.{forgotten-nothing}
 use Rattle.usb_port.specs.{PortState}
 use Rattle.usb_device.specs.declared.delivery.Heard.TheVariants.{NoAnswer}
 use Rattle.usb_device.specs.declared.transfer.RememberedPacket.TheVariants.{Nothing}

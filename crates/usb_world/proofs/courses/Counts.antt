@@ -9,7 +9,7 @@ use Rattle.usb_device.specs.{State, Ports, ended, vacant, taken, new_ports, firs
 use Rattle.usb_device.specs.{acted, empty, full, before, reset_where, called, changed, changed_at}
 use Rattle.usb_device.specs.{row_of, Spec, Hub, Effect, Place}
 use Rattle.usb_world.proofs.courses.LiftedSteps.{happened_by}
-use Rattle.usb_tree.proofs.Interface.{false_true}
+use Rattle.usb_world.proofs.Booleans.{false_true}
 use Rattle.usb_world.specs.{World, roots_of, root_row, to_come, change_of, AttemptsWithin}
 use Rattle.usb_world.specs.{IsRootPort, changes, root_port_at, hub_ports, Action, after_change}
 use Rattle.usb_world.specs.{SetsRoot, ClearsRoot, root_call, after}

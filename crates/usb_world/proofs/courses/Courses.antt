@@ -17,10 +17,11 @@ use Rattle.usb_world.specs.{with_attempt, Step, attempt, root_call, after, Cours
 use Rattle.usb_world.specs.{NoneNames, Undisturbed, made_resets, made_keeps_pending, root_resets}
 use Rattle.usb_world.specs.{root_keeps_pending, resets, step_keeps_pending, Reached}
 use Rattle.usb_world.specs.{UndisturbedOrPends, NoReset, KeepsPendingAt, Plug, Unplug, Consistent}
-use Rattle.usb_world.specs.{PlanData, with_plugged, AnyStep, WorldInvariant, opening}
-use Rattle.usb_tree.specs.{has_power, pending, IsNew, IfOut, IsTokenFor, IsDataOut, IsAckOut}
-use Rattle.usb_tree.specs.{IsAttemptAt, IsSettled}
-use Rattle.usb_tree.proofs.Interface.{false_true, forgotten-nothing}
+use Rattle.usb_world.specs.{PlanData, with_plugged, AnyStep, WorldInvariant, opening, has_power}
+use Rattle.usb_world.specs.{pending, IsNew, IfOut, IsTokenFor, IsDataOut, IsAckOut, IsAttemptAt}
+use Rattle.usb_world.specs.{IsSettled}
+use Rattle.usb_world.proofs.Booleans.{false_true}
+use Rattle.usb_world.proofs.States.{forgotten-nothing}
 use Rattle.usb_world.proofs.courses.LiftedSteps.{OverSteps, with_limit_told, with_call, over_step}
 use Rattle.usb_world.proofs.courses.LiftedSteps.{over_course, made_after, Keeps, keeps_events}
 use Rattle.usb_world.proofs.courses.LiftedSteps.{happened_by, over_ready}

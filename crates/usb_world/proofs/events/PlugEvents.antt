@@ -4,9 +4,9 @@ use Rattle.std.proofs.Common.{List, [], ◌∷◌, slice_get, is_some, Option, N
 use Rattle.usb_device.specs.{Spec, Ports, ended, vacant, taken, before, port_of, replaced, changed}
 use Rattle.usb_device.specs.{changed_at, reach, reach_at, Place}
 use Rattle.usb_world.specs.{Action, Plug, Unplug, with_plugged, after_change, way_of, names_path}
+use Rattle.usb_world.specs.{has_power, has_power_at, pending, pending_at, is_way, on_way}
 use Rattle.usb_world.specs.declared.event.Action.TheVariants.{Change, Ask}
-use Rattle.usb_tree.specs.{has_power, has_power_at, pending, pending_at, is_way, on_way}
-use Rattle.usb_tree.proofs.Interface.{decided, false_true}
+use Rattle.usb_world.proofs.Booleans.{decided, false_true}
 use Rattle.usb_world.proofs.ports.PortCalls.{changed_apart, SameThere, changed_there}
 
 -- A path to which the changed place is on the way

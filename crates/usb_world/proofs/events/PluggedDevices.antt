@@ -19,7 +19,7 @@ use Rattle.usb_port.proofs.Interface.{is_path, rejoined}
 use Rattle.usb_device.specs.{Spec, Ports, called, replaced, changed, state_there, IsSpec, Place}
 use Rattle.usb_device.specs.{Sent, State, changed_at, ended, forgotten, fresh, new_ports, port_at}
 use Rattle.usb_device.specs.{port_there, reset_state, row_of, state_at, taken, vacant}
-use Rattle.usb_tree.specs.{same_path, is_way, after_sent, on_way, reset_if, same_number}
+use Rattle.usb_world.specs.{same_path, is_way, after_sent, on_way, reset_if, same_number}
 use Rattle.usb_world.specs.{PluggedMap, index_at, device_indexed, plugged_without, spec_port_count}
 use Rattle.usb_world.specs.{is_rooted, parent_has, has_port, Action, Plug, Unplug, Event}
 use Rattle.usb_world.specs.{after_most, PlanData, IsPlan, is_taken, action_fits, event_fits}
@@ -27,7 +27,8 @@ use Rattle.usb_world.specs.{events_fit, plugged_by, plugged_after, FollowsPlan, 
 use Rattle.usb_world.specs.{PlugsAtPort, spec_of, World, NoneNames, Undisturbed, names_path}
 use Rattle.usb_world.specs.{after_change, with_plugged, after_event, at_attempt, with_attempt}
 use Rattle.usb_world.specs.{AnyStep, Course, opening, ports_in, Attempt, Consistent, Damage}
-use Rattle.usb_tree.proofs.Interface.{false_true, both, either_of, decided, self_path}
+use Rattle.usb_world.proofs.Booleans.{false_true, both, either_of, decided}
+use Rattle.usb_world.proofs.Equality.{self_path}
 use Rattle.usb_world.proofs.ways.Ways.{same_is, way_starts, undisturbed_on_way, way_itself}
 use Rattle.usb_world.proofs.courses.Counts.{happened_long, new_long, row_long}
 use Rattle.usb_world.proofs.courses.Courses.{sane_called_at, sane_happened, sane_ports}

@@ -7,12 +7,14 @@ use Rattle.usb_device.specs.{state_on, held_addresses, repeats, Reply, Way}
 use Rattle.usb_world.specs.{Attempt, Damage, ports_in, World, at_attempt, with_attempt, attempt}
 use Rattle.usb_world.specs.{after, IsMade, HolderIn, is_setup, damage_in, made_resets, resets}
 use Rattle.usb_world.specs.{token_way, payload_way, answer_way, IsSetup, IsOut, IsIn, hears_attempt}
-use Rattle.usb_world.specs.{Relation, Was, EachWas, Ways, DidIn, DidOut, DidSetup}
-use Rattle.usb_tree.specs.{address_of, same_number, same_path, reset_if, deep_at, NobodyHolds}
+use Rattle.usb_world.specs.{Relation, Was, EachWas, Ways, DidIn, DidOut, DidSetup, address_of}
+use Rattle.usb_world.specs.{same_number, same_path, reset_if, deep_at, NobodyHolds}
 use Rattle.usb_world.proofs.addresses.AddressesKept.{data_calm, ready_stood}
 use Rattle.usb_world.proofs.packets.Packets.{forgotten_ports, stands, state_stands}
 use Rattle.usb_world.proofs.courses.Courses.{made_reach}
-use Rattle.usb_tree.proofs.Interface.{is_twice-one_path, both, decided, same_equal, swapped}
+use Rattle.usb_world.proofs.TreeHolders.{is_twice-one_path}
+use Rattle.usb_world.proofs.Booleans.{both, decided}
+use Rattle.usb_world.proofs.Equality.{same_equal, swapped}
 use Rattle.usb_world.proofs.holders.OneHolder.{acts, Holder, holder_holds}
 use Rattle.usb_world.proofs.holders.OneHolderAttempts.{made_is, holder_in, ready_settled, made_true}
 use Rattle.usb_world.proofs.holders.OneHolderAttempts.{nobody_in, silent_in, others_in, setup_in}

@@ -17,10 +17,9 @@ use Rattle.usb_world.specs.{sent_as, goes_out, payload_out, ports_in, World, at_
 use Rattle.usb_world.specs.{with_attempt, attempt, after, way_to, token_way, payload_way, IsSetup}
 use Rattle.usb_world.specs.{HolderIn, setup_asked, token_out, is_made, made_resets, resets}
 use Rattle.usb_world.specs.{step_keeps_pending, sent_leaves, leaves_step, AsksNothing}
-use Rattle.usb_world.specs.{is_port_request, is_sparing, is_above}
-use Rattle.usb_tree.specs.{deep_at, same_number, same_path, is_way, after_sent, IfOut}
-use Rattle.usb_tree.specs.{sent_keeps_pending, sent_resets, effect_resets, effect_keeps_pending}
-use Rattle.usb_tree.specs.{leaves_port}
+use Rattle.usb_world.specs.{is_port_request, is_sparing, is_above, deep_at, same_number, same_path}
+use Rattle.usb_world.specs.{is_way, after_sent, IfOut, sent_keeps_pending, sent_resets}
+use Rattle.usb_world.specs.{effect_resets, effect_keeps_pending, leaves_port}
 use Rattle.usb_world.proofs.packets.Packets.{CalmOut}
 use Rattle.usb_world.proofs.holders.OneHolder.{rests, asked_of, effect, placed, token_of-fields}
 use Rattle.usb_world.proofs.holders.OneHolder.{data_is, token_comes, through_spec, way_same}
@@ -29,8 +28,9 @@ use Rattle.usb_world.proofs.holders.OneHolder.{holder_holds}
 use Rattle.usb_world.proofs.holders.OneHolderAttempts.{first_silent, silent_one, made_is, holder_in}
 use Rattle.usb_device.proofs.Interface.{same_number as equal_itself}
 use Rattle.usb_world.proofs.holders.OneDevice.{sent_to_one, alone_holder, rested_effect}
-use Rattle.usb_tree.proofs.Interface.{false_true, both, decided, and_false, not-true, OnWay}
-use Rattle.usb_tree.proofs.Interface.{spares_if, way_leaves-on_way, resets_if, self_number}
+use Rattle.usb_world.proofs.Booleans.{false_true, both, decided, and_false, not-true}
+use Rattle.usb_world.proofs.OnWays.{OnWay, spares_if, way_leaves-on_way, resets_if}
+use Rattle.usb_world.proofs.Equality.{self_number}
 use Rattle.usb_world.proofs.courses.Courses.{goes}
 use Rattle.usb_world.proofs.ways.Ways.{same_number-is, same_is, way_on}
 use Rattle.usb_world.proofs.ports.PortRequests.{Allows, AllowsOut, PayloadAllows, sent_allowed}

@@ -8,13 +8,14 @@ use Rattle.usb_device.specs.{Leaves, forgotten, reset_state, asks, ended, full, 
 use Rattle.usb_device.specs.{place_on, reach_on, asked_by, answer_of, effect_of, after_packet}
 use Rattle.usb_device.specs.{listed, all_forgotten, Place, answers, sent_in, forgotten_in}
 use Rattle.usb_device.specs.{changed_at, path_to}
-use Rattle.usb_tree.specs.{same_number, same_path, address_of, resets_at, reset_if, after_sent}
-use Rattle.usb_tree.specs.{answers_to, after_attempt, deep_at, calls_on, IsTokenFor, IsDataOut}
-use Rattle.usb_tree.specs.{IsAckOut, IfOut, IsAttemptAt, sent_resets, attempt_resets, IsSettled}
-use Rattle.usb_tree.specs.{NobodyHolds, OneHolds, OthersForgot, Alone, AloneAt}
-use Rattle.usb_tree.proofs.Interface.{false_true, both, and_of, decided, is_twice-one_path}
-use Rattle.usb_tree.proofs.Interface.{equal_same, self_number, self_path, reset_if-false}
-use Rattle.usb_tree.proofs.Interface.{forgotten-nothing}
+use Rattle.usb_world.specs.{same_number, same_path, address_of, resets_at, reset_if, after_sent}
+use Rattle.usb_world.specs.{answers_to, after_attempt, deep_at, calls_on, IsTokenFor, IsDataOut}
+use Rattle.usb_world.specs.{IsAckOut, IfOut, IsAttemptAt, sent_resets, attempt_resets, IsSettled}
+use Rattle.usb_world.specs.{NobodyHolds, OneHolds, OthersForgot, Alone, AloneAt}
+use Rattle.usb_world.proofs.Booleans.{false_true, both, and_of, decided}
+use Rattle.usb_world.proofs.TreeHolders.{is_twice-one_path}
+use Rattle.usb_world.proofs.Equality.{equal_same, self_number, self_path}
+use Rattle.usb_world.proofs.States.{reset_if-false, forgotten-nothing}
 use Rattle.usb_world.proofs.packets.Packets.{stands, state_stands, packet_state, true_deep}
 use Rattle.usb_world.proofs.packets.Packets.{heard_state, calm_token as token_out}
 use Rattle.usb_world.proofs.packets.Packets.{calm_ack as ack_out, calm_sent, rested_answer}

@@ -24,8 +24,8 @@ use Rattle.usb_world.specs.{payload_way, answer_way, reply_way, out_alone, in_al
 use Rattle.usb_world.specs.{IsIn}
 use Rattle.usb_world.specs.declared.types.Outcome.TheVariants as outcome
 use Rattle.usb_world.specs.declared.exchange.ExchangeAnswer.TheVariants.{Nothing}
-use Rattle.usb_tree.specs.{address_of, after_sent, answers_to, heard_by, deep_at, IsSettled}
-use Rattle.usb_tree.specs.{NobodyHolds, OneHolds, Found}
+use Rattle.usb_world.specs.{address_of, after_sent, answers_to, heard_by, deep_at, IsSettled}
+use Rattle.usb_world.specs.{NobodyHolds, OneHolds, Found}
 use Rattle.usb_world.proofs.packets.Packets.{CalmOut, calm_token as token_calm}
 use Rattle.usb_world.proofs.packets.Packets.{calm_ack as ack_calm, stands, state_stands}
 use Rattle.std.proofs.lemmas.Option.{same_Some}

@@ -6,8 +6,10 @@ use Rattle.usb_device.specs.{paths_at, holder_among, holder_of}
 use Rattle.std.proofs.Common.{inl, inr, arith, ◌≡◌, ℕ, suc, ◌+◌, ◌&&◌, if◌then◌else◌, Bool, true}
 use Rattle.std.proofs.Common.{false, List, [], ◌∷◌, ◌++◌, Option, None, Some, is_some, refl, ap}
 use Rattle.std.proofs.Common.{ap₂, sym, subst, ◌∙◌, ◌⊎◌, ◌≤◌, length, ◌==◌, option_map}
-use Rattle.usb_tree.proofs.Interface.{decided, unequal, same_equal, who_holds, false_true}
-use Rattle.usb_tree.proofs.Interface.{equal_same, swapped, occurs, one_if, occurs-reached}
+use Rattle.usb_world.proofs.Booleans.{decided, false_true}
+use Rattle.usb_world.proofs.Equality.{unequal, same_equal, equal_same, swapped}
+use Rattle.usb_world.proofs.HolderOfAddress.{who_holds}
+use Rattle.usb_world.proofs.TreeHolders.{occurs, one_if, occurs-reached}
 use Rattle.usb_packet.specs.{Packet, Token, Toggle, InTok, TokenKind, OutTok, SetupTok}
 use Rattle.usb_packet.specs.declared.Packet.TheVariants as packet
 use Rattle.usb_port.specs.{PortState}
@@ -26,9 +28,9 @@ use Rattle.usb_world.specs.{exchange_in, made_in, IsAttempt, sends_data, Exchang
 use Rattle.usb_world.specs.{lost_in, cleared_in, reply_of, Exchanged, silent_exchange}
 use Rattle.usb_world.specs.declared.types.Outcome.TheVariants as outcome
 use Rattle.usb_world.specs.declared.wire.Mark.TheVariants as mark
-use Rattle.usb_tree.specs.{same_number, same_path, reset_if, heard_by, deep_at, attempt_resets}
-use Rattle.usb_tree.specs.{IsSettled, NobodyHolds, after_sent, answers_to, IfOut, IsTokenFor}
-use Rattle.usb_tree.specs.{address_of}
+use Rattle.usb_world.specs.{same_number, same_path, reset_if, heard_by, deep_at, attempt_resets}
+use Rattle.usb_world.specs.{IsSettled, NobodyHolds, after_sent, answers_to, IfOut, IsTokenFor}
+use Rattle.usb_world.specs.{address_of}
 use Rattle.usb_world.proofs.courses.Courses.{settled_steps, goes}
 use Rattle.usb_world.proofs.courses.LiftedSteps.{over_ready, ready_beside}
 use Rattle.usb_world.proofs.holders.OneHolder.{replied, outcome_unread, remembers, acts, rests}

@@ -10,7 +10,7 @@ use Rattle.usb_device.specs.{reset_state, begun, payload_row, data_row, in_other
 use Rattle.usb_device.specs.{awaits_control, ends_with_address, awaits_address, Ports, ended}
 use Rattle.usb_device.specs.{vacant, taken, all_off, acted, called, changed_at, row_of, hears}
 use Rattle.usb_device.specs.{reply_to, answer_of, after_packet, has_loss}
-use Rattle.usb_tree.specs.{after_sent, IfOut, IsDataOut, IsAckOut}
+use Rattle.usb_world.specs.{after_sent, IfOut, IsDataOut, IsAckOut}
 use Rattle.usb_world.proofs.courses.Courses.{Rests}
 use Rattle.usb_world.proofs.packets.Packets.{calm_token as token_rests}
 use Rattle.usb_device.proofs.Interface.{answer-spec}

@@ -10,14 +10,14 @@ use Rattle.usb_device.specs.{answer_of, effect_of, Effect, full, before, acted, 
 use Rattle.usb_device.specs.{delivered_device, on_port, Stopped, behind_empty, behind, below, here}
 use Rattle.usb_world.specs.{Damage, Attempt, Mark, marked, marked_some, token_of, payload_of}
 use Rattle.usb_world.specs.{sent_as, token_out, payload_out, IsAttempt, sends_data, IsCut}
+use Rattle.usb_world.specs.{IsDataOut, IfOut, IsSettled, after_sent}
 use Rattle.usb_packet.specs.{Packet, Token, Payload, Toggle, OutTok, SetupTok, TokenKind, InTok}
 use Rattle.usb_device.specs.declared.transfer.RememberedPacket.TheVariants.{Nothing, SetupSeen}
 use Rattle.usb_device.specs.declared.transfer.RememberedPacket.TheVariants.{OutSeen}
-use Rattle.usb_tree.specs.{IsDataOut, IfOut, IsSettled, after_sent}
 use Rattle.usb_packet.specs.declared.Packet.TheVariants as packet
 use Rattle.usb_device.specs.declared.delivery.Content.TheVariants as content
 use Rattle.usb_device.specs.declared.delivery.Heard.TheVariants.{NoAnswer}
-use Rattle.usb_tree.proofs.Interface.{false_true}
+use Rattle.usb_world.proofs.Booleans.{false_true}
 use Rattle.usb_world.proofs.courses.Courses.{Rests, rests, goes}
 
 -- Trees that differ in what their devices remember and in how far their transfers are, but not in

@@ -9,22 +9,23 @@ use Rattle.usb_device.specs.{full, reach_at, state_at, place_at, acted, empty, a
 use Rattle.usb_device.specs.{after_packet, Sent, Place, port_at, Content, Whole, Broken, forgotten}
 use Rattle.usb_device.specs.{received, unread, asks, all_off, reply_to, asked_by, all_forgotten}
 use Rattle.usb_device.specs.{asks_clearing, clears_change}
-use Rattle.usb_tree.specs.{has_power_at, pending_at, IsNew, takes_reset, effect_resets, resets_at}
-use Rattle.usb_tree.specs.{reset_if, effect_keeps_pending, packet_keeps_pending, deep_at}
-use Rattle.usb_tree.specs.{leaves_port, way_leaves, after_sent, after_attempt, calls_on, IsTokenFor}
-use Rattle.usb_tree.specs.{IsAckOut, IfOut, IsAttemptAt, sent_resets, sent_keeps_pending}
-use Rattle.usb_tree.specs.{attempt_resets, attempt_keeps_pending, IsSettled}
-use Rattle.usb_tree.proofs.Interface.{and_kept, either_of, neither, false_true, reset_if-false}
-use Rattle.usb_tree.proofs.Interface.{spares_if, resets_if, and_false, neither_of}
-use Rattle.usb_tree.proofs.Interface.{way_leaves-on_way}
+use Rattle.usb_world.specs.{has_power_at, pending_at, IsNew, takes_reset, effect_resets, resets_at}
+use Rattle.usb_world.specs.{reset_if, effect_keeps_pending, packet_keeps_pending, deep_at}
+use Rattle.usb_world.specs.{leaves_port, way_leaves, after_sent, after_attempt, calls_on}
+use Rattle.usb_world.specs.{IsTokenFor, IsAckOut, IfOut, IsAttemptAt, sent_resets}
+use Rattle.usb_world.specs.{sent_keeps_pending, attempt_resets, attempt_keeps_pending, IsSettled}
+use Rattle.usb_world.specs.{Mark, sent_as, Consistent, Attempt, token_out, payload_out, clears_at}
+use Rattle.usb_world.specs.{World, at_attempt, damage_in, attempt, resets, step_keeps_pending}
+use Rattle.usb_world.specs.{sent_leaves, leaves_step, AsksNothing}
+use Rattle.usb_world.proofs.Booleans.{and_kept, either_of, neither, false_true, and_false}
+use Rattle.usb_world.proofs.Booleans.{neither_of}
+use Rattle.usb_world.proofs.States.{reset_if-false}
+use Rattle.usb_world.proofs.OnWays.{spares_if, resets_if, way_leaves-on_way}
 use Rattle.usb_world.proofs.ports.PortCalls.{off_way, ResetIf, same_reset, call_way, KeepsPending}
 use Rattle.usb_world.proofs.ports.PortCalls.{pending_kept, call_kept, same_way-behind, SamePorts}
 use Rattle.usb_world.proofs.ports.PortCalls.{same_ports, called_apart, passed_ports}
 use Rattle.usb_packet.specs.{Packet}
 use Rattle.usb_device.specs.declared.transfer.RememberedPacket.TheVariants.{Nothing}
-use Rattle.usb_world.specs.{Mark, sent_as, Consistent, Attempt, token_out, payload_out, clears_at}
-use Rattle.usb_world.specs.{World, at_attempt, damage_in, attempt, resets, step_keeps_pending}
-use Rattle.usb_world.specs.{sent_leaves, leaves_step, AsksNothing}
 use Rattle.usb_world.proofs.ports.SanePorts.{sane_packet, sane_forgotten}
 
 -- a device's own state after a packet, which reaches it or does not

@@ -5,10 +5,10 @@ use Rattle.usb_port.specs.{PortState, PortCall, is_attached, powered_off, called
 use Rattle.usb_device.specs.{State, Ports, ended, vacant, taken, empty, full, before, changed_at}
 use Rattle.usb_device.specs.{called, reach_at, state_at, port_at, changed, reach, port_there}
 use Rattle.usb_device.specs.{state_there, place_at, Place, reset_state, all_off}
-use Rattle.usb_world.specs.{root_leaves, way_of}
-use Rattle.usb_tree.specs.{has_power_at, pending_at, is_way, on_way, same_number, IsNew}
-use Rattle.usb_tree.specs.{call_resets, reset_if, keeps_pending, call_keeps_pending}
-use Rattle.usb_tree.proofs.Interface.{not-true, and_false, and_wider, or_wider}
+use Rattle.usb_world.specs.{root_leaves, way_of, has_power_at, pending_at, is_way, on_way}
+use Rattle.usb_world.specs.{same_number, IsNew, call_resets, reset_if, keeps_pending}
+use Rattle.usb_world.specs.{call_keeps_pending}
+use Rattle.usb_world.proofs.Booleans.{not-true, and_false, and_wider, or_wider}
 
 -- A change at a place: the place then, and that a way that does not lead there stays. One walk
 -- answers all that is asked.

@@ -18,10 +18,9 @@ use Rattle.usb_port.specs.{PortCall, set_call, clear_call, is_reset}
 use Rattle.usb_device.specs.declared.transfer.RememberedPacket.TheVariants.{SetupSeen}
 use Rattle.usb_device.proofs.Interface.{asked_own-any}
 use Rattle.usb_world.specs.{Damage, Attempt, marked, marked_some, payload_of, payload_out}
-use Rattle.usb_world.specs.{asks_no_port, is_harmless}
-use Rattle.usb_tree.specs.{IfOut, effect_resets, resets_at}
+use Rattle.usb_world.specs.{asks_no_port, is_harmless, IfOut, effect_resets, resets_at}
 use Rattle.usb_world.proofs.packets.Packets.{is_left}
-use Rattle.usb_tree.proofs.Interface.{resets_if}
+use Rattle.usb_world.proofs.OnWays.{resets_if}
 
 abbrev pub payload_asks_no_port : Option (Toggle × ArrayVec ℕ) → Bool
 payload_asks_no_port None = true

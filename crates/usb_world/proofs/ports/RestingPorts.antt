@@ -11,10 +11,10 @@ use Rattle.usb_world.specs.{Action, Attempt, ports_in, World, after_change, way_
 use Rattle.usb_world.specs.{after_event, at_attempt, damage_in, with_attempt, Course, made_resets}
 use Rattle.usb_world.specs.{root_resets, sent_leaves, made_leaves, root_leaves, leaves_step}
 use Rattle.usb_world.specs.{LeavesPort, row_reached, StillSet, spec_of, KeepsPendingAt, SameAt}
-use Rattle.usb_world.specs.{LeavesPortAlone, UnchangedOrPending, SameDeviceOrPending}
-use Rattle.usb_tree.specs.{is_way, same_number, after_sent, after_attempt, sent_resets, IsAttemptAt}
-use Rattle.usb_tree.specs.{effect_resets, resets_at, leaves_port, way_leaves, has_power}
-use Rattle.usb_tree.proofs.Interface.{false_true, both, decided}
+use Rattle.usb_world.specs.{LeavesPortAlone, UnchangedOrPending, SameDeviceOrPending, is_way}
+use Rattle.usb_world.specs.{same_number, after_sent, after_attempt, sent_resets, IsAttemptAt}
+use Rattle.usb_world.specs.{effect_resets, resets_at, leaves_port, way_leaves, has_power}
+use Rattle.usb_world.proofs.Booleans.{false_true, both, decided}
 use Rattle.usb_world.proofs.ways.Ways.{same_number-is}
 use Rattle.usb_world.proofs.packets.Packets.{way_ports, calm_token as token_calm}
 use Rattle.usb_world.proofs.packets.Packets.{calm_ack as ack_calm, forgotten_ports, calm_leaves}

@@ -10,10 +10,9 @@ use Rattle.usb_device.specs.{first_ports, called, replaced, changed, changed_at,
 use Rattle.usb_device.specs.{state_at, port_at, place_at, row_of, after_packet, all_forgotten}
 use Rattle.usb_device.specs.{Place}
 use Rattle.usb_device.proofs.Interface.{answer-spec, row_of-after, row_of-forgotten}
-use Rattle.usb_tree.specs.{has_power_at}
-use Rattle.usb_world.specs.{hub_ports, spec_of, IsSanePort, Consistent, ConsistentPlace}
-use Rattle.usb_world.specs.{HasItsPorts}
-use Rattle.usb_tree.proofs.Interface.{both, false_true}
+use Rattle.usb_world.specs.{has_power_at, hub_ports, spec_of, IsSanePort, Consistent}
+use Rattle.usb_world.specs.{ConsistentPlace, HasItsPorts}
+use Rattle.usb_world.proofs.Booleans.{both, false_true}
 use Rattle.usb_world.proofs.courses.Counts.{acted_long, first_long, off_long, row_long_at}
 
 -- Ports

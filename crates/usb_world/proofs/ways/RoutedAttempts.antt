@@ -1,9 +1,7 @@
 -- An attempt that goes straight to the one device that it is for.
-use Rattle.usb_world.proofs.holders.OneDevice.{IsFull, reach-full, full_state, step_in}
-use Rattle.usb_world.proofs.holders.OneDevice.{sent_to_one}
+use Rattle.usb_world.proofs.holders.OneDevice.{IsFull, reach-full, full_state, step_in, sent_to_one}
 use Rattle.usb_world.proofs.holders.OneDevice.{sent_place, end_is, all_is, others_rest}
-use Rattle.usb_world.proofs.holders.OneDevice.{others_forget, alone_sent, second_alone}
-use Rattle.usb_world.proofs.holders.OneDevice.{third_alone}
+use Rattle.usb_world.proofs.holders.OneDevice.{others_forget, alone_sent, second_alone, third_alone}
 use Rattle.usb_world.proofs.holders.OneDevice.{last_alone}
 use Rattle.std.proofs.Common.{arith, ◌≡◌, ℕ, zero, suc, Bool, true, false, List, [], ◌∷◌, ◌++◌}
 use Rattle.std.proofs.Common.{Option, None, Some, is_some, option_map, IsSome, nat_eq, refl, ap}
@@ -30,9 +28,10 @@ use Rattle.usb_world.specs.{marked_some, ack_if, token_of, payload_of, answer_pl
 use Rattle.usb_world.specs.{goes_out, heard_in, place_of_answer, mark_in, reply_in, answered_in}
 use Rattle.usb_world.specs.{is_lost, lost_in, clears_at, cleared_in, exchange_in, StaysPlugged}
 use Rattle.usb_world.specs.{Exchanged, IsStopped, heard_above, host_side, keeps_address, IsCut}
-use Rattle.usb_tree.specs.{address_of, after_sent, deep_at, IsSettled, Alone, is_whole_tree}
-use Rattle.usb_tree.specs.{without_port, IsQuiet, KeptAt, answers_to, AloneAt, is_deep}
-use Rattle.usb_tree.proofs.Interface.{false_true, equal_same, both as both_true}
+use Rattle.usb_world.specs.{address_of, after_sent, deep_at, IsSettled, Alone, is_whole_tree}
+use Rattle.usb_world.specs.{without_port, IsQuiet, KeptAt, answers_to, AloneAt, is_deep}
+use Rattle.usb_world.proofs.Booleans.{false_true, both as both_true}
+use Rattle.usb_world.proofs.Equality.{equal_same}
 use Rattle.usb_world.proofs.packets.Packets.{calm_token as token_calm, calm_ack as ack_calm}
 use Rattle.usb_world.proofs.holders.HolderPorts.{calm_asked}
 use Rattle.usb_world.proofs.holders.OneHolder.{asked_of}

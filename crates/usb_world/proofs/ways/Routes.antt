@@ -1,7 +1,8 @@
 -- A packet that goes straight to the one device that it is for does what it does in the whole tree.
 use Rattle.usb_world.proofs.attempts.Exchanges.{after_sent-plugged, stays_plugged_refl}
 use Rattle.usb_world.specs.{SentAlong, StaysPlugged, Attempt, Damage, token_out, clears_at}
-use Rattle.usb_world.specs.{IsStopped}
+use Rattle.usb_world.specs.{IsStopped, after_sent, answers_to, deep_at, IsSettled, OthersForgot}
+use Rattle.usb_world.specs.{Alone, AloneAt, IsWayTo, is_whole_tree, is_deep}
 use Rattle.std.proofs.Common.{◌||◌, arith, ◌≡◌, ℕ, zero, suc, ◌&&◌, Bool, true, false, List}
 use Rattle.std.proofs.Common.{[], ◌∷◌, Option, None, Some, Result, Ok, Err, OnOk, OnErr, refl, ap}
 use Rattle.std.proofs.Common.{sym, subst, ◌∙◌}
@@ -15,10 +16,7 @@ use Rattle.usb_device.specs.{asks_clearing, clears_change, sent_in, answer_by, R
 use Rattle.usb_device.specs.{effect_by}
 use Rattle.usb_device.specs.{forgotten_in, is_held_at, Place}
 use Rattle.usb_device.specs.declared.transfer.RememberedPacket.TheVariants.{Nothing}
-use Rattle.usb_tree.specs.{after_sent, answers_to, deep_at, IsSettled, OthersForgot, Alone}
-use Rattle.usb_tree.specs.{AloneAt}
-use Rattle.usb_tree.specs.{IsWayTo, is_whole_tree, is_deep}
-use Rattle.usb_tree.proofs.Interface.{false_true, or_nothing}
+use Rattle.usb_world.proofs.Booleans.{false_true, or_nothing}
 use Rattle.usb_world.proofs.packets.Packets.{true_deep, rested_answer, clears_if}
 use Rattle.usb_world.proofs.packets.AwaitedAcks.{rests_loss, rest_awaits}
 use Rattle.usb_world.proofs.courses.Courses.{each_rests, goes}

@@ -9,9 +9,10 @@ use Rattle.usb_port.specs.{is_below as is_port_below, parent_of}
 use Rattle.usb_port.proofs.Interface.{is_below-extension, rejoined}
 use Rattle.usb_device.specs.{Spec, Ports, vacant, taken, reach, reach_at}
 use Rattle.usb_world.specs.{Action, Event, NoneNames, Undisturbed, names_path, way_of, World}
-use Rattle.usb_tree.specs.{is_way, same_number, same_path}
-use Rattle.usb_tree.proofs.Interface.{false_true, both, or_left, or_right, either_of, same_bools}
-use Rattle.usb_tree.proofs.Interface.{and_kept, self_number}
+use Rattle.usb_world.specs.{is_way, same_number, same_path}
+use Rattle.usb_world.proofs.Booleans.{false_true, both, or_left, or_right, either_of, same_bools}
+use Rattle.usb_world.proofs.Booleans.{and_kept}
+use Rattle.usb_world.proofs.Equality.{self_number}
 
 -- Paths that are the same
 

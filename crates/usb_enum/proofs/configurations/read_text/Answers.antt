@@ -2,7 +2,7 @@ use Rattle.usb_enum.proofs.stops.PlainStops.{answered_plain}
 use Rattle.usb_enum.specs.{BadDevice, bad_text, Stalled, config_fault}
 use Rattle.std.proofs.Common.{◌∙◌, ◌≤◌, arith, inl, inr, length, refl, rules, subst, sym}
 use Rattle.usb_hub.specs.{config_given}
-use Rattle.usb_pipe.proofs.Interface.{uses_as}
+use Rattle.usb_transfer.proofs.Interface.{uses_as}
 use Rattle.usb_enum.proofs.readings.Readings.{config_refused, total_large, good_bytes, learns_on}
 use Rattle.usb_enum.proofs.readings.Readings.{bytes_learned, configuration_of_total, text_malformed}
 use Rattle.usb_enum.proofs.Parts.{asking, gone_asked, gone_stopped, gone_then, gone_wider}

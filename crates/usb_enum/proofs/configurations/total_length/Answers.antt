@@ -3,7 +3,7 @@ use Rattle.usb_enum.specs.{BadDevice, bad_total, Stalled}
 use Rattle.std.proofs.Common.{◌∙◌, ap, refl, sym}
 use Rattle.usb_descriptor.specs.{config_head_of}
 use Rattle.usb_hub.specs.{config_given}
-use Rattle.usb_pipe.proofs.Interface.{uses_as}
+use Rattle.usb_transfer.proofs.Interface.{uses_as}
 use Rattle.usb_enum.proofs.readings.Readings.{config_refused, total_refused, text_learned}
 use Rattle.usb_enum.proofs.Parts.{gone_asked, gone_stopped}
 use Rattle.usb_enum.proofs.readings.TextLengths.{config_there}

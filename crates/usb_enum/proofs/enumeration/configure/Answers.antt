@@ -19,7 +19,7 @@ use Rattle.usb_enum.proofs.readings.TextLengths.{few_then, few_wider}
 use Rattle.usb_enum.specs.declared.cause.Request.TheVariants.{SetConfig}
 use Rattle.usb_enum.proofs.stops.Reasons.{told_after, write_stop_told}
 use Rattle.usb_enum.proofs.stops.Stops.{fits_stop, hub_stops, stops_by, texts_stops}
-use Rattle.usb_pipe.specs.{write_bound}
+use Rattle.usb_transfer.specs.{write_bound}
 use Rattle.usb_enum.proofs.enumeration.configure.Goals as goal
 
 all_within : (most : ℕ) → texts_bound most + (write_bound + hub_bound + strings_bound)

@@ -6,7 +6,7 @@ use Rattle.usb_enum.proofs.devices.SaidBytes.{said_found, said_on}
 use Rattle.usb_bus.proofs.Interface.{went_wider}
 use Rattle.usb_hub.proofs.Interface.{is_asked_stays}
 use Rattle.usb_enum.proofs.courses.Courses.{went_on_more, went_steps}
-use Rattle.usb_resources.specs.{HasAddresses, IsFull}
+use Rattle.usb_port.specs.{HasAddresses, IsFull}
 use Rattle.usb_enum.proofs.stops.Endings.{zero_untaken, zero_before, free_untaken, enumerated}
 use Rattle.usb_enum.proofs.stops.Endings.{found_true, device_placed, few_made, few_unaddressed}
 use Rattle.usb_enum.proofs.stops.Endings.{stopped_ends}

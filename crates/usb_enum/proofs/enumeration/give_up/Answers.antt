@@ -6,7 +6,7 @@ use Rattle.usb_request.specs.{PORT_ENABLE}
 use Rattle.usb_enum.specs.{FaultBy}
 use Rattle.usb_enum.proofs.courses.Courses.{went_steps}
 use Rattle.usb_enum.proofs.courses.Losses.{clear_goes}
-use Rattle.usb_pipe.proofs.Interface.{uses_as, uses_none}
+use Rattle.usb_transfer.proofs.Interface.{uses_as, uses_none}
 use Rattle.usb_enum.proofs.devices.ReachedDevices.{done_at}
 use Rattle.usb_enum.proofs.stops.Reasons.{call_ends, fault_by}
 use Rattle.usb_enum.proofs.stops.PlainStops.{port_reported}

@@ -1,5 +1,5 @@
 use Rattle.std.proofs.Common.{◌≡◌, ◌+◌, true, arith, refl}
-use Rattle.usb_pipe.specs.{write_bound}
+use Rattle.usb_transfer.specs.{write_bound}
 use Rattle.usb_enum.proofs.ports.Hubs.{powered_more, learns_stays, has_earlier}
 use Rattle.usb_enum.proofs.Parts.{gone_again, gone_more, gone_none, gone_times, part_failed}
 use Rattle.usb_enum.proofs.Parts.{telling}

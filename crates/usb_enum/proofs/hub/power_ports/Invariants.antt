@@ -1,5 +1,5 @@
 use Rattle.std.proofs.Common.{◌*◌, ◌≡◌, None, true}
-use Rattle.usb_pipe.specs.{write_bound}
+use Rattle.usb_transfer.specs.{write_bound}
 use Rattle.usb_enum.specs.{Gone, OnlyTells, Powered}
 use Rattle.usb_enum.proofs.hub.power_ports.Given as goal
 

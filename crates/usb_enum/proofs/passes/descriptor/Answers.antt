@@ -8,7 +8,7 @@ use Rattle.usb_enum.proofs.readings.Heads.{descriptor_refused, device_read, no_a
 use Rattle.usb_enum.proofs.readings.Heads.{refused_who, short_device}
 use Rattle.usb_enum.proofs.refusals.Refusals.{answered_ok, failed, request_refused}
 use Rattle.usb_enum.proofs.stops.PlainStops.{answered_early, device_good, device_reported}
-use Rattle.usb_pipe.specs.declared.fault.PipeFault.TheVariants.{NoAnswer}
+use Rattle.usb_transfer.specs.declared.fault.PipeFault.TheVariants.{NoAnswer}
 use Rattle.usb_hub.specs.{device_given}
 use Rattle.usb_enum.proofs.Parts.{gone_asked, gone_ended, gone_on, gone_stopped}
 use Rattle.usb_request.specs.{get_device_descriptor}

@@ -9,7 +9,7 @@ use Rattle.usb_enum.proofs.devices.Presence.{reset_finds}
 use Rattle.usb_enum.proofs.devices.ReachedDevices.{done_at, reset_reaches}
 use Rattle.usb_enum.proofs.courses.Fairness.{called_faulted, faulted_after, status_faulted}
 use Rattle.usb_enum.proofs.stops.StopReasons.{reset_goes, reset_lost, settle_failed}
-use Rattle.usb_tree.proofs.Interface.{not-true}
+use Rattle.usb_world.proofs.Interface.{not-true}
 use Rattle.usb_enum.proofs.stops.Reasons.{fault_after, fault_by}
 use Rattle.usb_enum.proofs.passes.reset.Goals as goal
 

@@ -9,7 +9,7 @@ use Rattle.usb_enum.proofs.devices.ReachedDevices.{reaches_rest}
 use Rattle.usb_enum.proofs.stops.StopReasons.{head_stops}
 use Rattle.usb_enum.proofs.courses.Losses.{no_stretch_then}
 use Rattle.usb_enum.proofs.stops.Reasons.{at_after, stop_told_at, told_faults}
-use Rattle.usb_transaction.specs.{Target}
+use Rattle.usb_transfer.specs.{Target}
 use Rattle.usb_enum.proofs.refusals.Refusals.{failed}
 use Rattle.usb_enum.proofs.passes.unaddressed.Goals as goal
 use Rattle.usb_enum.proofs.passes.unaddressed.Goals.{then-low, else-low}

@@ -1,8 +1,8 @@
 use Rattle.std.proofs.Common.{◌∙◌, ◌+◌, Option, refl, sym, subst, ap, ap₂}
 use Rattle.usb_device.specs.{Sent, both, heard_of}
 use Rattle.usb_world.specs.{harm_to, marked_some, answer_mark, clears_at, goes_out, Outgoing}
-use Rattle.usb_world.specs.{attempt_data, heard_above, reply_of, IsStopped}
-use Rattle.usb_tree.specs.{after_sent, answers_to, IfOut, IsDataOut, IsAckOut}
+use Rattle.usb_world.specs.{attempt_data, heard_above, reply_of, IsStopped, after_sent, answers_to}
+use Rattle.usb_world.specs.{IfOut, IsDataOut, IsAckOut}
 use Rattle.usb_world.proofs.attempts.Exchanges.{Makes, made_exchange, made_ports}
 use Rattle.usb_world.proofs.attempts.Refusals.{token_not_stopped, reply_not_stopped}
 use Rattle.usb_world.proofs.holders.OneDevice.{alone_data, alone_ack}

@@ -1,8 +1,7 @@
 use Rattle.std.proofs.Common.{◌≡◌, true, arith, length, ap, sym, ◌∙◌}
 use Rattle.std.proofs.lemmas.Result.{IfOk-weaker}
 use Rattle.usb_function.specs.{holder_in, IsIndexOf}
-use Rattle.usb_tree.specs.{KeptAt}
-use Rattle.usb_world.specs.{Destination, attempt_data}
+use Rattle.usb_world.specs.{KeptAt, Destination, attempt_data}
 use Rattle.usb_world.proofs.ways.Routes.{alone_token}
 use Rattle.usb_exchange.proofs.ways.Routes.{way_by_index}
 use Rattle.usb_exchange.proofs.ways.RoutedAttempts.{index_kept}

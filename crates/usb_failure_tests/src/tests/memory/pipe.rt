@@ -4,7 +4,7 @@ ghost use Rattle.std.specs.Prelude.{◌≡◌, true};
 use super::{TARGET, TestBus, configure, plugged};
 use std::alloc::Global;
 use std::test::Fail;
-use usb_pipe::{EndpointKind, EndpointPipe, PipeFault, UsableEndpoint};
+use usb_transfer::{EndpointKind, EndpointPipe, PipeFault, UsableEndpoint};
 
 /// The pipe from bulk IN 2.
 fn pipe() -> EndpointPipe

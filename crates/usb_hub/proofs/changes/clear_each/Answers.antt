@@ -1,6 +1,6 @@
 use Rattle.std.proofs.Common.{arith, refl, subst}
 use Rattle.usb_request.specs.{C_HUB_LOCAL_POWER}
-use Rattle.usb_pipe.proofs.Interface.{uses_then, uses_wider}
+use Rattle.usb_transfer.proofs.Interface.{uses_then, uses_wider}
 use Rattle.usb_hub.specs.{ClearsIfReported, both, first_failed}
 use Rattle.std.proofs.lemmas.Result.{err_from_is_err_and}
 use Rattle.usb_hub.proofs.changes.clear_each.Goals as goal

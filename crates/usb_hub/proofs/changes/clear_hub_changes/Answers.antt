@@ -1,6 +1,6 @@
 use Rattle.std.proofs.Common.{refl, subst}
 use Rattle.usb_request.specs.{get_hub_status}
-use Rattle.usb_pipe.proofs.Interface.{uses_then}
+use Rattle.usb_transfer.proofs.Interface.{uses_then}
 use Rattle.usb_hub.specs.{hub_status, not_told, told, ReadAs}
 use Rattle.usb_hub.proofs.HubChanges.{told_bus}
 use Rattle.usb_hub.proofs.changes.clear_hub_changes.Goals as goal

@@ -1,5 +1,5 @@
 use Rattle.std.proofs.Common.{refl}
-use Rattle.usb_pipe.proofs.Interface.{uses_none}
+use Rattle.usb_transfer.proofs.Interface.{uses_none}
 use Rattle.usb_hub.proofs.HubChanges.{done_fault_after}
 use Rattle.usb_hub.proofs.changes.clear_port_change.Goals as goal
 

@@ -1,5 +1,5 @@
 use Rattle.std.proofs.Common.{◌≡◌, arith, refl, rules, true}
-use Rattle.usb_pipe.proofs.Interface.{uses_none}
+use Rattle.usb_transfer.proofs.Interface.{uses_none}
 use Rattle.usb_hub.proofs.AddressesKept.{status_keeps, hub_status_keeps}
 use Rattle.usb_hub.proofs.Moments.{root_tells, hub_tells}
 use Rattle.usb_hub.proofs.Ports.{asked-root, asked_port}

@@ -1,6 +1,6 @@
 use Rattle.std.proofs.Common.{rules, arith}
 use Rattle.usb_bus.proofs.Interface.{went_wider}
-use Rattle.usb_pipe.proofs.Interface.{bound_wide}
+use Rattle.usb_transfer.proofs.Interface.{bound_wide}
 use Rattle.usb_table.proofs.control.read_from.Goals as goal
 
 pub returns-clause-any_bus : goal.returns-clause-any_bus

@@ -1,6 +1,6 @@
 use Rattle.usb_host.proofs.StepSums.{handed_is}
 use Rattle.std.proofs.Common.{◌∙◌, ◌*◌, arith}
-use Rattle.usb_pipe.specs.{write_bound}
+use Rattle.usb_transfer.specs.{write_bound}
 use Rattle.usb_host.proofs.PortRequests.{others_fail, others_then}
 use Rattle.usb_host.proofs.host.Host.clear_others.Goals as goal
 

@@ -1,5 +1,5 @@
 use Rattle.std.proofs.Common.{refl, arith}
-use Rattle.usb_address.proofs.Interface.{keeps_none}
+use Rattle.usb_hub.proofs.Interface.{keeps_none}
 use Rattle.usb_host.proofs.PortRequests.{own_by, requested-none}
 use Rattle.usb_hub.specs.{External}
 use Rattle.usb_enum.proofs.Interface.{status_most, ports_reported}

@@ -1,6 +1,6 @@
 use Rattle.std.proofs.Common.{◌≡◌, ◌-◌, ◌*◌, ◌≤◌, length, true, Ok}
-use Rattle.usb_pipe.specs.{write_bound}
-use Rattle.usb_tree.specs.{is_way}
+use Rattle.usb_transfer.specs.{write_bound}
+use Rattle.usb_world.specs.{is_way}
 use Rattle.usb_host.specs.{OnlyBusSteps, PartCall}
 use Rattle.usb_host.proofs.PortDrops.{ClimbedTo}
 use Rattle.usb_host.proofs.host.Host.climb.Given as goal

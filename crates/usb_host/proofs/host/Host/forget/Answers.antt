@@ -1,6 +1,6 @@
 use Rattle.std.proofs.Common.{◌≡◌, ◌∙◌, List, ℕ, sym, ap, subst, arith, rules}
 use Rattle.std.proofs.lemmas.Grind.{common_steps}
-use Rattle.usb_resources.specs.{Addresses, HasAddresses, IsFull}
+use Rattle.usb_port.specs.{Addresses, HasAddresses, IsFull}
 use Rattle.usb_table.proofs.Interface.{none_apart}
 use Rattle.usb_table.specs.{Entries, without, Table, pipes_at}
 use Rattle.usb_world.proofs.Interface.{at_or_below_way}

@@ -1,5 +1,5 @@
 use Rattle.std.proofs.Common.{◌≡◌, length, ℕ, List, false}
-use Rattle.usb_resources.specs.{IsFull, HasAddresses}
+use Rattle.usb_port.specs.{IsFull, HasAddresses}
 use Rattle.usb_host.specs.Accounts.{Accounts}
 use Rattle.usb_table.specs.{is_at_or_below, without, pipes_at}
 use Rattle.usb_host.proofs.host.Host.forget.Given as goal

@@ -1,5 +1,5 @@
 use Rattle.std.proofs.Common.{◌*◌, arith, ◌∙◌, sym}
-use Rattle.usb_pipe.specs.{write_bound}
+use Rattle.usb_transfer.specs.{write_bound}
 use Rattle.usb_host.proofs.PartCalls.{port_after, port_rests}
 use Rattle.usb_host.proofs.StepSums.{handed_is}
 use Rattle.usb_enum.specs.{read_bound}

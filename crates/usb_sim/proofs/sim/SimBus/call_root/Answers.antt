@@ -1,8 +1,7 @@
 use Rattle.std.proofs.Common.{◌≡◌, ℕ, List, length, sym, subst, ap, ◌∙◌, arith, [], ◌∷◌}
 use Rattle.usb_port.specs.{PortCall}
 use Rattle.usb_device.specs.{Ports, row_of, called, changed}
-use Rattle.usb_tree.specs.{IsSettled}
-use Rattle.usb_world.specs.{Consistent}
+use Rattle.usb_world.specs.{IsSettled, Consistent}
 use Rattle.usb_world.proofs.Interface.{row_long, sane_called_at, settled_called}
 use Rattle.usb_sim.proofs.sim.SimBus.call_root.Goals as goal
 

@@ -1,24 +1,21 @@
 use Rattle.std.proofs.Common.{rules, ◌≡◌, ℕ, ◌+◌, ◌||◌, List, Bool, Option, None, refl, sym, subst}
 use Rattle.std.proofs.Common.{ap, ◌∙◌, arith, length}
 use Rattle.usb_device.specs.{Ports, row_of}
-use Rattle.usb_world.specs.{Attempt, Damage, Exchange, damage_of, exchange_in, lost_in}
+use Rattle.usb_world.specs.{Attempt, Damage, Exchange, damage_of, exchange_in, lost_in, Destination}
+use Rattle.usb_world.specs.{attempt_data, AreOfDamages, counted, World, Consistent, IsCut}
+use Rattle.usb_world.specs.{IsAttempt, after_clearing, IsSettled}
 use Rattle.usb_packet.specs.{speed_has_pre}
-use Rattle.usb_world.specs.{Destination, attempt_data}
-use Rattle.usb_world.specs.{AreOfDamages, counted, World, Consistent, IsCut, IsAttempt}
-use Rattle.usb_world.specs.{after_clearing}
 use Rattle.usb_world.specs.declared.losses.Losses.{Losses}
 use Rattle.usb_sim.specs.{world_of}
 use Rattle.usb_bus.specs.{lines_between, step_lines}
 use Rattle.usb_watch.specs.{AppendsFront}
 use Rattle.usb_sim.proofs.Endings.{without_fault, left_at_event, left_at_packet, left_at_line}
-use Rattle.usb_world.proofs.Interface.{losses_after, sane_ports, spends_wider}
-use Rattle.usb_world.proofs.Interface.{until_most}
+use Rattle.usb_world.proofs.Interface.{losses_after, sane_ports, spends_wider, until_most}
 use Rattle.usb_watch.proofs.Interface.{front_after_first}
 use Rattle.std.specs.Io.KnownBytes.{Appends}
 use Rattle.std.proofs.KnownBytes.{Appends-trans}
 use Rattle.usb_sim.proofs.Arrivals.{made_there, lines_alone, writes_alone, writes_told, writes_line}
 use Rattle.usb_sim.proofs.Arrivals.{writes_memory}
-use Rattle.usb_tree.specs.{IsSettled}
 use Rattle.usb_sim.proofs.sim.SimBus.make_attempt.Goals as goal
 
 pub count-requires-clause-all : goal.count-requires-clause-all

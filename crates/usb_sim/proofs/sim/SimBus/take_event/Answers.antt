@@ -3,8 +3,7 @@ use Rattle.std.proofs.Common.{Some, None, Option, Ok, Result, List}
 use Rattle.std.proofs.lemmas.Bool.{and_parts}
 use Rattle.std.specs.List.{list_all}
 use Rattle.usb_device.specs.{Ports, Spec, row_of}
-use Rattle.usb_tree.specs.{IsSettled}
-use Rattle.usb_world.specs.{Action, Consistent, can_come, Event, after_change, BusFault}
+use Rattle.usb_world.specs.{IsSettled, Action, Consistent, can_come, Event, after_change, BusFault}
 use Rattle.usb_world.specs.{Failed}
 use Rattle.usb_world.proofs.Interface.{came_spends, happened_long, sane_happened, settled_happened}
 use Rattle.usb_world.proofs.Interface.{spends_none}

@@ -1,7 +1,6 @@
 use Rattle.std.proofs.Common.{◌≡◌, length, arith, ap, sym, subst, ◌∙◌, All}
 use Rattle.usb_device.specs.{IsSpec, row_of}
-use Rattle.usb_tree.specs.{IsSettled}
-use Rattle.usb_world.specs.{Consistent}
+use Rattle.usb_world.specs.{IsSettled, Consistent}
 use Rattle.usb_world.proofs.Interface.{new_long, sane_new_ports, settled_new}
 use Rattle.usb_bus.specs.{shown_names}
 use Rattle.usb_sim.proofs.Plans.{copies_come}

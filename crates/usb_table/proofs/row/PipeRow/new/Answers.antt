@@ -3,7 +3,7 @@ use Rattle.std.proofs.Common.{length, map, refl, replicate, sym}
 use Rattle.std.specs.Option.{is_none}
 use Rattle.usb_descriptor.specs.{UsableEndpoint, end_at}
 use Rattle.usb_device.specs.{end_numbers}
-use Rattle.usb_transaction.specs.{Target}
+use Rattle.usb_transfer.specs.{Target}
 use Rattle.usb_table.specs.{has_no_end, new_pipe}
 use Rattle.usb_table.proofs.row.PipeRow.new.Goals as goal
 

@@ -1,0 +1,19 @@
+mod Devices
+mod Entries
+mod ListedEntries
+mod RightListings
+mod Worlds
+pub mod Interface
+mod Lists
+mod Later
+mod Following
+mod Seen
+mod Events
+mod Damages
+mod Waits
+mod Steps
+mod Placed
+mod Keeping
+mod Questions
+mod Judging
+mod Replying

@@ -1,8 +1,0 @@
-use Rattle.std.proofs.Common.{◌≡◌, ◌++◌, take}
-use Rattle.usb_driver.specs.{tree_records}
-use Rattle.usb_driver.proofs.told.push_tree.Given as goal
-
--- the entries so far
-abbrev pub invariant-entries : goal.invariant-entries
-invariant-entries g l = l.told.items
-    ≡ l.fn.told.items ++ tree_records l.host (take l.path-index l.entries)

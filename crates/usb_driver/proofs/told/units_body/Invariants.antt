@@ -1,7 +1,0 @@
-use Rattle.std.proofs.Common.{◌≡◌, ◌∷◌, ◌++◌, [], take}
-use Rattle.usb_driver.specs.{units_bytes}
-use Rattle.usb_driver.proofs.told.units_body.Given as goal
-
--- the units so far
-abbrev pub invariant-units : goal.invariant-units
-invariant-units l = l.body.items ≡ (l.which ∷ []) ++ units_bytes (take l.unit-index l.units)

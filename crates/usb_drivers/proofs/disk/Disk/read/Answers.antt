@@ -1,5 +1,0 @@
-use Rattle.usb_drivers.proofs.disk.Disk.read.Goals as goal
-
-pub returns-clause-takes : goal.returns-clause-takes
-returns-clause-takes g c = λ there.
-    rw (c.from.ensures, c.from-2.ensures, c.from-3.ensures) at c.take.ensures.takes

@@ -1,4 +1,0 @@
-pub mod Interface
-mod Lists
-mod Later
-mod Following

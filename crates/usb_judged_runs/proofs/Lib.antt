@@ -1,4 +1,0 @@
-mod Keeping
-mod Questions
-mod Judging
-mod Replying

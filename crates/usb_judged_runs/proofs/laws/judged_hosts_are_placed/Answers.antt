@@ -1,5 +1,0 @@
-use Rattle.usb_judged_runs.proofs.Judging.{hosts_are_placed}
-use Rattle.usb_judged_runs.proofs.laws.judged_hosts_are_placed.Goals as goal
-
-pub returns : goal.returns
-returns c = hosts_are_placed c.judged_runs_are_placed.ensures

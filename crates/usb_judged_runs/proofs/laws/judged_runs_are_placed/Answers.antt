@@ -1,5 +1,0 @@
-use Rattle.usb_judged_runs.proofs.Judging.{lines_are_placed}
-use Rattle.usb_judged_runs.proofs.laws.judged_runs_are_placed.Goals as goal
-
-pub returns : goal.returns
-returns c = lines_are_placed c.places_play.ensures c.others_find_nothing.ensures

@@ -1,5 +1,0 @@
-mod Devices
-mod Entries
-mod ListedEntries
-mod RightListings
-mod Worlds

@@ -1,5 +1,0 @@
-use Rattle.usb_pipe.proofs.Reports.{reports_leave}
-use Rattle.usb_pipe.proofs.laws.reports_join.Goals as goal
-
-pub returns : goal.returns
-returns c = reports_leave

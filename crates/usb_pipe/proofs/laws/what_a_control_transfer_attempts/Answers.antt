@@ -1,5 +1,0 @@
-use Rattle.usb_pipe.proofs.Attempts.{read_attempts, write_attempts, clear_attempts}
-use Rattle.usb_pipe.proofs.laws.what_a_control_transfer_attempts.Goals as goal
-
-pub returns : goal.returns
-returns c = record { reads = read_attempts; writes = write_attempts; clears = clear_attempts }

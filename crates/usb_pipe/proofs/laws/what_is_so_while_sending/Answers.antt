@@ -1,5 +1,0 @@
-use Rattle.usb_pipe.proofs.BulkTransfers.{sending_leaves}
-use Rattle.usb_pipe.proofs.laws.what_is_so_while_sending.Goals as goal
-
-pub returns : goal.returns
-returns c = sending_leaves

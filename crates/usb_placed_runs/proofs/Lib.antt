@@ -1,6 +1,0 @@
-mod Seen
-mod Events
-mod Damages
-mod Waits
-mod Steps
-mod Placed

@@ -1,4 +1,0 @@
-pub mod Ways
-pub mod Places
-pub mod Found
-pub mod Once

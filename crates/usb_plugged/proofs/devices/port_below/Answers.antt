@@ -1,7 +1,0 @@
-use Rattle.std.proofs.Common.{rules}
-use Rattle.usb_plugged.proofs.Found.{push_is}
-use Rattle.usb_plugged.proofs.devices.port_below.Goals as goal
-
-pub returns-else-not-push : goal.returns-else-not-push
-returns-else-not-push c = push_is c.args.above.now c.in-Some.hub c.push.new.self c.args.number
-    (search rules) (search rules) c.numbers.ensures.path

@@ -1,5 +1,0 @@
-use Rattle.usb_streams.proofs.Streams.{stood_or_found}
-use Rattle.usb_streams.proofs.stream_laws.transfers_join.Goals as goal
-
-pub returns : goal.returns
-returns c = stood_or_found

@@ -1,5 +1,0 @@
-use Rattle.usb_transaction.proofs.Trails.{only_course, polled_attempts, transacted_attempts}
-use Rattle.usb_transaction.proofs.laws.what_a_transaction_attempts.Goals as goal
-
-pub returns : goal.returns
-returns c = record { trail = only_course; whole = transacted_attempts; polled = polled_attempts }
