@@ -1,30 +1,19 @@
-//! Laws of the bench: of the host's own listings, and of the runs that a bench judges.
+//! Laws of the bench: of the host's own listings, of runs whose places are found on the way, and of
+//! the runs that a bench judges. Their functions have empty bodies.
 //!
 //! # What is proved
 //!
-//! - `judged_runs_are_placed`: usb_bench takes lines of a host, and its plan has places. Then its
-//!   world is that of a run whose places are found on its way. So it is the one that all these
-//!   steps give from the start of the plan that is known in the end (*IsPlacedRun*,
-//!   `specs/JudgedRuns.antt`).
-//! - `judged_hosts_are_placed`: the same of all lines, where none stops it.
-//! - `judged_host_replies_as_far`: where its plan has no places, each of its lines has the reply
-//!   that usb_far's `serve` has to it (*RepliesAsFar*, `specs/Alike.antt`).
-//!
-//! - `places_play`: from a plan's start a host does its steps, and each of its deeds is seen. Where
-//!   a place more is found, the world follows the plan that is then known. In the end the world is
-//!   the one that all these steps give from the start of the plan that is known in the end
-//!   (*PlacedRun*, `specs/PlacedRuns.antt`).
-//! - `others_find_nothing`: a place is found only at an attempt or at a wait.
-//!
-//! - `follows_from_start`: a run that follows another plan from now on is in the world that the
-//!   same steps give from the other plan's start. Both plans have the events that came and the
-//!   damages to the attempts that were made. The other plan's next event could not have come by
-//!   itself before (*AgreeIn*, `specs/Runs.antt`).
-//! - `follows_again`: so it is however often another plan is followed (*Plays*).
-//!
 //! - `own_listings_are_right`: what a host's entries make as a listing (*ports_of_entries*,
 //!   `specs/OwnListings.antt`) is right in a world that the entries match (*Matches*, usb_table).
-//! - `own_listings_stand`: no judgement of such a listing stands.
+//! - `places_play`: a host does its steps from a plan's start, and places are found on the way. In
+//!   the end the world is the one that all these steps give from the start of the plan that is known
+//!   then (*PlacedRun*, `specs/PlacedRuns.antt`).
+//! - `judged_runs_are_placed`: this holds of the world after each line that usb_bench takes
+//!   (*IsPlacedRun*, `specs/JudgedRuns.antt`). Without places, each line has the reply that usb_far
+//!   gives (`judged_host_replies_as_far`).
+//!
+//! The other laws lead to these: a run that follows another plan is that plan's own
+//! (`follows_from_start`, `specs/Runs.antt`).
 #![tactic(auto)]
 
 mod following_laws;
