@@ -3,8 +3,8 @@ ghost use Rattle.std.specs.Prelude.{IfOk};
 ghost use Rattle.usb_bus.specs.Rows.{IsDestination};
 
 use crate::words::{
-    CallFault, Told, behind, bytes, digits, endpoint, feature, path, setup_data, small, speed,
-    toggle,
+    CallFault, Told, add, add_debug, add_digits, behind, bytes, endpoint, feature, path,
+    setup_data, small, speed, toggle,
 };
 use arrayvec::ArrayVec;
 use std::alloc::{AllocError, Global};
@@ -27,16 +27,16 @@ pub(crate) fn play<T: Trace>(
         ["event"] => tell_event(out, bus.apply_next_event())?,
         ["line", ..] => tell_done(out, bus.put_line(behind(text, 2).as_bytes()))?,
         ["counts"] => tell_counts(out, bus)?,
-        ["attempts"] => writeln!(out, "{}", bus.attempts())?,
-        ["registers", at] => writeln!(out, "{:?}", bus.registers(&path(at)?))?,
+        ["attempts"] => add(out, &bus.attempts())?,
+        ["registers", at] => add_debug(out, &bus.registers(&path(at)?))?,
         ["sink", at, number] => {
             let number = EndpointNumber::new(small(number)? % 16);
-            writeln!(out, "{:?}", bus.sink(&path(at)?, number))?;
+            add_debug(out, &bus.sink(&path(at)?, number))?;
         }
         ["taken", at, number] => {
             let number = EndpointNumber::new(small(number)? % 16);
             let taken = bus.sink(&path(at)?, number).unwrap_or(&[]);
-            writeln!(out, "{}", digits(alloc, taken)?)?;
+            add_digits(alloc, out, taken)?;
         }
         _ => return port_call(alloc, bus, words, out),
     }
@@ -51,7 +51,7 @@ fn port_call<T: Trace>(
     out: &mut String,
 ) -> Told {
     match words {
-        ["status", port] => writeln!(out, "{:?}", status(bus, small(port)?))?,
+        ["status", port] => add_debug(out, &status(bus, small(port)?))?,
         ["set", port, name] => set(bus, small(port)?, feature(name)?),
         ["clear", port, name] => clear(bus, small(port)?, feature(name)?),
         ["ready", port] => ready(bus, small(port)?),
@@ -248,7 +248,7 @@ fn tell_attempt(out: &mut String, ended: Result<Outcome, BusFault>) -> Result<()
         Ok(Outcome::Nak) => out.push_str("nak\n"),
         Ok(Outcome::Stall) => out.push_str("stall\n"),
         Ok(Outcome::Nothing) => out.push_str("none\n"),
-        Err(fault) => writeln!(out, "{fault}"),
+        Err(fault) => add(out, &fault),
     }
 }
 
@@ -256,7 +256,7 @@ fn tell_attempt(out: &mut String, ended: Result<Outcome, BusFault>) -> Result<()
 fn tell_done(out: &mut String, ended: Result<(), BusFault>) -> Result<(), AllocError> {
     match ended {
         Ok(()) => Ok(()),
-        Err(fault) => writeln!(out, "{fault}"),
+        Err(fault) => add(out, &fault),
     }
 }
 
@@ -269,7 +269,7 @@ fn tell_event(
         Ok(None) => out.push_str("no event\n"),
         Ok(Some(None)) => out.push_str("changed\n"),
         Ok(Some(Some(ask))) => tell_ask(out, &ask),
-        Err(fault) => writeln!(out, "{fault}"),
+        Err(fault) => add(out, &fault),
     }
 }
 

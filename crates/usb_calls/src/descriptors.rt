@@ -1,5 +1,5 @@
 //! Descriptors read: what each reader reports of bytes, the first fault among it: `read ..`.
-use crate::words::{CallFault, Told, bytes, digits, number, small};
+use crate::words::{CallFault, Told, add_debug, bytes, digits, number, small};
 use arrayvec::ArrayVec;
 use std::alloc::{AllocError, Global};
 use usb_descriptor::{
@@ -31,8 +31,8 @@ pub(crate) fn play(alloc: Global, words: &[&str], out: &mut String) -> Told {
         }
         _ => {
             match told_by(reader, data.as_slice())? {
-                Ok(numbers) => writeln!(out, "{:?}", numbers.as_slice())?,
-                Err(fault) => writeln!(out, "{fault:?}")?,
+                Ok(numbers) => add_debug(out, &numbers.as_slice())?,
+                Err(fault) => add_debug(out, &fault)?,
             }
             Ok(())
         }

@@ -2,7 +2,7 @@
 //! plan describe.
 use crate::described::{device_in, spec_in, tell};
 use crate::packets::{read_packet, tell_bytes};
-use crate::words::{CallFault, Told, behind, bytes, digits, small};
+use crate::words::{CallFault, Told, add, add_debug, add_digits, add_two, behind, bytes, small};
 use std::alloc::{AllocError, Global};
 use usb_device::EndpointNumber;
 use usb_function::{Device, Parent};
@@ -69,7 +69,7 @@ fn describe(alloc: Global, lines: &str, words: &[&str], text: &str, out: &mut St
         }
         ["agrees", ports, data] => {
             let data = bytes(alloc, data)?;
-            writeln!(out, "{}", HubSpec::agrees(small(ports)?, data.as_slice()))?;
+            add(out, &HubSpec::agrees(small(ports)?, data.as_slice()))?;
         }
         _ => return Err(CallFault::Words),
     }
@@ -91,13 +91,13 @@ fn called(
         ["takes", address] => takes(alloc, device, address, out)?,
         ["over"] => device.attempt_over(),
         ["reset"] => device.reset(),
-        ["registers"] => writeln!(out, "{} {}", device.address(), device.configuration())?,
-        ["awaits", "address"] => writeln!(out, "{}", device.awaits_address())?,
+        ["registers"] => add_two(out, &device.address(), &device.configuration())?,
+        ["awaits", "address"] => add(out, &device.awaits_address())?,
         ["sink", number] => {
             let number = EndpointNumber::new(small(number)? % 16);
-            writeln!(out, "{}", digits(alloc, device.sink(number))?)?;
+            add_digits(alloc, out, device.sink(number))?;
         }
-        ["taken"] => writeln!(out, "{}", digits(alloc, device.taken())?)?,
+        ["taken"] => add_digits(alloc, out, device.taken())?,
         _ => return port_call(alloc, device, lines, words, out),
     }
     Ok(())
@@ -118,12 +118,12 @@ fn port_call(
             takes(alloc, &mut child, address, out)?;
             plug(hub, small(port)?, child);
         }
-        ["unplug", port] => writeln!(out, "{}", hub.unplug_child(small(port)?).is_some())?,
-        ["reset", port] => writeln!(out, "{}", resets_child(hub, small(port)?))?,
-        ["port", port] => writeln!(out, "{:?}", hub.port_bytes(small(port)?))?,
+        ["unplug", port] => add(out, &hub.unplug_child(small(port)?).is_some())?,
+        ["reset", port] => add(out, &resets_child(hub, small(port)?))?,
+        ["port", port] => add_debug(out, &hub.port_bytes(small(port)?))?,
         ["child", port] => {
             let address = hub.child(small(port)?).map(|child| child.address());
-            writeln!(out, "{address:?}")?;
+            add_debug(out, &address)?;
         }
         _ => return Err(CallFault::Words),
     }

@@ -1,6 +1,6 @@
 //! A bus that has ended, and the calls of its trace: `trace ..`.
 use crate::frail::Frail;
-use crate::words::{CallFault, Told, number};
+use crate::words::{CallFault, Told, add, add_text, number};
 use std::alloc::{AllocError, Global};
 use usb_watch::Watched;
 
@@ -35,9 +35,9 @@ impl Ended {
             ["answered", from, count] => {
                 self.tell_lines(out, number(from)?, number(count)?, true)?;
             }
-            ["failed"] => writeln!(out, "{}", self.failed)?,
-            ["calls"] => writeln!(out, "{}", self.calls)?,
-            ["bytes"] => writeln!(out, "{}", self.taken.len())?,
+            ["failed"] => add(out, &self.failed)?,
+            ["calls"] => add(out, &self.calls)?,
+            ["bytes"] => add(out, &self.taken.len())?,
             _ => return Err(CallFault::Words),
         }
         Ok(())
@@ -59,7 +59,7 @@ impl Ended {
                 skipped += 1;
             } else if left > 0 && !(without_naks && line.ends_with("/ NAK")) {
                 left -= 1;
-                writeln!(out, "{line}")?;
+                add_text(out, line)?;
             }
         }
         Ok(())

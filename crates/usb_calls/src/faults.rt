@@ -1,5 +1,5 @@
 //! The words of faults: `fault ..`.
-use crate::words::{CallFault, Told};
+use crate::words::{CallFault, Told, add};
 use usb_bus::BusFault;
 use usb_enum::{Cause, Request};
 use usb_transfer::{PipeFault, TransFault};
@@ -7,9 +7,9 @@ use usb_transfer::{PipeFault, TransFault};
 /// Adds the words of a fault that is named.
 pub(crate) fn play(words: &[&str], out: &mut String) -> Told {
     match words {
-        ["transaction", name] => writeln!(out, "{}", of_transaction(name)?)?,
-        ["pipe", name] => writeln!(out, "{}", of_pipe(name)?)?,
-        ["cause", name] => writeln!(out, "{}", cause_of(name)?)?,
+        ["transaction", name] => add(out, &of_transaction(name)?)?,
+        ["pipe", name] => add(out, &of_pipe(name)?)?,
+        ["cause", name] => add(out, &cause_of(name)?)?,
         _ => return Err(CallFault::Words),
     }
     Ok(())

@@ -1,6 +1,6 @@
 //! A writer that takes a few bytes at a time, and fails at its Nth write, and a reader that fails:
 //! `piece ..`, `torn ..`.
-use crate::words::{Told, bytes, digits, number, small};
+use crate::words::{Told, add_debug, add_digits, bytes, number, small};
 use std::alloc::Global;
 use std::io;
 use std::io::{Error, ErrorKind, Read, Write};
@@ -81,10 +81,10 @@ pub(crate) fn put(
     let at_once = usize::from(small(at_once)?);
     let piece = format!(in alloc; "{text}\n")?;
     let mut writer = Watched::new(Frail::new(alloc, at_once, number(writes)?));
-    writeln!(out, "{:?}", put_piece(&mut writer, piece.as_bytes()))?;
+    add_debug(out, &put_piece(&mut writer, piece.as_bytes()))?;
     writeln!(out, "{}\n{}", writer.failed(), writer.calls())?;
     let taken = writer.into_inner().into_taken();
-    writeln!(out, "{}", digits(alloc, taken.as_slice())?)?;
+    add_digits(alloc, out, taken.as_slice())?;
     Ok(())
 }
 

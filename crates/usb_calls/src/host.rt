@@ -1,7 +1,9 @@
 //! Calls of a host: `host ..`.
 use crate::hub::options_of;
 use crate::stage::TestBus;
-use crate::words::{CallFault, Told, bytes, digits, number, path, setup_data, short};
+use crate::words::{
+    CallFault, Told, add, add_debug, add_digits, add_text, bytes, number, path, setup_data, short,
+};
 use std::alloc::{AllocError, Global};
 use usb_enum::Finding;
 use usb_host::{Host, HostFault, News, Round, Setup};
@@ -32,20 +34,20 @@ pub(crate) fn play(
     out: &mut String,
 ) -> Told {
     match words {
-        ["round"] => writeln!(out, "{:?}", host.round())?,
+        ["round"] => add_debug(out, &host.round())?,
         ["rounds"] => {
             let ended = match settle(host) {
                 Ok(Round::Quiet) => "quiet",
                 Ok(Round::Worked) => "busy",
                 Err(_) => "stopped",
             };
-            writeln!(out, "{ended}")?;
+            add_text(out, ended)?;
         }
-        ["settle"] => writeln!(out, "{:?}", settle(host).map(|_| ()))?,
+        ["settle"] => add_debug(out, &settle(host).map(|_| ()))?,
         ["rounds", "until", attempts] => rounds_until(host, number(attempts)?)?,
-        ["look", at] => writeln!(out, "{:?}", host.look(&path(at)?))?,
+        ["look", at] => add_debug(out, &host.look(&path(at)?))?,
         ["news"] => tell_news(out, host)?,
-        ["news", "count"] => writeln!(out, "{}", news_count(host))?,
+        ["news", "count"] => add(out, &news_count(host))?,
         ["paths"] => tell_paths(out, host)?,
         ["tree"] => tell_tree(out, host, true)?,
         ["found"] => tell_tree(out, host, false)?,
@@ -81,15 +83,15 @@ fn transfer(alloc: Global, host: &mut Host<TestBus>, words: &[&str], out: &mut S
     match words {
         ["send", at, sent] => {
             let sent = bytes(alloc, sent)?;
-            writeln!(out, "{:?}", host.send(&path(at)?, sent.as_slice()))?;
+            add_debug(out, &host.send(&path(at)?, sent.as_slice()))?;
         }
         ["receive", at, packets] => {
             match host.receive(&path(at)?, short(packets)?) {
-                Ok(bytes) => writeln!(out, "{}", digits(alloc, bytes.as_slice())?)?,
+                Ok(bytes) => add_digits(alloc, out, bytes.as_slice())?,
                 Err(fault) => writeln!(out, "Err({fault:?})")?,
             }
         }
-        ["clear", at] => writeln!(out, "{:?}", host.clear_halt(&path(at)?))?,
+        ["clear", at] => add_debug(out, &host.clear_halt(&path(at)?))?,
         ["control", at, setup, rest @ ..] => {
             let setup = Setup::from_bytes(setup_data(alloc, setup)?);
             return control(alloc, host, &path(at)?, setup, rest, out);
@@ -110,7 +112,7 @@ fn control(
 ) -> Told {
     if setup.request_type >= 128 {
         match host.control_in(at, setup) {
-            Ok(bytes) => writeln!(out, "{}", digits(alloc, bytes.as_slice())?)?,
+            Ok(bytes) => add_digits(alloc, out, bytes.as_slice())?,
             Err(fault) => tell_fault(out, fault)?,
         }
         return Ok(());
@@ -131,8 +133,8 @@ fn control(
 
 fn tell_fault(out: &mut String, fault: HostFault) -> Result<(), AllocError> {
     match fault {
-        HostFault::Transfer(fault) => writeln!(out, "{fault}"),
-        fault => writeln!(out, "{fault:?}"),
+        HostFault::Transfer(fault) => add(out, &fault),
+        fault => add_debug(out, &fault),
     }
 }
 
@@ -171,7 +173,7 @@ fn tell_paths(out: &mut String, host: &Host<TestBus>) -> Told {
         return Err(CallFault::Memory);
     };
     for (path, _) in tree.entries() {
-        writeln!(out, "{}", path.text())?;
+        add(out, &path.text())?;
     }
     Ok(())
 }
@@ -201,7 +203,7 @@ fn tell_said(
     path: &PortPath,
 ) -> Result<(), AllocError> {
     match host.said(path) {
-        Some(said) => writeln!(out, "{}", digits(alloc, said)?),
+        Some(said) => add_digits(alloc, out, said),
         None => out.push_str("none\n"),
     }
 }

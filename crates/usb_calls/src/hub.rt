@@ -1,6 +1,6 @@
 //! Requests to a hub and to a function, calls at root port 1, and what is found there: `hub ..`.
 use crate::stage::TestBus;
-use crate::words::{CallFault, Told, digits, feature, number, short, small};
+use crate::words::{CallFault, Told, add_debug, add_digits, feature, number, short, small};
 use arrayvec::ArrayVec;
 use std::alloc::{AllocError, Global};
 use usb_bus::Bus;
@@ -104,7 +104,7 @@ fn root_call(alloc: Global, bus: &mut TestBus, words: &[&str], out: &mut String)
 fn tell_done(out: &mut String, outcome: Result<(), PipeFault>) -> Result<(), AllocError> {
     match outcome {
         Ok(()) => out.push_str("done\n"),
-        Err(fault) => writeln!(out, "{fault:?}"),
+        Err(fault) => add_debug(out, &fault),
     }
 }
 
@@ -114,8 +114,8 @@ fn tell_bytes(
     outcome: Result<Vec<u8>, PipeFault>,
 ) -> Result<(), AllocError> {
     match outcome {
-        Ok(bytes) => writeln!(out, "{}", digits(alloc, bytes.as_slice())?),
-        Err(fault) => writeln!(out, "{fault:?}"),
+        Ok(bytes) => add_digits(alloc, out, bytes.as_slice()),
+        Err(fault) => add_debug(out, &fault),
     }
 }
 
@@ -132,7 +132,7 @@ fn tell_status(
                 (status.remote_wakeup, "remote_wakeup"),
             ],
         ),
-        Err(fault) => writeln!(out, "{fault:?}"),
+        Err(fault) => add_debug(out, &fault),
     }
 }
 
@@ -151,7 +151,7 @@ fn tell_port(out: &mut String, outcome: Result<PortStatus, PipeFault>) -> Result
                 (status.reset_changed, "reset_changed"),
             ],
         ),
-        Err(fault) => writeln!(out, "{fault:?}"),
+        Err(fault) => add_debug(out, &fault),
     }
 }
 

@@ -1,5 +1,8 @@
 //! Packets of a host, and the checks, digits and toggles of packets: `packet ..`.
-use crate::words::{CallFault, Told, bytes, digits, endpoint, number, short, small, toggle};
+use crate::words::{
+    CallFault, Told, add, add_digits, add_text, add_two, bytes, digits, endpoint, number, short,
+    small, toggle,
+};
 use arrayvec::{ArrayString, ArrayVec};
 use std::alloc::{AllocError, Global};
 use usb_check::{check5, check16};
@@ -50,7 +53,7 @@ pub(crate) fn read_packet(alloc: Global, words: &[&str]) -> Result<ArrayVec<u8, 
 /// Adds the packet that bytes spell, or the fault.
 pub(crate) fn tell_bytes(out: &mut String, bytes: &[u8]) -> Result<(), AllocError> {
     match decode(bytes) {
-        Ok(packet) => writeln!(out, "{}", packet_text(&packet).as_str()),
+        Ok(packet) => add(out, &packet_text(&packet)),
         Err(fault) => writeln!(out, "{fault:?}: {fault}"),
     }
 }
@@ -61,21 +64,20 @@ pub(crate) fn play(alloc: Global, words: &[&str], out: &mut String) -> Told {
         ["read", data] => read(alloc, data, out)?,
         ["digits", byte] => {
             let digits = hex_digits(small(byte)?);
-            writeln!(out, "{}", str::from_utf8(&digits).unwrap_or("none"))?;
+            add_text(out, str::from_utf8(&digits).unwrap_or("none"))?;
         }
         ["decimal", value] => {
             let mut line = ArrayString::new();
             push_decimal(&mut line, number(value)?);
-            writeln!(out, "{}", line.as_str())?;
+            add(out, &line)?;
         }
         ["toggles", awaited, given] => {
             let awaited = toggle(awaited)?;
             let given = toggle(given)?;
-            writeln!(
+            add_two(
                 out,
-                "{} {}",
-                awaited.is_same(given),
-                awaited.is_same(given.other())
+                &awaited.is_same(given),
+                &awaited.is_same(given.other()),
             )?;
         }
         _ => return check(alloc, words, out),
@@ -91,9 +93,9 @@ fn check(alloc: Global, words: &[&str], out: &mut String) -> Told {
             if field >= 2048 {
                 return Err(CallFault::Words);
             }
-            writeln!(out, "{}", check5(field))?;
+            add(out, &check5(field))?;
         }
-        ["check16", data] => writeln!(out, "{}", check16(bytes(alloc, data)?.as_slice()))?,
+        ["check16", data] => add(out, &check16(bytes(alloc, data)?.as_slice()))?,
         _ => return Err(CallFault::Words),
     }
     Ok(())
@@ -104,7 +106,7 @@ fn read(alloc: Global, data: &str, out: &mut String) -> Told {
     let data = bytes(alloc, data)?;
     tell_bytes(out, data.as_slice())?;
     if let Ok(packet) = decode(data.as_slice()) {
-        writeln!(out, "{}", digits(alloc, encode(&packet).as_slice())?)?;
+        add_digits(alloc, out, encode(&packet).as_slice())?;
     }
     Ok(())
 }

@@ -1,6 +1,6 @@
 //! A port step by step, its calls by their features, what its status says, and paths of ports:
 //! `port ..`, `path ..`.
-use crate::words::{CallFault, Told, behind, path, short, small, status_bytes};
+use crate::words::{CallFault, Told, add, add_debug, behind, path, short, small, status_bytes};
 use std::alloc::{AllocError, Global};
 use usb_port::{Port, PortCall, PortPath, PortStatus};
 
@@ -24,7 +24,7 @@ impl Places {
         match words {
             ["reads", status] => {
                 let status = PortStatus::from_bytes(status_bytes(alloc, status)?);
-                writeln!(out, "{status:?}")?;
+                add_debug(out, &status)?;
             }
             ["feature", number] => tell_feature(out, short(number)?)?,
             [step] => {
@@ -42,15 +42,15 @@ impl Places {
             ["reads", ..] => tell_path(out, PortPath::from_text(behind(text, 2)))?,
             ["root", number] => {
                 self.path = PortPath::root(small(number)?);
-                writeln!(out, "{}", self.path.is_some())?;
+                add(out, &self.path.is_some())?;
             }
             ["push", number] => self.push(small(number)?, out)?,
             [one, "is", "less", "than", other] => {
-                writeln!(out, "{}", path(one)? < path(other)?.duplicate())?;
+                add(out, &(path(one)? < path(other)?.duplicate()))?;
             }
-            [one, "is", other] => writeln!(out, "{}", path(one)? == path(other)?.duplicate())?,
+            [one, "is", other] => add(out, &(path(one)? == path(other)?.duplicate()))?,
             [one, "is", "below", other] => {
-                writeln!(out, "{}", path(one)?.is_below(&path(other)?.duplicate()))?;
+                add(out, &path(one)?.is_below(&path(other)?.duplicate()))?;
             }
             _ => return Err(CallFault::Words),
         }
@@ -108,7 +108,7 @@ fn tell_feature(out: &mut String, feature: u16) -> Result<(), AllocError> {
 /// Adds the text of a path, a dash if there is none.
 fn tell_path(out: &mut String, path: Option<PortPath>) -> Result<(), AllocError> {
     match path {
-        Some(path) => writeln!(out, "{}", path.text()),
+        Some(path) => add(out, &path.text()),
         None => out.push_str("-\n"),
     }
 }

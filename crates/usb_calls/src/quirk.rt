@@ -6,7 +6,7 @@ ghost use Rattle.usb_world.specs.PlainAttempts.{attempt_data};
 ghost use Rattle.usb_world.specs.Worlds.{FitsMaximum, IsAttempt};
 
 use crate::words;
-use crate::words::{CallFault, small};
+use crate::words::{CallFault, add, small};
 use arrayvec::ArrayVec;
 use usb_bus::{Attempt, Bus, BusFault, Outcome};
 use usb_packet::Toggle;
@@ -185,9 +185,9 @@ impl<B: Bus> QuirkBus<B> {
                 self.told = Some(told);
                 self.disabled = told == Told::Port(17);
             }
-            ["cleared"] => writeln!(out, "{}", self.cleared)?,
-            ["disabled"] => writeln!(out, "{}", self.disabled)?,
-            ["tries"] => writeln!(out, "{}", self.tries)?,
+            ["cleared"] => add(out, &self.cleared)?,
+            ["disabled"] => add(out, &self.disabled)?,
+            ["tries"] => add(out, &self.tries)?,
             _ => return Err(CallFault::Words),
         }
         Ok(())

@@ -1,8 +1,8 @@
 //! Records of a driver, and a driver whose questions go to a simulated bus by their bytes: `record
 //! ..`, `driver ..`.
 use crate::words::{
-    CallFault, Told, bytes, digits, endpoint, number, path, setup_data, short, small, speed,
-    status_bytes, toggle,
+    CallFault, Told, add, add_debug, add_digits, bytes, digits, endpoint, number, path, setup_data,
+    short, small, speed, status_bytes, toggle,
 };
 use arrayvec::ArrayVec;
 use std::alloc::{AllocError, Global};
@@ -44,7 +44,7 @@ pub(crate) fn play(alloc: Global, words: &[&str], out: &mut String) -> Told {
         }
         ["question", rest @ ..] => {
             let question = question_of(alloc, rest)?;
-            writeln!(out, "{}", digits(alloc, &question.bytes())?)?;
+            add_digits(alloc, out, &question.bytes())?;
             Ok(())
         }
         _ => Err(CallFault::Words),
@@ -318,7 +318,7 @@ impl Desk {
         }
         match Driver::open(self.alloc, roots, HostOptions::usual(false), self.shown) {
             Ok(driver) => self.driver = Some(driver),
-            Err(fault) => writeln!(out, "{fault:?}")?,
+            Err(fault) => add_debug(out, &fault)?,
         }
         Ok(())
     }
@@ -342,12 +342,12 @@ fn open_course(alloc: Global, plan: &Plan, most: Option<usize>) -> Result<Course
 fn course_call(alloc: Global, course: &mut Course, words: &[&str], out: &mut String) -> Told {
     match words {
         ["rows", most] => course.row = small(most)?,
-        ["questions"] => writeln!(out, "{}", course.questions)?,
+        ["questions"] => add(out, &course.questions)?,
         _ => {
             let want = want_in(alloc, words)?;
             match course.call(want) {
                 Ok(()) => tell_records(alloc, course.driver.told(), out)?,
-                Err(fault) => writeln!(out, "{fault:?}")?,
+                Err(fault) => add_debug(out, &fault)?,
             }
         }
     }
@@ -421,12 +421,12 @@ fn driver_call(
         ["question", count] => {
             *asked = waiting(driver)?;
             let head = asked.get(..usize::from(small(count)?)).unwrap_or(&[]);
-            writeln!(out, "{}", digits(alloc, head)?)?;
+            add_digits(alloc, out, head)?;
         }
-        ["same"] => writeln!(out, "{}", waiting(driver)? == *asked)?,
+        ["same"] => add(out, &(waiting(driver)? == *asked))?,
         ["done"] => match driver.question() {
-            Ok(question) => writeln!(out, "{}", question.is_none())?,
-            Err(fault) => writeln!(out, "{fault:?}")?,
+            Ok(question) => add(out, &question.is_none())?,
+            Err(fault) => add_debug(out, &fault)?,
         },
         ["told"] => tell_records(alloc, driver.told(), out)?,
         ["answer", outcome @ ..] => {
@@ -456,7 +456,7 @@ fn answer_in(alloc: Global, words: &[&str], shown: Statuses) -> Result<Answer, C
 fn tell(out: &mut String, ended: Result<(), DriverFault>) -> Result<(), AllocError> {
     match ended {
         Ok(()) => Ok(()),
-        Err(fault) => writeln!(out, "{fault:?}"),
+        Err(fault) => add_debug(out, &fault),
     }
 }
 

@@ -2,7 +2,7 @@
 //! `address ..`, `power ..`.
 ghost use Rattle.std.specs.Prelude.{◌≤◌, IfOk};
 
-use crate::words::{CallFault, Told, digits, feature, setup_data, short, small};
+use crate::words::{CallFault, Told, add, add_two, digits, feature, setup_data, short, small};
 use std::alloc::Global;
 use usb_port::{Address, AddressPool, supply};
 use usb_request::Setup;
@@ -12,12 +12,7 @@ pub(crate) fn play(alloc: Global, words: &[&str], out: &mut String) -> Told {
     match words {
         ["reserved", data] => {
             let setup = Setup::from_bytes(setup_data(alloc, data)?);
-            writeln!(
-                out,
-                "{} {}",
-                setup.is_reserved(false),
-                setup.is_reserved(true)
-            )?;
+            add_two(out, &setup.is_reserved(false), &setup.is_reserved(true))?;
             Ok(())
         }
         _ => tell(alloc, made(words)?, out),
@@ -27,11 +22,10 @@ pub(crate) fn play(alloc: Global, words: &[&str], out: &mut String) -> Told {
 /// Adds the bytes of a request, and whether it is what is read of them.
 fn tell(alloc: Global, setup: Setup, out: &mut String) -> Told {
     let bytes = setup.to_bytes();
-    writeln!(
+    add_two(
         out,
-        "{} {}",
-        digits(alloc, &bytes)?,
-        Setup::from_bytes(bytes) == setup
+        &digits(alloc, &bytes)?,
+        &(Setup::from_bytes(bytes) == setup),
     )?;
     Ok(())
 }
@@ -98,7 +92,7 @@ impl Addresses {
         match words {
             ["take"] => match self.pool.take() {
                 Some(address) => {
-                    writeln!(out, "{} {}", address.number(), self.pool.is_free(address))?;
+                    add_two(out, &address.number(), &self.pool.is_free(address))?;
                     if self.taken.push(address).is_err() {
                         return Err(CallFault::Memory);
                     }
@@ -116,9 +110,9 @@ impl Addresses {
             ["free", number] => {
                 let number = small(number)?;
                 let free = self.is_free(number);
-                writeln!(out, "{free}")?;
+                add(out, &free)?;
             }
-            ["rising"] => writeln!(out, "{}", self.is_rising())?,
+            ["rising"] => add(out, &self.is_rising())?,
             _ => return Err(CallFault::Words),
         }
         Ok(())
@@ -154,6 +148,6 @@ pub(crate) fn tell_power(words: &[&str], out: &mut String) -> Told {
     let [place, power] = words else {
         return Err(CallFault::Words);
     };
-    writeln!(out, "{}", supply(*place == "root", *power == "own"))?;
+    add(out, &(supply(*place == "root", *power == "own")))?;
     Ok(())
 }

@@ -8,7 +8,7 @@ use crate::quirk::QuirkBus;
 use crate::records::Desk;
 use crate::requests::Addresses;
 use crate::transfers::Pipes;
-use crate::words::{CallFault, Told, behind, number, words_of};
+use crate::words::{CallFault, Told, add, behind, number, words_of};
 use crate::{
     attempts, descriptors, faults, frail, host, hub, packets, records, requests, transfers, tree,
     wire,
@@ -108,7 +108,7 @@ pub(crate) fn plan_in(alloc: Global, text: &str, out: &mut String) -> Result<Pla
     match read_plan(alloc, text) {
         Ok(plan) => Ok(plan),
         Err(fault) => {
-            writeln!(out, "{fault}")?;
+            add(out, &fault)?;
             Err(CallFault::Words)
         }
     }

@@ -1,8 +1,11 @@
 //! Calls of transactions, of control transfers and of pipes: `transaction ..`, `control ..`,
 //! `pipe ..`, `status ..`.
+ghost use Rattle.std.specs.Prelude.{◌≡◌};
 ghost use Rattle.usb_transfer.specs.Transactions.{IsTarget};
 
-use crate::words::{CallFault, Told, bytes, digits, endpoint, setup_data, short, small, toggle};
+use crate::words::{
+    CallFault, Told, add, add_digits, bytes, digits, endpoint, setup_data, short, small, toggle,
+};
 use arrayvec::ArrayVec;
 use std::alloc::{AllocError, Global};
 use usb_request::feature::PORT_POWER;
@@ -56,7 +59,8 @@ fn target_of(low: bool) -> Target
 
 /// A target with packets of at most 8 bytes.
 fn small_target(address: u8) -> Target
-    ensures { IsTarget result }
+    ensures target { IsTarget result }
+    ensures max { result.max ≡ 8 }
 {
     Target {
         addr: address % 128,
@@ -166,8 +170,8 @@ fn pipe_to(endpoint: u8, most: u8, is_in: bool) -> EndpointPipe {
 fn tell(alloc: Global, out: &mut String, answer: Result<Vec<u8>, PipeFault>) -> Told {
     match answer {
         Ok(bytes) if bytes.is_empty() => out.push_str("ok\n")?,
-        Ok(bytes) => writeln!(out, "{}", digits(alloc, bytes.as_slice())?)?,
-        Err(fault) => writeln!(out, "{fault}")?,
+        Ok(bytes) => add_digits(alloc, out, bytes.as_slice())?,
+        Err(fault) => add(out, &fault)?,
     }
     Ok(())
 }

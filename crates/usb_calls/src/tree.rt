@@ -2,7 +2,7 @@
 //! of the row's plan describe.
 use crate::described::device_in;
 use crate::packets::read_packet;
-use crate::words::{CallFault, Told, path, small};
+use crate::words::{CallFault, Told, add, add_debug, path, small};
 use std::alloc::{AllocError, Global};
 use usb_device::{Content, Heard, Holder, Sent};
 use usb_function::{Holders, LentPacket, Ports};
@@ -24,13 +24,13 @@ pub(crate) fn play(
         }
         ["clears", packet @ ..] => {
             let sent = going_out(alloc, "full", packet)?;
-            writeln!(out, "{}", ports.clears_change(&LentPacket::of(&sent)))?;
+            add(out, &ports.clears_change(&LentPacket::of(&sent)))?;
         }
         ["plug", at, name] => {
             let at = path(at)?;
             ports.plug(at.numbers(), device_in(alloc, lines, name)?);
         }
-        ["unplug", at] => writeln!(out, "{}", ports.unplug(path(at)?.numbers()).is_some())?,
+        ["unplug", at] => add(out, &ports.unplug(path(at)?.numbers()).is_some())?,
         ["call", port, call] => ports.call(small(port)?, call_of(call)?),
         ["over"] => ports.attempt_over(),
         _ => return tell(alloc, ports, words, out),
@@ -42,19 +42,19 @@ pub(crate) fn play(
 fn tell(alloc: Global, ports: &Ports, words: &[&str], out: &mut String) -> Told {
     match words {
         ["device", at] => {
-            writeln!(out, "{}", ports.device_at(path(at)?.numbers()).is_some())?;
+            add(out, &ports.device_at(path(at)?.numbers()).is_some())?;
         }
         ["enabled", port] => {
             let port = ports.port(small(port)?);
-            writeln!(out, "{}", port.map_or(false, |port| port.is_enabled()))?;
+            add(out, &port.map_or(false, |port| port.is_enabled()))?;
         }
         ["holder", address] => {
             let holders = Holders::of(alloc, ports)?;
             tell_holder(out, holders.holder(small(address)?))?;
         }
-        ["shared"] => writeln!(out, "{}", Holders::of(alloc, ports)?.is_shared())?,
-        ["loss"] => writeln!(out, "{}", ports.has_address_loss())?,
-        ["count"] => writeln!(out, "{}", ports.count())?,
+        ["shared"] => add(out, &Holders::of(alloc, ports)?.is_shared())?,
+        ["loss"] => add(out, &ports.has_address_loss())?,
+        ["count"] => add(out, &ports.count())?,
         _ => return Err(CallFault::Words),
     }
     Ok(())
@@ -79,7 +79,7 @@ fn tell_heard(out: &mut String, heard: Heard) -> Result<(), AllocError> {
     match heard {
         Heard::NoAnswer => out.push_str("none\n"),
         Heard::Collision => out.push_str("collision\n"),
-        Heard::One(answer) => { writeln!(out, "{}", packet_text(&answer.into_packet()).as_str()) }
+        Heard::One(answer) => { add(out, &packet_text(&answer.into_packet())) }
     }
 }
 
@@ -87,7 +87,7 @@ fn tell_heard(out: &mut String, heard: Heard) -> Result<(), AllocError> {
 fn tell_holder(out: &mut String, holder: &Holder) -> Result<(), AllocError> {
     match holder {
         Holder::Nobody => out.push_str("nobody\n"),
-        Holder::One(path) => writeln!(out, "{:?}", path.as_slice()),
+        Holder::One(path) => add_debug(out, &path.as_slice()),
         Holder::Several => out.push_str("several\n"),
     }
 }

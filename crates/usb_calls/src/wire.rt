@@ -1,5 +1,5 @@
 //! The lines of a host and its controller side: `wire ..`.
-use crate::words::{CallFault, Told, behind, bytes};
+use crate::words::{CallFault, Told, add, behind, bytes};
 use std::alloc::{AllocError, Global};
 use usb_wire::{Asked, Hubs, question_line, read_question, read_said, said_line};
 
@@ -55,7 +55,7 @@ fn tell_question(out: &mut String, line: &[u8]) -> Result<(), AllocError> {
     match read_question(line) {
         Some(question) => {
             writeln!(out, "{question:?}\n{:?}", question.asked())?;
-            writeln!(out, "{}", question_line(&question).as_str())
+            add(out, &question_line(&question))
         }
         None => out.push_str("none\n"),
     }
@@ -64,7 +64,7 @@ fn tell_question(out: &mut String, line: &[u8]) -> Result<(), AllocError> {
 /// Adds the line that is written of what a line says, or its fault.
 fn tell_said(out: &mut String, hubs: Hubs, asked: Asked, line: &[u8]) -> Result<(), AllocError> {
     match read_said(asked, hubs, line) {
-        Ok(said) => writeln!(out, "{}", said_line(&said).as_str()),
+        Ok(said) => add(out, &said_line(&said)),
         Err(fault) => writeln!(out, "{fault:?}: {fault}"),
     }
 }

@@ -3,6 +3,7 @@ ghost use Rattle.std.specs.Prelude.{◌≡◌};
 ghost use Rattle.usb_calls.specs.declared.words.CallFault.TheVariants.{Memory as NoMemory};
 
 use std::alloc::{AllocError, Global};
+use std::fmt::{Debug, Display};
 use usb_packet::{Speed, Toggle};
 use usb_port::PortPath;
 use usb_request::feature::{
@@ -108,6 +109,37 @@ pub(crate) fn digits(alloc: Global, bytes: &[u8]) -> Result<String, AllocError> 
         return String::from_str(alloc, "-");
     }
     hex::encode_upper(alloc, bytes)
+}
+
+/// Adds a line.
+pub(crate) fn add_text(out: &mut String, text: &str) -> Result<(), AllocError> {
+    out.push_str(text)?;
+    out.push_str("\n")
+}
+
+/// Adds a line: a value as it is printed.
+pub(crate) fn add<T: Display>(out: &mut String, value: &T) -> Result<(), AllocError> {
+    writeln!(out, "{}", *value)
+}
+
+/// Adds a line: a value as it is shown to programmers.
+pub(crate) fn add_debug<T: Debug>(out: &mut String, value: &T) -> Result<(), AllocError> {
+    writeln!(out, "{:?}", *value)
+}
+
+/// Adds a line: two values as they are printed.
+pub(crate) fn add_two<T: Display, U: Display>(
+    out: &mut String,
+    first: &T,
+    second: &U,
+) -> Result<(), AllocError> {
+    writeln!(out, "{} {}", *first, *second)
+}
+
+/// Adds a line: bytes in digits, a dash if there are none.
+pub(crate) fn add_digits(alloc: Global, out: &mut String, bytes: &[u8]) -> Result<(), AllocError> {
+    out.push_str(digits(alloc, bytes)?.as_str())?;
+    out.push_str("\n")
 }
 
 /// A speed: `full`, `low`, or `pre` below a hub.
