@@ -1,5 +1,6 @@
 //! Devices of Linux with the files beside their descriptors, names that no word spells, and a writer that fails.
 use super::ends::frail;
+use std::alloc::Global;
 use std::test::Fail;
 use usb_entry::{EntryFault, Notes, Source, write_entries};
 use usb_plan::read_plan;
@@ -58,18 +59,42 @@ const NOTES: [(&str, &str, &str); 9] = [
 /// A device of which all packets have 8 bytes at most.
 const SMALL: &str = "1201000200000008341278560001000000010902120001010080320904000000FF000000";
 
+/// A device named `d` with these bytes, and what Linux says of it.
+fn noted<'a>(speed: &'a str, product: &'a str, bytes: &'a [u8]) -> Source<'a> {
+    Source {
+        name: "d",
+        notes: Notes::of_texts(speed, product),
+        bytes,
+    }
+}
+
+/// A device with this name and these bytes, of which Linux has no more.
+fn plain<'a>(name: &'a str, bytes: &'a [u8]) -> Source<'a> {
+    Source {
+        name,
+        notes: Notes::NONE,
+        bytes,
+    }
+}
+
+/// What is written of devices, and how that ends.
+fn written_of(
+    alloc: Global,
+    ports: u8,
+    sources: &[Source<'_>],
+) -> (Vec<u8>, Result<(), (usize, EntryFault)>) {
+    let mut writer = Watched::new(Vec::new(alloc));
+    let result = write_entries(alloc, ports, sources, &mut writer);
+    (writer.into_inner(), result)
+}
+
 #[test]
 fn notes_of_linux(rt: HostRuntime) -> Result<(), Fail> {
     let bytes = hex::decode(rt.alloc(), SMALL)?;
     for (speed, product, lines) in NOTES {
-        let sources = [Source {
-            name: "d",
-            notes: Notes::of_texts(speed, product),
-            bytes: bytes.as_slice(),
-        }];
-        let mut writer = Watched::new(Vec::new(rt.alloc()));
-        assert!(rt; write_entries(rt.alloc(), 7, sources.as_slice(), &mut writer).is_ok());
-        let starts = writer.into_inner().as_slice().starts_with(lines.as_bytes());
+        let sources = [noted(speed, product, bytes.as_slice())];
+        let (written, _) = written_of(rt.alloc(), 7, sources.as_slice());
+        let starts = written.as_slice().starts_with(lines.as_bytes());
         assert!(rt; starts, "{speed} {product}");
     }
     Ok(())
@@ -91,14 +116,8 @@ const NAMES: [(&str, &str); 2] = [
 fn names_that_no_word_spells(rt: HostRuntime) -> Result<(), Fail> {
     let bytes = hex::decode(rt.alloc(), SMALL)?;
     for (name, line) in NAMES {
-        let sources = [Source {
-            name,
-            notes: Notes::NONE,
-            bytes: bytes.as_slice(),
-        }];
-        let mut writer = Watched::new(Vec::new(rt.alloc()));
-        assert!(rt; write_entries(rt.alloc(), 7, sources.as_slice(), &mut writer).is_ok());
-        let written = writer.into_inner();
+        let sources = [plain(name, bytes.as_slice())];
+        let (written, _) = written_of(rt.alloc(), 7, sources.as_slice());
         let table = str::from_utf8(written.as_slice())?;
         assert!(rt; table.contains(line), "{table}");
         let text = format!(in rt.alloc(); "limit = 1\nroots = 1\n{table}")?;
