@@ -89,11 +89,10 @@ pub trait Bus {
         }
     }
 
-    /// Makes INs of one endpoint, one after the other, until one is not answered by a full packet of the toggle that is
-    /// due.
+    /// Makes INs of one endpoint, one after the other, until one is not answered by a full packet of the due toggle.
     ///
-    /// It asks for at most `most` packets, 0 to 64, whose toggles alternate from `toggle`. `got` is emptied, and then has
-    /// the bytes of the full packets. Data of the answer that ended the row are not among them.
+    /// It asks for at most `most` packets, 0 to 64, whose toggles alternate from `toggle`. `got` is emptied, and then
+    /// has the bytes of the full packets. Data of the answer that ended the row are not among them.
     ///
     /// This body makes them one by one. A controller that has a queue makes one queue of them.
     ///

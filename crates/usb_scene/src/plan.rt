@@ -11,9 +11,9 @@ use usb_world::{Damage, Event};
 ///
 /// At most 100,000,000,000,000 attempts are made; there are 1 to 7 root ports. The host takes hubs of more
 /// than 7 ports, or it does not. The devices are as the rules say, at most 127, no two of one name. Each event
-/// comes at most 1,000,000,000 attempts after the former one. A plug names one of the plan's devices and a free port: a root
-/// port, or a port of a device that is plugged then. Something is plugged where an event unplugs. Each damage
-/// is to a later attempt than the former one.
+/// comes at most 1,000,000,000 attempts after the former one. A plug names one of the plan's devices and a free
+/// port: a root port, or a port of a device that is plugged then. Something is plugged where an event unplugs. Each
+/// damage is to a later attempt than the former one.
 #[derive(Debug, Drop)]
 pub struct Plan {
     limit: u64,

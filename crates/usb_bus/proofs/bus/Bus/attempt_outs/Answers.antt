@@ -1,8 +1,9 @@
 use Rattle.std.proofs.Common.{rules, ◌≡◌, ◌∙◌, sym, ap, subst, ◌<◌, min, length, arith}
 use Rattle.usb_world.specs.{FitsMaximum}
 use Rattle.std.proofs.lemmas.Bool.{eqb-true}
-use Rattle.usb_bus.proofs.MadeRows.{all_left, few_left, flips_next, flips_none, less_left, none_left}
-use Rattle.usb_bus.proofs.MadeRows.{nonzero, packet_fits, sent_size, taking_more, taking_none}
+use Rattle.usb_bus.proofs.MadeRows.{all_left, few_left, flips_next, flips_none, less_left}
+use Rattle.usb_bus.proofs.MadeRows.{none_left, nonzero, packet_fits, sent_size}
+use Rattle.usb_bus.proofs.MadeRows.{taking_more, taking_none}
 use Rattle.usb_bus.proofs.bus.Bus.attempt_outs.Goals as goal
 
 pub packets-init : goal.packets-init
