@@ -32,8 +32,6 @@ mod exports;
 mod fault;
 mod handle;
 mod slot;
-#[cfg(test)]
-mod tests;
 mod text;
 
 pub use devices::Devices;
