@@ -3,8 +3,8 @@ ghost use Rattle.std.specs.Prelude.{IfOk};
 ghost use Rattle.usb_bus.specs.Rows.{IsDestination};
 
 use crate::words::{
-    CallFault, Told, add, add_debug, add_digits, behind, bytes, endpoint, feature, path,
-    setup_data, small, speed, toggle,
+    CallFault, Told, add, add_debug, add_digits, behind, bytes, endpoint, feature, path, put,
+    put_debug, setup_data, small, speed, toggle,
 };
 use arrayvec::ArrayVec;
 use std::alloc::{AllocError, Global};
@@ -277,25 +277,30 @@ fn tell_ask(out: &mut String, ask: &Ask) -> Result<(), AllocError> {
     match ask {
         Ask::Show { .. } => out.push_str("show\n"),
         Ask::Send(path, bytes) => {
-            writeln!(out, "send {:?} to {:?}", bytes.as_slice(), path.numbers())
+            put_debug(out, "send ", &bytes.as_slice())?;
+            out.push_str(" to ")?;
+            add_debug(out, &path.numbers())
         }
         Ask::Receive(path, packets) => {
-            writeln!(out, "receive {packets} from {:?}", path.numbers())
+            put(out, "receive ", packets)?;
+            out.push_str(" from ")?;
+            add_debug(out, &path.numbers())
         }
-        Ask::Clear(path) => writeln!(out, "clear {:?}", path.numbers()),
+        Ask::Clear(path) => {
+            out.push_str("clear ")?;
+            add_debug(out, &path.numbers())
+        }
         _ => out.push_str("another\n"),
     }
 }
 
 /// Adds all that a bus counts.
 fn tell_counts<T: Trace>(out: &mut String, bus: &SimBus<T>) -> Result<(), AllocError> {
-    writeln!(
-        out,
-        "attempts {}, events {} of {}, losses {}, worst {}",
-        bus.attempts(),
-        bus.events_taken(),
-        bus.events_taken().saturating_add(bus.events_left()),
-        bus.address_losses(),
-        bus.worst_address_run()
-    )
+    let taken = bus.events_taken();
+    put(out, "attempts ", &bus.attempts())?;
+    put(out, ", events ", &taken)?;
+    put(out, " of ", &taken.saturating_add(bus.events_left()))?;
+    put(out, ", losses ", &bus.address_losses())?;
+    put(out, ", worst ", &bus.worst_address_run())?;
+    out.push_str("\n")
 }

@@ -2,7 +2,7 @@
 //! ..`; behind it come its other lines, in any order.
 ghost use Rattle.std.specs.Prelude.{◌≤◌, IfOk};
 
-use crate::words::{CallFault, bytes, digits, short, small, words_of};
+use crate::words::{CallFault, bytes, put, put_debug, put_digits, short, small, words_of};
 use std::alloc::{AllocError, Global};
 use std::rc::Rc;
 use usb_device::{Bytes, ConfigTexts, OwnAnswer, OwnRequest, OwnRequests, Stalls, StringTexts};
@@ -257,36 +257,31 @@ fn plugged(alloc: Global, spec: DeviceSpec) -> Result<Device, AllocError> {
 /// Adds the lines that describe a copy of a device.
 pub(crate) fn tell(alloc: Global, spec: &DeviceSpec, out: &mut String) -> Result<(), AllocError> {
     let spec = spec.try_clone(alloc)?;
-    writeln!(out, "name {}", spec.name())?;
+    out.push_str("name ")?;
+    out.push_str(spec.name())?;
     tell_flags(&spec, out)?;
-    writeln!(out, "descriptor {}", digits(alloc, spec.descriptor())?)?;
+    put_digits(alloc, out, "descriptor ", spec.descriptor())?;
     for config in spec.configs() {
-        writeln!(out, "config {}", digits(alloc, config.as_slice())?)?;
+        put_digits(alloc, out, "\nconfig ", config.as_slice())?;
     }
     for string in spec.strings() {
-        writeln!(out, "string {}", digits(alloc, string.as_slice())?)?;
+        put_digits(alloc, out, "\nstring ", string.as_slice())?;
     }
-    writeln!(out, "source {}", digits(alloc, spec.source())?)?;
-    writeln!(out, "has hub class {}", has_hub_class(spec.descriptor()))?;
+    put_digits(alloc, out, "\nsource ", spec.source())?;
+    put(out, "\nhas hub class ", &has_hub_class(spec.descriptor()))?;
     if let Some(hub) = spec.hub() {
-        writeln!(
-            out,
-            "hub {} {}",
-            hub.ports(),
-            digits(alloc, hub.descriptor())?
-        )?;
+        put(out, "\nhub ", &hub.ports())?;
+        put_digits(alloc, out, " ", hub.descriptor())?;
     }
+    out.push_str("\n")?;
     tell_requests(alloc, &spec, out)
 }
 
 fn tell_flags(spec: &DeviceSpec, out: &mut String) -> Result<(), AllocError> {
     let stalls = spec.stalls();
-    writeln!(
-        out,
-        "naks {}\nhalt_after {:?}",
-        spec.naks(),
-        spec.halt_after()
-    )?;
+    put(out, "\nnaks ", &spec.naks())?;
+    put_debug(out, "\nhalt_after ", &spec.halt_after())?;
+    out.push_str("\n")?;
     for (is, line) in [
         (spec.is_low(), "low\n"),
         (spec.is_self_powered(), "self_powered\n"),
@@ -309,20 +304,26 @@ fn tell_flags(spec: &DeviceSpec, out: &mut String) -> Result<(), AllocError> {
 
 fn tell_requests(alloc: Global, spec: &DeviceSpec, out: &mut String) -> Result<(), AllocError> {
     for row in spec.requests().as_slice() {
-        write!(
-            out,
-            "request {} {} {:?} {:?} {:?} ",
-            row.request_type, row.request, row.value, row.index, row.length
-        )?;
-        match &row.answer {
-            OwnAnswer::Give(bytes) => {
-                writeln!(out, "give {}", digits(alloc, bytes.as_slice())?)?;
-            }
-            OwnAnswer::GiveTaken => out.push_str("give taken\n")?,
-            OwnAnswer::Take => out.push_str("take\n")?,
-            OwnAnswer::RefuseData => out.push_str("refuse data\n")?,
-            OwnAnswer::RefuseStatus => out.push_str("refuse status\n")?,
+        put(out, "request ", &row.request_type)?;
+        put(out, " ", &row.request)?;
+        put_debug(out, " ", &row.value)?;
+        put_debug(out, " ", &row.index)?;
+        put_debug(out, " ", &row.length)?;
+        if let OwnAnswer::Give(bytes) = &row.answer {
+            put_digits(alloc, out, " give ", bytes.as_slice())?;
         }
+        out.push_str(end_of(&row.answer))?;
     }
     Ok(())
+}
+
+/// The words of an answer without its bytes.
+fn end_of(answer: &OwnAnswer) -> &'static str {
+    match answer {
+        OwnAnswer::Give(_) => "\n",
+        OwnAnswer::GiveTaken => " give taken\n",
+        OwnAnswer::Take => " take\n",
+        OwnAnswer::RefuseData => " refuse data\n",
+        OwnAnswer::RefuseStatus => " refuse status\n",
+    }
 }

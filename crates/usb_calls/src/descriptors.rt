@@ -1,10 +1,10 @@
 //! Descriptors read: what each reader reports of bytes, the first fault among it: `read ..`.
-use crate::words::{CallFault, Told, add_debug, bytes, digits, number, small};
+use crate::words::{CallFault, Told, add_debug, bytes, number, put, put_debug, put_digits, small};
 use arrayvec::ArrayVec;
 use std::alloc::{AllocError, Global};
 use usb_descriptor::{
-    ConfigView, DescriptorFault, EndpointView, InterfaceView, Item, Settings, config_head,
-    device_head, read_config, read_device, read_hub, read_string,
+    ConfigView, DescriptorFault, EndpointView, InterfaceView, Item, Settings, UsableEndpoint,
+    config_head, device_head, read_config, read_device, read_hub, read_string,
 };
 
 /// Numbers that a reader reports.
@@ -177,28 +177,23 @@ fn tell_item(alloc: Global, bytes: &[u8], place: u64, out: &mut String) -> Told 
 }
 
 fn tell_found(alloc: Global, item: &Item<'_>, out: &mut String) -> Result<(), AllocError> {
-    write!(out, "{} ", digits(alloc, item.as_slice())?)?;
+    put_digits(alloc, out, "", item.as_slice())?;
     match item {
-        Item::Interface(interface) => writeln!(
-            out,
-            "{} {:?}",
-            digits(alloc, interface.as_slice())?,
-            interface_numbers(interface).as_slice()
-        ),
-        Item::Endpoint(endpoint) => writeln!(
-            out,
-            "{} {:?} {:?}",
-            digits(alloc, endpoint.as_slice())?,
-            endpoint_numbers(endpoint).as_slice(),
-            endpoint.transfer_type()
-        ),
-        Item::Other(other) => writeln!(
-            out,
-            "{} {:?}",
-            digits(alloc, other.as_slice())?,
-            [other.length(), other.descriptor_type()]
-        ),
+        Item::Interface(interface) => {
+            put_digits(alloc, out, " ", interface.as_slice())?;
+            put_debug(out, " ", &interface_numbers(interface).as_slice())?;
+        }
+        Item::Endpoint(endpoint) => {
+            put_digits(alloc, out, " ", endpoint.as_slice())?;
+            put_debug(out, " ", &endpoint_numbers(endpoint).as_slice())?;
+            put_debug(out, " ", &endpoint.transfer_type())?;
+        }
+        Item::Other(other) => {
+            put_digits(alloc, out, " ", other.as_slice())?;
+            put_debug(out, " ", &[other.length(), other.descriptor_type()])?;
+        }
     }
+    out.push_str("\n")
 }
 
 fn interface_numbers(interface: &InterfaceView<'_>) -> Numbers {
@@ -249,11 +244,23 @@ fn tell_usable(bytes: &[u8], low: bool, settings: &Settings, out: &mut String) -
     let ends = config.usable_endpoints(low, settings);
     for number in 0..=16u8 {
         if let Some(end) = ends.get(number, false) {
-            writeln!(out, "OUT {number} {:?} {}", end.kind, end.max)?;
+            tell_end(out, "OUT ", number, &end)?;
         }
         if let Some(end) = ends.get(number, true) {
-            writeln!(out, "IN {number} {:?} {}", end.kind, end.max)?;
+            tell_end(out, "IN ", number, &end)?;
         }
     }
     Ok(())
+}
+
+fn tell_end(
+    out: &mut String,
+    way: &str,
+    number: u8,
+    end: &UsableEndpoint,
+) -> Result<(), AllocError> {
+    put(out, way, &number)?;
+    put_debug(out, " ", &end.kind)?;
+    put(out, " ", &end.max)?;
+    out.push_str("\n")
 }

@@ -2,7 +2,9 @@
 //! plan describe.
 use crate::described::{device_in, spec_in, tell};
 use crate::packets::{read_packet, tell_bytes};
-use crate::words::{CallFault, Told, add, add_debug, add_digits, add_two, behind, bytes, small};
+use crate::words::{
+    CallFault, Told, add, add_debug, add_digits, add_two, behind, bytes, put, small,
+};
 use std::alloc::{AllocError, Global};
 use usb_device::EndpointNumber;
 use usb_function::{Device, Parent};
@@ -51,21 +53,15 @@ fn describe(alloc: Global, lines: &str, words: &[&str], text: &str, out: &mut St
         ["described", ..] => {
             let name = behind(text, 2);
             tell(alloc, &spec_in(alloc, lines, name)?, out)?;
-            writeln!(
-                out,
-                "plugged low {}",
-                device_in(alloc, lines, name)?.is_low()
-            )?;
+            put(out, "plugged low ", &device_in(alloc, lines, name)?.is_low())?;
+            out.push_str("\n")?;
         }
         ["named", name, among] => {
             let mut devices = Devices::new(alloc);
             devices.push(spec_in(alloc, lines, among)?)?;
-            writeln!(
-                out,
-                "{} of {}",
-                devices.is_named(name),
-                devices.as_slice().len()
-            )?;
+            put(out, "", &devices.is_named(name))?;
+            put(out, " of ", &devices.as_slice().len())?;
+            out.push_str("\n")?;
         }
         ["agrees", ports, data] => {
             let data = bytes(alloc, data)?;

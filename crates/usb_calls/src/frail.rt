@@ -1,6 +1,6 @@
 //! A writer that takes a few bytes at a time, and fails at its Nth write, and a reader that fails:
 //! `piece ..`, `torn ..`.
-use crate::words::{Told, add_debug, add_digits, bytes, number, small};
+use crate::words::{Told, add, add_debug, add_digits, add_two, bytes, number, put, small};
 use std::alloc::Global;
 use std::io;
 use std::io::{Error, ErrorKind, Read, Write};
@@ -71,7 +71,7 @@ impl Read for Torn<'_> {
 
 /// A piece of text for a watched writer: adds how it ended, the mark, the calls, and the bytes
 /// taken.
-pub(crate) fn put(
+pub(crate) fn write(
     alloc: Global,
     at_once: &str,
     writes: &str,
@@ -79,10 +79,12 @@ pub(crate) fn put(
     out: &mut String,
 ) -> Told {
     let at_once = usize::from(small(at_once)?);
-    let piece = format!(in alloc; "{text}\n")?;
+    let mut piece = String::from_str(alloc, text)?;
+    piece.push_str("\n")?;
     let mut writer = Watched::new(Frail::new(alloc, at_once, number(writes)?));
     add_debug(out, &put_piece(&mut writer, piece.as_bytes()))?;
-    writeln!(out, "{}\n{}", writer.failed(), writer.calls())?;
+    add(out, &writer.failed())?;
+    add(out, &writer.calls())?;
     let taken = writer.into_inner().into_taken();
     add_digits(alloc, out, taken.as_slice())?;
     Ok(())
@@ -95,14 +97,11 @@ pub(crate) fn read(alloc: Global, given: &str, out: &mut String) -> Told {
     let mut reader = Watched::new(Torn(given.as_slice()));
     let mut buf = [0u8; 4];
     let count = reader.read(&mut buf).unwrap_or(9);
-    writeln!(out, "{count} {}", reader.failed())?;
+    add_two(out, &count, &reader.failed())?;
     let again = reader.read(&mut buf);
-    writeln!(
-        out,
-        "{} {} {}",
-        again.is_err(),
-        reader.failed(),
-        reader.calls()
-    )?;
+    put(out, "", &again.is_err())?;
+    put(out, " ", &reader.failed())?;
+    put(out, " ", &reader.calls())?;
+    out.push_str("\n")?;
     Ok(())
 }

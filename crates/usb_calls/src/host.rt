@@ -2,7 +2,8 @@
 use crate::hub::options_of;
 use crate::stage::TestBus;
 use crate::words::{
-    CallFault, Told, add, add_debug, add_digits, add_text, bytes, number, path, setup_data, short,
+    CallFault, Told, add, add_debug, add_digits, add_text, bytes, number, path, put, setup_data,
+    short,
 };
 use std::alloc::{AllocError, Global};
 use usb_enum::Finding;
@@ -88,7 +89,7 @@ fn transfer(alloc: Global, host: &mut Host<TestBus>, words: &[&str], out: &mut S
         ["receive", at, packets] => {
             match host.receive(&path(at)?, short(packets)?) {
                 Ok(bytes) => add_digits(alloc, out, bytes.as_slice())?,
-                Err(fault) => writeln!(out, "Err({fault:?})")?,
+                Err(fault) => add_debug(out, &Err::<(), HostFault>(fault))?,
             }
         }
         ["clear", at] => add_debug(out, &host.clear_halt(&path(at)?))?,
@@ -142,16 +143,18 @@ fn tell_fault(out: &mut String, fault: HostFault) -> Result<(), AllocError> {
 fn tell_news(out: &mut String, host: &mut Host<TestBus>) -> Result<(), AllocError> {
     'news: for _ in 0..MOST {
         match host.next_news() {
-            Some(News::Left(path)) => writeln!(out, "-{}", path.text())?,
+            Some(News::Left(path)) => put(out, "-", &path.text())?,
             Some(News::Arrived(path)) => {
                 let number = match host.device(&path) {
                     Some(device) => device.number(),
                     None => 0,
                 };
-                writeln!(out, "+{} {number}", path.text())?;
+                put(out, "+", &path.text())?;
+                put(out, " ", &number)?;
             }
-            None => break 'news,
+            None => return Ok(()),
         }
+        out.push_str("\n")?;
     }
     Ok(())
 }
@@ -184,13 +187,15 @@ fn tell_tree(out: &mut String, host: &Host<TestBus>, addresses: bool) -> Told {
         return Err(CallFault::Memory);
     };
     for (path, finding) in tree.entries() {
+        put(out, "", &path.text())?;
         match finding {
             Finding::Device(device) if addresses => {
-                writeln!(out, "{} device {}", path.text(), device.address.number())?;
+                put(out, " device ", &device.address.number())?;
             }
-            Finding::Device(_) => writeln!(out, "{} device", path.text())?,
-            Finding::Refused(cause) => writeln!(out, "{} {cause}", path.text())?,
+            Finding::Device(_) => out.push_str(" device")?,
+            Finding::Refused(cause) => put(out, " ", cause)?,
         }
+        out.push_str("\n")?;
     }
     Ok(())
 }

@@ -1,6 +1,8 @@
 //! Requests to a hub and to a function, calls at root port 1, and what is found there: `hub ..`.
 use crate::stage::TestBus;
-use crate::words::{CallFault, Told, add_debug, add_digits, feature, number, short, small};
+use crate::words::{
+    CallFault, Told, add_debug, add_digits, feature, number, put, put_debug, short, small,
+};
 use arrayvec::ArrayVec;
 use std::alloc::{AllocError, Global};
 use usb_bus::Bus;
@@ -160,7 +162,8 @@ fn tell_names(out: &mut String, names: &[(bool, &str)]) -> Result<(), AllocError
     let mut separator = "";
     for (is_set, name) in names {
         if *is_set {
-            write!(out, "{separator}{}", *name)?;
+            out.push_str(separator)?;
+            out.push_str(name)?;
             separator = " ";
         }
     }
@@ -188,17 +191,15 @@ pub(crate) fn enumerated(
     let mut said = ArrayVec::new();
     match enumerate(alloc, bus, &mut pool, PORT, place, &mut said) {
         Ok(finding) => tell_finding(alloc, out, &finding)?,
-        Err(fault) => write!(out, "{fault:?}")?,
+        Err(fault) => put_debug(out, "", &fault)?,
     }
     out.push_str("; said ")?;
     tell_said(alloc, out, said.as_slice())?;
-    let attempts = bus.below().below().attempts();
-    let enabled = is_enabled(alloc, bus);
+    put(out, "; ", &bus.below().below().attempts())?;
+    put(out, " attempts, enabled: ", &is_enabled(alloc, bus))?;
     let next = pool.take().map_or(0, |address| address.number());
-    writeln!(
-        out,
-        "; {attempts} attempts, enabled: {enabled}, next address {next}"
-    )?;
+    put(out, ", next address ", &next)?;
+    out.push_str("\n")?;
     Ok(())
 }
 
@@ -221,24 +222,23 @@ pub(crate) fn options_of(words: &[&str]) -> Result<HostOptions, CallFault> {
 fn tell_finding(alloc: Global, out: &mut String, finding: &Finding) -> Result<(), AllocError> {
     match finding.try_clone(alloc)? {
         Finding::Device(device) => tell_device(alloc, out, &device),
-        Finding::Refused(cause) => write!(out, "refused {cause}"),
+        Finding::Refused(cause) => put(out, "refused ", &cause),
     }
 }
 
 /// Adds the address, the speed and the descriptors of a device, and whether there is a product
 /// string.
 fn tell_device(alloc: Global, out: &mut String, device: &Accepted) -> Result<(), AllocError> {
-    let speed = if device.low { "low" } else { "full" };
-    let bytes = hex::encode_upper(alloc, device.bytes.as_slice())?;
-    write!(out, "{} {speed} {bytes}", device.address.number())?;
+    put(out, "", &device.address.number())?;
+    out.push_str(if device.low { " low " } else { " full " })?;
+    out.push_str(hex::encode_upper(alloc, device.bytes.as_slice())?.as_str())?;
     for (index, config) in device.configs.as_slice().iter().enumerate() {
-        let chosen = if index == device.chosen {
-            "chosen "
+        out.push_str(if index == device.chosen {
+            ", chosen "
         } else {
-            ""
-        };
-        let bytes = hex::encode_upper(alloc, config.as_slice())?;
-        write!(out, ", {chosen}{bytes}")?;
+            ", "
+        })?;
+        out.push_str(hex::encode_upper(alloc, config.as_slice())?.as_str())?;
     }
     out.push_str(match device.strings.product {
         Some(_) => ", a product",

@@ -1,7 +1,7 @@
 //! Packets of a host, and the checks, digits and toggles of packets: `packet ..`.
 use crate::words::{
-    CallFault, Told, add, add_digits, add_text, add_two, bytes, digits, endpoint, number, short,
-    small, toggle,
+    CallFault, Told, add, add_digits, add_fault, add_text, add_two, bytes, endpoint, number,
+    short, small, toggle,
 };
 use arrayvec::{ArrayString, ArrayVec};
 use std::alloc::{AllocError, Global};
@@ -54,7 +54,7 @@ pub(crate) fn read_packet(alloc: Global, words: &[&str]) -> Result<ArrayVec<u8, 
 pub(crate) fn tell_bytes(out: &mut String, bytes: &[u8]) -> Result<(), AllocError> {
     match decode(bytes) {
         Ok(packet) => add(out, &packet_text(&packet)),
-        Err(fault) => writeln!(out, "{fault:?}: {fault}"),
+        Err(fault) => add_fault(out, &fault),
     }
 }
 

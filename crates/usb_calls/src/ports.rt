@@ -1,6 +1,8 @@
 //! A port step by step, its calls by their features, what its status says, and paths of ports:
 //! `port ..`, `path ..`.
-use crate::words::{CallFault, Told, add, add_debug, behind, path, short, small, status_bytes};
+use crate::words::{
+    CallFault, Told, add, add_debug, behind, path, put, put_debug, short, small, status_bytes,
+};
 use std::alloc::{AllocError, Global};
 use usb_port::{Port, PortCall, PortPath, PortStatus};
 
@@ -29,7 +31,9 @@ impl Places {
             ["feature", number] => tell_feature(out, short(number)?)?,
             [step] => {
                 let answer = take_step(&mut self.port, step)?;
-                writeln!(out, "{answer} {:?}", self.port.status())?;
+                put(out, "", &answer)?;
+                put_debug(out, " ", &self.port.status())?;
+                out.push_str("\n")?;
             }
             _ => return Err(CallFault::Words),
         }
@@ -62,8 +66,10 @@ impl Places {
         let Some(path) = &mut self.path else {
             return Err(CallFault::Words);
         };
-        let pushed = path.push(number);
-        write!(out, "{pushed} {:?} {} ", path.numbers(), path.port())?;
+        put(out, "", &path.push(number))?;
+        put_debug(out, " ", &path.numbers())?;
+        put(out, " ", &path.port())?;
+        out.push_str(" ")?;
         tell_path(out, path.parent())?;
         Ok(())
     }
@@ -97,12 +103,10 @@ fn take_step(port: &mut Port, step: &str) -> Result<bool, CallFault> {
 /// of connection.
 fn tell_feature(out: &mut String, feature: u16) -> Result<(), AllocError> {
     let clears = PortCall::of_clear(feature).map(PortCall::clears_connection_change);
-    writeln!(
-        out,
-        "{:?} {:?} {clears:?}",
-        PortCall::of_set(feature),
-        PortCall::of_clear(feature)
-    )
+    put_debug(out, "", &PortCall::of_set(feature))?;
+    put_debug(out, " ", &PortCall::of_clear(feature))?;
+    put_debug(out, " ", &clears)?;
+    out.push_str("\n")
 }
 
 /// Adds the text of a path, a dash if there is none.

@@ -1,8 +1,8 @@
 //! Records of a driver, and a driver whose questions go to a simulated bus by their bytes: `record
 //! ..`, `driver ..`.
 use crate::words::{
-    CallFault, Told, add, add_debug, add_digits, bytes, digits, endpoint, number, path, setup_data,
-    short, small, speed, status_bytes, toggle,
+    CallFault, Told, add, add_debug, add_digits, bytes, endpoint, number, path, put, put_digits,
+    setup_data, short, small, speed, status_bytes, toggle,
 };
 use arrayvec::ArrayVec;
 use std::alloc::{AllocError, Global};
@@ -11,6 +11,7 @@ use usb_dialogue::{
     Answer, Attempt, Bytes, Driver, DriverFault, EndpointAddress, HostOptions, Outcome, Question,
     Statuses, Toggle, Want,
 };
+use usb_port::PortPath;
 use usb_sim::Plan;
 use usb_testdriver::{Course, statuses};
 
@@ -28,27 +29,17 @@ const SHOWN: Statuses = [
 /// Makes a call of records.
 pub(crate) fn play(alloc: Global, words: &[&str], out: &mut String) -> Told {
     match words {
-        ["want", data] => {
-            let record = bytes(alloc, data)?;
-            out.push_str(want_of(alloc, record.as_slice())?.as_str())?;
-            Ok(())
-        }
-        ["answer", data] => {
-            let record = bytes(alloc, data)?;
-            out.push_str(answer_of(alloc, record.as_slice())?.as_str())?;
-            Ok(())
-        }
+        ["want", data] => tell_want(alloc, bytes(alloc, data)?.as_slice(), out)?,
+        ["answer", data] => tell_answer(bytes(alloc, data)?.as_slice(), out)?,
         ["cuts", kind, data] => {
-            let record = bytes(alloc, data)?;
-            tell_cuts(alloc, *kind == "want", record.as_slice(), out)
+            tell_cuts(alloc, *kind == "want", bytes(alloc, data)?.as_slice(), out)?;
         }
         ["question", rest @ ..] => {
-            let question = question_of(alloc, rest)?;
-            add_digits(alloc, out, &question.bytes())?;
-            Ok(())
+            add_digits(alloc, out, &question_of(alloc, rest)?.bytes())?;
         }
-        _ => Err(CallFault::Words),
+        _ => return Err(CallFault::Words),
     }
+    Ok(())
 }
 
 /// Adds what is read of a record that is cut: a line for each stretch of lengths of which the same
@@ -57,129 +48,140 @@ fn tell_cuts(alloc: Global, is_want: bool, record: &[u8], out: &mut String) -> T
     let mut last = String::new(alloc);
     for end in 0..record.len() {
         let cut = record.get(..end).unwrap_or(&[]);
-        let told = if is_want {
-            want_of(alloc, cut)?
+        let mut told = String::new(alloc);
+        if is_want {
+            tell_want(alloc, cut, &mut told)?;
         } else {
-            answer_of(alloc, cut)?
-        };
+            tell_answer(cut, &mut told)?;
+        }
         if told.as_str() != last.as_str() {
-            write!(out, "from {end}: {told}")?;
+            put(out, "from ", &end)?;
+            put(out, ": ", &told)?;
         }
         last = told;
     }
     Ok(())
 }
 
-/// What is read of a record, in words: a want, or why it is none.
-fn want_of(alloc: Global, record: &[u8]) -> Result<String, AllocError> {
+/// Adds what is read of a record: a want, or why it is none.
+fn tell_want(alloc: Global, record: &[u8], out: &mut String) -> Result<(), AllocError> {
     match Want::read(alloc, record) {
-        Ok((want, statuses)) if statuses == SHOWN => said(alloc, &want),
-        Ok(_) => format!(in alloc; "other statuses\n"),
-        Err(fault) => format!(in alloc; "{fault}\n"),
-    }
-}
-
-/// A want in words.
-fn said(alloc: Global, want: &Want) -> Result<String, AllocError> {
-    match want {
-        Want::Round => format!(in alloc; "round\n"),
-        Want::Tree => format!(in alloc; "tree\n"),
-        Want::News => format!(in alloc; "news\n"),
-        Want::Send { path, bytes } => listed(
-            alloc,
-            format!(in alloc; "send {}", path.text())?,
-            bytes.as_slice(),
-        ),
-        Want::Receive { path, packets } => {
-            format!(in alloc; "receive {} {packets}\n", path.text())
+        Ok((want, statuses)) if statuses == SHOWN => {
+            tell_call(out, &want)?;
+            out.push_str("\n")
         }
-        Want::ClearHalt { path } => format!(in alloc; "clear halt {}\n", path.text()),
-        Want::Look { path } => format!(in alloc; "look {}\n", path.text()),
-        other => said_of_endpoint(alloc, other),
+        Ok(_) => out.push_str("other statuses\n"),
+        Err(fault) => add(out, &fault),
     }
 }
 
-fn said_of_endpoint(alloc: Global, want: &Want) -> Result<String, AllocError> {
+/// Adds a want in words.
+fn tell_call(out: &mut String, want: &Want) -> Result<(), AllocError> {
+    match want {
+        Want::Round => out.push_str("round"),
+        Want::Tree => out.push_str("tree"),
+        Want::News => out.push_str("news"),
+        Want::Send { path, bytes } => {
+            put(out, "send ", &path.text())?;
+            list(out, bytes.as_slice())
+        }
+        Want::Receive { path, packets } => {
+            put(out, "receive ", &path.text())?;
+            put(out, " ", packets)
+        }
+        Want::ClearHalt { path } => put(out, "clear halt ", &path.text()),
+        Want::Look { path } => put(out, "look ", &path.text()),
+        other => tell_endpoint_call(out, other),
+    }
+}
+
+fn tell_endpoint_call(out: &mut String, want: &Want) -> Result<(), AllocError> {
     match want {
         Want::SendTo {
             path,
             endpoint,
             bytes,
-        } => listed(
-            alloc,
-            format!(in alloc; "send to {} {}", path.text(), endpoint.get())?,
-            bytes.as_slice(),
-        ),
+        } => {
+            put_at(out, "send to ", path, endpoint.get())?;
+            list(out, bytes.as_slice())
+        }
         Want::ReceiveFrom {
             path,
             endpoint,
             packets,
-        } => format!(in alloc;
-            "receive from {} {} {packets}\n",
-            path.text(),
-            endpoint.get()
-        ),
-        Want::Poll { path, endpoint } => {
-            format!(in alloc; "poll {} {}\n", path.text(), endpoint.get())
+        } => {
+            put_at(out, "receive from ", path, endpoint.get())?;
+            put(out, " ", packets)
         }
+        Want::Poll { path, endpoint } => put_at(out, "poll ", path, endpoint.get()),
         Want::ClearHaltOf { path, endpoint } => {
-            format!(in alloc; "clear halt of {} {}\n", path.text(), endpoint.get())
+            put_at(out, "clear halt of ", path, endpoint.get())
         }
-        other => said_of_request(alloc, other),
+        other => tell_request_call(out, other),
     }
 }
 
-fn said_of_request(alloc: Global, want: &Want) -> Result<String, AllocError> {
+fn tell_request_call(out: &mut String, want: &Want) -> Result<(), AllocError> {
     match want {
         Want::SetInterface {
             path,
             interface,
             setting,
-        } => format!(in alloc; "set interface {} {interface} {setting}\n", path.text()),
+        } => {
+            put_at(out, "set interface ", path, *interface)?;
+            put(out, " ", setting)
+        }
         Want::ControlIn { path, request } => {
-            format!(in alloc; "control in {} {}\n", path.text(), request.setup().length)
+            put(out, "control in ", &path.text())?;
+            put(out, " ", &request.setup().length)
         }
-        Want::ControlOut { path, request } => listed(
-            alloc,
-            format!(in alloc; "control out {} {}", path.text(), request.setup().length)?,
-            request.bytes(),
-        ),
-        _ => format!(in alloc; "another\n"),
+        Want::ControlOut { path, request } => {
+            put(out, "control out ", &path.text())?;
+            put(out, " ", &request.setup().length)?;
+            list(out, request.bytes())
+        }
+        _ => out.push_str("another"),
     }
 }
 
-/// The words, and each byte after a blank.
-fn listed(alloc: Global, words: String, bytes: &[u8]) -> Result<String, AllocError> {
-    let mut words = words;
+/// Adds a path and the number of what is there.
+fn put_at(out: &mut String, words: &str, path: &PortPath, number: u8) -> Result<(), AllocError> {
+    put(out, words, &path.text())?;
+    put(out, " ", &number)
+}
+
+/// Adds each byte after a blank.
+fn list(out: &mut String, bytes: &[u8]) -> Result<(), AllocError> {
     for byte in bytes {
-        words.push_str(format!(in alloc; " {}", *byte)?.as_str())?;
+        put(out, " ", byte)?;
     }
-    words.push_str("\n")?;
-    Ok(words)
+    Ok(())
 }
 
-/// What is read of a record, in words: an answer, or why it is none.
-fn answer_of(alloc: Global, record: &[u8]) -> Result<String, AllocError> {
+/// Adds what is read of a record: an answer, or why it is none.
+fn tell_answer(record: &[u8], out: &mut String) -> Result<(), AllocError> {
     match Answer::read(record) {
-        Ok(answer) if answer.statuses == SHOWN => came(alloc, &answer.outcome),
-        Ok(_) => format!(in alloc; "other statuses\n"),
-        Err(fault) => format!(in alloc; "{fault}\n"),
+        Ok(answer) if answer.statuses == SHOWN => {
+            out.push_str(name_of(&answer.outcome))?;
+            if let Outcome::Payload(_, bytes) = &answer.outcome {
+                list(out, bytes.as_slice())?;
+            }
+            out.push_str("\n")
+        }
+        Ok(_) => out.push_str("other statuses\n"),
+        Err(fault) => add(out, &fault),
     }
 }
 
-/// An outcome in words.
-fn came(alloc: Global, outcome: &Outcome) -> Result<String, AllocError> {
+/// The name of an outcome.
+fn name_of(outcome: &Outcome) -> &'static str {
     match outcome {
-        Outcome::Nothing => format!(in alloc; "nothing\n"),
-        Outcome::Ack => format!(in alloc; "ACK\n"),
-        Outcome::Nak => format!(in alloc; "NAK\n"),
-        Outcome::Stall => format!(in alloc; "STALL\n"),
-        Outcome::Payload(Toggle::Zero, bytes) => {
-            listed(alloc, format!(in alloc; "DATA0")?, bytes.as_slice())
-        }
-        Outcome::Payload(Toggle::One, bytes) => {
-            listed(alloc, format!(in alloc; "DATA1")?, bytes.as_slice())
-        }
+        Outcome::Nothing => "nothing",
+        Outcome::Ack => "ACK",
+        Outcome::Nak => "NAK",
+        Outcome::Stall => "STALL",
+        Outcome::Payload(Toggle::Zero, _) => "DATA0",
+        Outcome::Payload(Toggle::One, _) => "DATA1",
     }
 }
 
@@ -394,7 +396,9 @@ fn tell_records(alloc: Global, told: &[u8], out: &mut String) -> Result<(), Allo
             return Ok(());
         };
         rest = behind;
-        writeln!(out, "{kind} {}", digits(alloc, body)?)?;
+        put(out, "", &kind)?;
+        put_digits(alloc, out, " ", body)?;
+        out.push_str("\n")?;
     }
     Ok(())
 }

@@ -5,34 +5,23 @@
 //! - `$`: a call. `>`: a line of what the last call answers. `%`: a call that may answer anything.
 //! - `#`: a comment. Empty lines count for nothing.
 use crate::stage::{Stage, play};
-use crate::words::CallFault;
+use crate::words::{CallFault, add_text};
 use std::alloc::{AllocError, Global};
 use std::rt::Files;
 use std::{fs, io};
 
 /// How many rows there were, and how many of them differed.
 #[derive(Drop)]
-pub(crate) struct Tally {
-    rows: u64,
-    differ: u64,
+pub struct Tally {
+    pub rows: u64,
+    pub differ: u64,
 }
 
 impl Tally {
-    pub(crate) fn new() -> Tally {
-        Tally { rows: 0, differ: 0 }
-    }
-
-    pub(crate) fn rows(&self) -> u64 {
-        self.rows
-    }
-
-    pub(crate) fn differ(&self) -> u64 {
-        self.differ
-    }
-
-    fn count(&mut self, differs: bool) {
+    /// Counts a row.
+    pub fn count(&mut self, as_wanted: bool) {
         self.rows = self.rows.saturating_add(1);
-        if differs {
+        if !as_wanted {
             self.differ = self.differ.saturating_add(1);
         }
     }
@@ -40,7 +29,7 @@ impl Tally {
 
 /// A row that is played.
 #[derive(Drop)]
-pub(crate) struct Row<'a> {
+struct Row<'a> {
     stage: Stage,
     /// What it is about; empty before the first row.
     about: &'a str,
@@ -49,18 +38,18 @@ pub(crate) struct Row<'a> {
     /// What it answered, and what it is to answer.
     told: String,
     wanted: String,
-    differs: bool,
+    as_wanted: bool,
 }
 
 impl<'a> Row<'a> {
-    pub(crate) fn new(alloc: Global) -> Row<'a> {
+    fn new(alloc: Global) -> Row<'a> {
         Row {
             stage: Stage::new(alloc),
             about: "",
             call: "",
             told: String::new(alloc),
             wanted: String::new(alloc),
-            differs: false,
+            as_wanted: true,
         }
     }
 
@@ -75,8 +64,22 @@ impl<'a> Row<'a> {
     }
 }
 
+/// Plays the rows of a file, and counts them. Prints a line for each call that answers otherwise.
+pub fn play_calls<R: Files + Print + AllocGlobal>(
+    rt: &R,
+    name: &str,
+    tally: &mut Tally,
+) -> io::Result<()> {
+    let text = fs::read_to_string(rt, name)?;
+    let mut row = Row::new(rt.alloc());
+    'lines: for line in text.lines() {
+        take_line(rt, &mut row, tally, line)?;
+    }
+    finish(rt, &mut row, tally)
+}
+
 /// Takes a line of a file of rows.
-pub(crate) fn take_line<'a, R: Files + Print + AllocGlobal>(
+fn take_line<'a, R: Files + Print + AllocGlobal>(
     rt: &R,
     row: &mut Row<'a>,
     tally: &mut Tally,
@@ -89,7 +92,7 @@ pub(crate) fn take_line<'a, R: Files + Print + AllocGlobal>(
             finish(rt, row, tally)?;
             row.about = rest;
         }
-        "<" => writeln!(row.stage.plan, "{rest}")?,
+        "<" => add_text(&mut row.stage.plan, rest)?,
         "<<" => {
             let part = fs::read_to_string(rt, rest)?;
             row.stage.plan.push_str(part.as_str())?;
@@ -103,10 +106,10 @@ pub(crate) fn take_line<'a, R: Files + Print + AllocGlobal>(
             row.play(rest)?;
             row.told = String::new(rt.alloc());
         }
-        ">" => writeln!(row.wanted, "{rest}")?,
+        ">" => add_text(&mut row.wanted, rest)?,
         _ => {
             println!(rt; "no such line: {line}")?;
-            row.differs = true;
+            row.as_wanted = false;
         }
     }
     Ok(())
@@ -119,7 +122,7 @@ fn compare<R: Print + AllocGlobal>(rt: &R, row: &mut Row<'_>) -> io::Result<()> 
             "{}: {} told\n{}and not\n{}",
             row.about, row.call, row.told, row.wanted
         )?;
-        row.differs = true;
+        row.as_wanted = false;
     }
     row.told = String::new(rt.alloc());
     row.wanted = String::new(rt.alloc());
@@ -128,17 +131,17 @@ fn compare<R: Print + AllocGlobal>(rt: &R, row: &mut Row<'_>) -> io::Result<()> 
 }
 
 /// Ends a row, and counts it.
-pub(crate) fn finish<R: Print + AllocGlobal>(
+fn finish<R: Print + AllocGlobal>(
     rt: &R,
     row: &mut Row<'_>,
     tally: &mut Tally,
 ) -> io::Result<()> {
     compare(rt, row)?;
     if !row.about.is_empty() {
-        tally.count(row.differs);
+        tally.count(row.as_wanted);
     }
     row.stage = Stage::new(rt.alloc());
     row.about = "";
-    row.differs = false;
+    row.as_wanted = true;
     Ok(())
 }

@@ -97,7 +97,7 @@ fn play_leaf(alloc: Global, words: &[&str], text: &str, out: &mut String) -> Tol
         ["wire", rest @ ..] => wire::play(alloc, rest, text, out),
         ["record", rest @ ..] => records::play(alloc, rest, out),
         ["fault", rest @ ..] => faults::play(rest, out),
-        ["piece", at_once, writes, ..] => frail::put(alloc, at_once, writes, behind(text, 3), out),
+        ["piece", at_once, writes, ..] => frail::write(alloc, at_once, writes, behind(text, 3), out),
         ["torn", given] => frail::read(alloc, given, out),
         _ => Err(CallFault::Words),
     }
@@ -162,7 +162,8 @@ fn play_transaction(stage: &mut Stage, words: &[&str], out: &mut String) -> Told
         return Err(CallFault::Words);
     };
     transfers::transact(stage.alloc, bus, words, out)?;
-    writeln!(out, " {}", bus.below().below().attempts())?;
+    out.push_str(" ")?;
+    add(out, &bus.below().below().attempts())?;
     Ok(())
 }
 

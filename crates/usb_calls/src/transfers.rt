@@ -4,7 +4,8 @@ ghost use Rattle.std.specs.Prelude.{◌≡◌};
 ghost use Rattle.usb_transfer.specs.Transactions.{IsTarget};
 
 use crate::words::{
-    CallFault, Told, add, add_digits, bytes, digits, endpoint, setup_data, short, small, toggle,
+    CallFault, Told, add, add_digits, bytes, endpoint, put_debug, put_digits, setup_data, short,
+    small, toggle,
 };
 use arrayvec::ArrayVec;
 use std::alloc::{AllocError, Global};
@@ -98,7 +99,7 @@ pub(crate) fn transact<B: Bus>(
         _ => return Err(CallFault::Words),
     };
     tell_transaction(alloc, out, answer)?;
-    write!(out, " {toggle:?}")?;
+    put_debug(out, " ", &toggle)?;
     Ok(())
 }
 
@@ -116,9 +117,9 @@ fn tell_transaction(
     answer: Result<Option<Done>, TransFault>,
 ) -> Result<(), AllocError> {
     match answer {
-        Ok(Some(done)) => out.push_str(digits(alloc, done.bytes())?.as_str()),
+        Ok(Some(done)) => put_digits(alloc, out, "", done.bytes()),
         Ok(None) => out.push_str("none"),
-        Err(fault) => write!(out, "{fault:?}"),
+        Err(fault) => put_debug(out, "", &fault),
     }
 }
 

@@ -1,5 +1,5 @@
 //! The lines of a host and its controller side: `wire ..`.
-use crate::words::{CallFault, Told, add, behind, bytes};
+use crate::words::{CallFault, Told, add, add_debug, add_fault, behind, bytes};
 use std::alloc::{AllocError, Global};
 use usb_wire::{Asked, Hubs, question_line, read_question, read_said, said_line};
 
@@ -54,7 +54,8 @@ fn asked_of(word: &str) -> Result<Asked, CallFault> {
 fn tell_question(out: &mut String, line: &[u8]) -> Result<(), AllocError> {
     match read_question(line) {
         Some(question) => {
-            writeln!(out, "{question:?}\n{:?}", question.asked())?;
+            add_debug(out, &question)?;
+            add_debug(out, &question.asked())?;
             add(out, &question_line(&question))
         }
         None => out.push_str("none\n"),
@@ -65,6 +66,6 @@ fn tell_question(out: &mut String, line: &[u8]) -> Result<(), AllocError> {
 fn tell_said(out: &mut String, hubs: Hubs, asked: Asked, line: &[u8]) -> Result<(), AllocError> {
     match read_said(asked, hubs, line) {
         Ok(said) => add(out, &said_line(&said)),
-        Err(fault) => writeln!(out, "{fault:?}: {fault}"),
+        Err(fault) => add_fault(out, &fault),
     }
 }

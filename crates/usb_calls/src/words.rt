@@ -117,14 +117,43 @@ pub(crate) fn add_text(out: &mut String, text: &str) -> Result<(), AllocError> {
     out.push_str("\n")
 }
 
+/// Adds a value as it is printed, behind other words.
+pub(crate) fn put<T: Display>(out: &mut String, words: &str, value: &T) -> Result<(), AllocError> {
+    out.push_str(words)?;
+    write!(out, "{}", *value)
+}
+
+/// Adds a value as it is shown to programmers, behind other words.
+pub(crate) fn put_debug<T: Debug>(
+    out: &mut String,
+    words: &str,
+    value: &T,
+) -> Result<(), AllocError> {
+    out.push_str(words)?;
+    write!(out, "{:?}", *value)
+}
+
+/// Adds bytes in digits behind other words, a dash if there are none.
+pub(crate) fn put_digits(
+    alloc: Global,
+    out: &mut String,
+    words: &str,
+    bytes: &[u8],
+) -> Result<(), AllocError> {
+    out.push_str(words)?;
+    out.push_str(digits(alloc, bytes)?.as_str())
+}
+
 /// Adds a line: a value as it is printed.
 pub(crate) fn add<T: Display>(out: &mut String, value: &T) -> Result<(), AllocError> {
-    writeln!(out, "{}", *value)
+    put(out, "", value)?;
+    out.push_str("\n")
 }
 
 /// Adds a line: a value as it is shown to programmers.
 pub(crate) fn add_debug<T: Debug>(out: &mut String, value: &T) -> Result<(), AllocError> {
-    writeln!(out, "{:?}", *value)
+    put_debug(out, "", value)?;
+    out.push_str("\n")
 }
 
 /// Adds a line: two values as they are printed.
@@ -133,12 +162,21 @@ pub(crate) fn add_two<T: Display, U: Display>(
     first: &T,
     second: &U,
 ) -> Result<(), AllocError> {
-    writeln!(out, "{} {}", *first, *second)
+    put(out, "", first)?;
+    put(out, " ", second)?;
+    out.push_str("\n")
+}
+
+/// Adds a line: a fault as it is shown to programmers, and its words.
+pub(crate) fn add_fault<T: Debug + Display>(out: &mut String, fault: &T) -> Result<(), AllocError> {
+    put_debug(out, "", fault)?;
+    put(out, ": ", fault)?;
+    out.push_str("\n")
 }
 
 /// Adds a line: bytes in digits, a dash if there are none.
 pub(crate) fn add_digits(alloc: Global, out: &mut String, bytes: &[u8]) -> Result<(), AllocError> {
-    out.push_str(digits(alloc, bytes)?.as_str())?;
+    put_digits(alloc, out, "", bytes)?;
     out.push_str("\n")
 }
 

@@ -1,0 +1,28 @@
+//! Plays rows of calls, each with what it answers. A row has a plan, or devices that lines
+//! describe, and what its calls make of it (`row`, `stage`). The first word of a call says which
+//! module reads the others.
+#![tactic(auto)]
+
+mod attempts;
+mod described;
+mod descriptors;
+mod device;
+mod ended;
+mod faults;
+mod frail;
+mod halting;
+mod host;
+mod hub;
+mod packets;
+mod ports;
+mod quirk;
+mod records;
+mod requests;
+mod row;
+mod stage;
+mod transfers;
+mod tree;
+mod wire;
+mod words;
+
+pub use row::{Tally, play_calls};
