@@ -53,7 +53,11 @@ fn describe(alloc: Global, lines: &str, words: &[&str], text: &str, out: &mut St
         ["described", ..] => {
             let name = behind(text, 2);
             tell(alloc, &spec_in(alloc, lines, name)?, out)?;
-            put(out, "plugged low ", &device_in(alloc, lines, name)?.is_low())?;
+            put(
+                out,
+                "plugged low ",
+                &device_in(alloc, lines, name)?.is_low(),
+            )?;
             out.push_str("\n")?;
         }
         ["named", name, among] => {
@@ -118,7 +122,10 @@ fn port_call(
         ["reset", port] => add(out, &resets_child(hub, small(port)?))?,
         ["port", port] => add_debug(out, &hub.port_bytes(small(port)?))?,
         ["child", port] => {
-            let address = hub.child(small(port)?).map(|child| child.address());
+            let mut address = None;
+            if let Some(child) = hub.child(small(port)?) {
+                address = Some(child.address());
+            }
             add_debug(out, &address)?;
         }
         _ => return Err(CallFault::Words),

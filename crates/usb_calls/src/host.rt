@@ -44,7 +44,10 @@ pub(crate) fn play(
             };
             add_text(out, ended)?;
         }
-        ["settle"] => add_debug(out, &settle(host).map(|_| ()))?,
+        ["settle"] => match settle(host) {
+            Ok(_) => add_text(out, "Ok(())")?,
+            Err(fault) => add_debug(out, &Err::<(), HostFault>(fault))?,
+        },
         ["rounds", "until", attempts] => rounds_until(host, number(attempts)?)?,
         ["look", at] => add_debug(out, &host.look(&path(at)?))?,
         ["news"] => tell_news(out, host)?,
@@ -72,7 +75,7 @@ fn settle(host: &mut Host<TestBus>) -> Result<Round, HostFault> {
 /// Rounds until so many attempts were made, ten at most.
 fn rounds_until(host: &mut Host<TestBus>, attempts: u64) -> Told {
     for _ in 0..10u8 {
-        if host.bus_mut().below().below().attempts() < attempts && host.round().is_err() {
+        if host.bus_mut().below().attempts() < attempts && host.round().is_err() {
             return Err(CallFault::Words);
         }
     }

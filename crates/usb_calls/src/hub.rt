@@ -1,7 +1,8 @@
 //! Requests to a hub and to a function, calls at root port 1, and what is found there: `hub ..`.
 use crate::stage::TestBus;
 use crate::words::{
-    CallFault, Told, add_debug, add_digits, feature, number, put, put_debug, short, small,
+    CallFault, Told, add, add_debug, add_digits, feature, number, put, put_debug, put_digits,
+    short, small,
 };
 use arrayvec::ArrayVec;
 use std::alloc::{AllocError, Global};
@@ -50,6 +51,9 @@ pub(crate) fn play(alloc: Global, bus: &mut TestBus, words: &[&str], out: &mut S
             tell_bytes(alloc, out, text)?;
         }
         ["root", rest @ ..] => return root_call(alloc, bus, rest, out),
+        ["enumerate", supply, options @ ..] => {
+            return enumerated(alloc, bus, supply, options, out);
+        }
         _ => return hub_call(alloc, bus, words, out),
     }
     Ok(())
@@ -175,7 +179,7 @@ fn tell_names(out: &mut String, names: &[(bool, &str)]) -> Result<(), AllocError
 
 /// Enumerates what is at root port 1, which gives so much power. Adds what is found, what the
 /// device said, and what the port and the free addresses are then.
-pub(crate) fn enumerated(
+fn enumerated(
     alloc: Global,
     bus: &mut TestBus,
     supply: &str,
@@ -195,11 +199,13 @@ pub(crate) fn enumerated(
     }
     out.push_str("; said ")?;
     tell_said(alloc, out, said.as_slice())?;
-    put(out, "; ", &bus.below().below().attempts())?;
+    put(out, "; ", &bus.below().attempts())?;
     put(out, " attempts, enabled: ", &is_enabled(alloc, bus))?;
-    let next = pool.take().map_or(0, |address| address.number());
-    put(out, ", next address ", &next)?;
-    out.push_str("\n")?;
+    out.push_str(", next address ")?;
+    match pool.take() {
+        Some(address) => add(out, &address.number())?,
+        None => out.push_str("0\n")?,
+    }
     Ok(())
 }
 
@@ -231,14 +237,16 @@ fn tell_finding(alloc: Global, out: &mut String, finding: &Finding) -> Result<()
 fn tell_device(alloc: Global, out: &mut String, device: &Accepted) -> Result<(), AllocError> {
     put(out, "", &device.address.number())?;
     out.push_str(if device.low { " low " } else { " full " })?;
-    out.push_str(hex::encode_upper(alloc, device.bytes.as_slice())?.as_str())?;
-    for (index, config) in device.configs.as_slice().iter().enumerate() {
-        out.push_str(if index == device.chosen {
+    put_digits(alloc, out, "", device.bytes.as_slice())?;
+    let mut index = 0usize;
+    for config in device.configs.as_slice() {
+        let words = if index == device.chosen {
             ", chosen "
         } else {
             ", "
-        })?;
-        out.push_str(hex::encode_upper(alloc, config.as_slice())?.as_str())?;
+        };
+        put_digits(alloc, out, words, config.as_slice())?;
+        index = index.saturating_add(1);
     }
     out.push_str(match device.strings.product {
         Some(_) => ", a product",
@@ -251,7 +259,7 @@ fn tell_said(alloc: Global, out: &mut String, said: &[u8]) -> Result<(), AllocEr
     if said.is_empty() {
         return out.push_str("nothing");
     }
-    out.push_str(hex::encode_upper(alloc, said)?.as_str())
+    put_digits(alloc, out, "", said)
 }
 
 /// Whether root port 1 is enabled.

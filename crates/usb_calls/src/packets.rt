@@ -1,7 +1,7 @@
 //! Packets of a host, and the checks, digits and toggles of packets: `packet ..`.
 use crate::words::{
-    CallFault, Told, add, add_digits, add_fault, add_text, add_two, bytes, endpoint, number,
-    short, small, toggle,
+    CallFault, Told, add, add_digits, add_fault, add_text, add_two, bytes, endpoint, number, short,
+    small, toggle,
 };
 use arrayvec::{ArrayString, ArrayVec};
 use std::alloc::{AllocError, Global};

@@ -277,12 +277,11 @@ impl Desk {
             [most] => Some(usize::try_from(number(most)?).unwrap_or(usize::MAX)),
             _ => None,
         };
-        let mut course = open_course(self.alloc, plan, most)?;
+        let mut course = Course::open(self.alloc, plan, most, 1)?;
         'events: for _ in 0..100u8 {
-            match course.next_event() {
-                Ok(Some(_)) => {}
-                Ok(None) => break 'events,
-                Err(fault) => return Err(as_call_fault(fault)),
+            match course.next_event()? {
+                Some(_) => {}
+                None => break 'events,
             }
         }
         self.course = Some(course);
@@ -326,17 +325,12 @@ impl Desk {
     }
 }
 
-fn as_call_fault(fault: DriverFault) -> CallFault {
-    match fault {
-        DriverFault::Memory => CallFault::Memory,
-        _ => CallFault::Words,
-    }
-}
-
-fn open_course(alloc: Global, plan: &Plan, most: Option<usize>) -> Result<Course, CallFault> {
-    match Course::open(alloc, plan, most, 1) {
-        Ok(course) => Ok(course),
-        Err(fault) => Err(as_call_fault(fault)),
+impl From<DriverFault> for CallFault {
+    fn from(fault: DriverFault) -> CallFault {
+        match fault {
+            DriverFault::Memory => CallFault::Memory,
+            _ => CallFault::Words,
+        }
     }
 }
 
@@ -466,10 +460,9 @@ fn tell(out: &mut String, ended: Result<(), DriverFault>) -> Result<(), AllocErr
 
 /// The bytes of the question that waits, zeros if there is none.
 fn waiting(driver: &mut Driver) -> Result<[u8; 72], CallFault> {
-    match driver.question() {
-        Ok(Some(question)) => Ok(question.bytes()),
-        Ok(None) => Ok([0; 72]),
-        Err(fault) => Err(as_call_fault(fault)),
+    match driver.question()? {
+        Some(question) => Ok(question.bytes()),
+        None => Ok([0; 72]),
     }
 }
 
@@ -487,9 +480,8 @@ fn outcome_of(alloc: Global, words: &[&str]) -> Result<Outcome, CallFault> {
 /// bytes is asked for.
 fn until_short_in(driver: &mut Driver, shown: Statuses) -> Result<[u8; 72], CallFault> {
     'questions: for _ in 0..100u8 {
-        let ended = match driver.question() {
-            Ok(None) => driver.begin(Want::Round, shown),
-            Ok(Some(question)) => {
+        match driver.question()? {
+            Some(question) => {
                 let record = question.bytes();
                 if record[0] == 3 && record[4] < 64 {
                     return Ok(record);
@@ -502,12 +494,9 @@ fn until_short_in(driver: &mut Driver, shown: Statuses) -> Result<[u8; 72], Call
                 driver.answer(Answer {
                     outcome,
                     statuses: shown,
-                })
+                })?;
             }
-            Err(fault) => Err(fault),
-        };
-        if let Err(fault) = ended {
-            return Err(as_call_fault(fault));
+            None => driver.begin(Want::Round, shown)?,
         }
     }
     Err(CallFault::Words)

@@ -131,11 +131,7 @@ fn compare<R: Print + AllocGlobal>(rt: &R, row: &mut Row<'_>) -> io::Result<()> 
 }
 
 /// Ends a row, and counts it.
-fn finish<R: Print + AllocGlobal>(
-    rt: &R,
-    row: &mut Row<'_>,
-    tally: &mut Tally,
-) -> io::Result<()> {
+fn finish<R: Print + AllocGlobal>(rt: &R, row: &mut Row<'_>, tally: &mut Tally) -> io::Result<()> {
     compare(rt, row)?;
     if !row.about.is_empty() {
         tally.count(row.as_wanted);

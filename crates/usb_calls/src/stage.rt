@@ -2,9 +2,8 @@
 use crate::device::Bench;
 use crate::ended::Ended;
 use crate::frail::Frail;
-use crate::halting::HaltingBus;
+use crate::odd::OddBus;
 use crate::ports::Places;
-use crate::quirk::QuirkBus;
 use crate::records::Desk;
 use crate::requests::Addresses;
 use crate::transfers::Pipes;
@@ -24,7 +23,7 @@ use usb_watch::Watched;
 pub(crate) type TracedBus = SimBus<Tracer<Frail>>;
 
 /// The same, that may report more and fail.
-pub(crate) type TestBus = HaltingBus<QuirkBus<TracedBus>>;
+pub(crate) type TestBus = OddBus<TracedBus>;
 
 /// What a row has so far.
 #[derive(Drop)]
@@ -73,7 +72,10 @@ pub(crate) fn play(stage: &mut Stage, text: &str, out: &mut String) -> Told {
         "bus" => play_bus(stage, rest, text, out),
         "transaction" => play_transaction(stage, rest, out),
         "pipe" => play_pipe(stage, rest, out),
-        "hub" => play_hub(stage, rest, out),
+        "hub" => match &mut stage.bus {
+            Some(bus) => hub::play(stage.alloc, bus, rest, out),
+            None => Err(CallFault::Words),
+        },
         "host" => play_host(stage, rest, out),
         "odd" => play_odd(stage, rest, out),
         "trace" => play_trace(stage, rest, out),
@@ -97,7 +99,13 @@ fn play_leaf(alloc: Global, words: &[&str], text: &str, out: &mut String) -> Tol
         ["wire", rest @ ..] => wire::play(alloc, rest, text, out),
         ["record", rest @ ..] => records::play(alloc, rest, out),
         ["fault", rest @ ..] => faults::play(rest, out),
-        ["piece", at_once, writes, ..] => frail::write(alloc, at_once, writes, behind(text, 3), out),
+        ["piece", at_once, writes, ..] => frail::write(
+            alloc,
+            at_once,
+            writes,
+            behind(text, 3),
+            out,
+        ),
         ["torn", given] => frail::read(alloc, given, out),
         _ => Err(CallFault::Words),
     }
@@ -130,16 +138,10 @@ fn play_bus(stage: &mut Stage, words: &[&str], text: &str, out: &mut String) -> 
         return attempts::play(stage.alloc, bus, words, text, out);
     }
     if let Some(host) = &mut stage.host {
-        return attempts::play(
-            stage.alloc,
-            host.bus_mut().below().below(),
-            words,
-            text,
-            out,
-        );
+        return attempts::play(stage.alloc, host.bus_mut().below(), words, text, out);
     }
     if let Some(bus) = &mut stage.bus {
-        return attempts::play(stage.alloc, bus.below().below(), words, text, out);
+        return attempts::play(stage.alloc, bus.below(), words, text, out);
     }
     Err(CallFault::Words)
 }
@@ -152,7 +154,7 @@ fn open(stage: &mut Stage, at_once: usize, writes: u64, out: &mut String) -> Tol
     let Ok(bus) = SimBus::new(stage.alloc, &plan, writer) else {
         return Err(CallFault::Memory);
     };
-    stage.bus = Some(HaltingBus::new(QuirkBus::new(bus), u64::MAX));
+    stage.bus = Some(OddBus::new(bus));
     Ok(())
 }
 
@@ -163,7 +165,7 @@ fn play_transaction(stage: &mut Stage, words: &[&str], out: &mut String) -> Told
     };
     transfers::transact(stage.alloc, bus, words, out)?;
     out.push_str(" ")?;
-    add(out, &bus.below().below().attempts())?;
+    add(out, &bus.below().attempts())?;
     Ok(())
 }
 
@@ -174,20 +176,6 @@ fn play_pipe(stage: &mut Stage, words: &[&str], out: &mut String) -> Told {
     match &mut stage.bus {
         Some(bus) => transfers::play(stage.alloc, bus, &mut stage.pipes, words, out),
         None => Err(CallFault::Words),
-    }
-}
-
-/// A call of a hub, a request of a host, or what is found at a port.
-fn play_hub(stage: &mut Stage, words: &[&str], out: &mut String) -> Told {
-    let Some(bus) = &mut stage.bus else {
-        return Err(CallFault::Words);
-    };
-    match words {
-        ["enumerate", supply, options @ ..] => {
-            hub::enumerated(stage.alloc, bus, supply, options, out)?;
-            Ok(())
-        }
-        _ => hub::play(stage.alloc, bus, words, out),
     }
 }
 
@@ -223,25 +211,11 @@ fn close(stage: &mut Stage) {
 /// that fails.
 fn play_odd(stage: &mut Stage, words: &[&str], out: &mut String) -> Told {
     if let Some(host) = &mut stage.host {
-        return odd(host.bus_mut(), words, out);
+        return host.bus_mut().play(words, out);
     }
     match &mut stage.bus {
-        Some(bus) => odd(bus, words, out),
+        Some(bus) => bus.play(words, out),
         None => Err(CallFault::Words),
-    }
-}
-
-fn odd(bus: &mut TestBus, words: &[&str], out: &mut String) -> Told {
-    match words {
-        ["fails", "after", attempts] => {
-            bus.fail_after(number(attempts)?);
-            Ok(())
-        }
-        ["fails", "never"] => {
-            bus.fail_after(u64::MAX);
-            Ok(())
-        }
-        _ => bus.below().play(words, out),
     }
 }
 
@@ -249,7 +223,7 @@ fn odd(bus: &mut TestBus, words: &[&str], out: &mut String) -> Told {
 fn play_trace(stage: &mut Stage, words: &[&str], out: &mut String) -> Told {
     close(stage);
     if let Some(bus) = stage.bus.take() {
-        stage.ended = Some(Ended::new(bus.into_inner().into_inner().into_writer()));
+        stage.ended = Some(Ended::new(bus.into_inner().into_writer()));
     }
     match &stage.ended {
         Some(ended) => ended.tell(words, out),

@@ -188,8 +188,7 @@ fn control<B: Bus>(
     requires { IsTarget target }
 {
     if setup.length == 0 {
-        let done = control_none(bus, target, setup);
-        return Ok(done.map(|_| Vec::new(alloc)));
+        return Ok(no_bytes(alloc, control_none(bus, target, setup)));
     }
     if setup.request_type >= 128 {
         return Ok(control_in(alloc, bus, target, setup));
@@ -202,7 +201,13 @@ fn control<B: Bus>(
         return Err(CallFault::Words);
     }
     let done = control_out(bus, target, setup, sent.as_slice());
-    Ok(done.map(|_| Vec::new(alloc)))
+    Ok(no_bytes(alloc, done))
+}
+
+/// No bytes, once that is done.
+fn no_bytes(alloc: Global, done: Result<(), PipeFault>) -> Result<Vec<u8>, PipeFault> {
+    done?;
+    Ok(Vec::new(alloc))
 }
 
 /// Reads the descriptors of a device without an address, gives it address 1, and configures it. The
@@ -264,18 +269,14 @@ fn called<B: Bus>(
     match (words, &mut pipes.sink, &mut pipes.source, &mut pipes.status) {
         (["send", sent], Some(sink), _, _) if !sink.is_in() => {
             let sent = bytes(alloc, sent)?;
-            Ok(sink.send(bus, sent.as_slice()).map(|_| Vec::new(alloc)))
+            Ok(no_bytes(alloc, sink.send(bus, sent.as_slice())))
         }
-        (["clear", "out"], Some(sink), _, _) => Ok(sink.clear_halt(bus).map(|_| Vec::new(alloc))),
+        (["clear", "out"], Some(sink), _, _) => Ok(no_bytes(alloc, sink.clear_halt(bus))),
         (["receive", packets], _, Some(source), _) if source.is_in() => {
             Ok(source.receive(alloc, bus, short(packets)?))
         }
-        (["clear", "in"], _, Some(source), _) => {
-            Ok(source.clear_halt(bus).map(|_| Vec::new(alloc)))
-        }
-        (["clear", "in", "anyway"], _, Some(source), _) => {
-            Ok(source.clear(bus).map(|_| Vec::new(alloc)))
-        }
+        (["clear", "in"], _, Some(source), _) => Ok(no_bytes(alloc, source.clear_halt(bus))),
+        (["clear", "in", "anyway"], _, Some(source), _) => Ok(no_bytes(alloc, source.clear(bus))),
         (["poll"], _, Some(source), _) if source.is_in() => Ok(packet(alloc, source.poll(bus))),
         (["poll", "status"], _, _, Some(status)) => Ok(packet(alloc, status.poll(bus))),
         _ => Err(CallFault::Words),

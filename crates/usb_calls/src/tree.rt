@@ -45,8 +45,11 @@ fn tell(alloc: Global, ports: &Ports, words: &[&str], out: &mut String) -> Told 
             add(out, &ports.device_at(path(at)?.numbers()).is_some())?;
         }
         ["enabled", port] => {
-            let port = ports.port(small(port)?);
-            add(out, &port.map_or(false, |port| port.is_enabled()))?;
+            let enabled = match ports.port(small(port)?) {
+                Some(port) => port.is_enabled(),
+                None => false,
+            };
+            add(out, &enabled)?;
         }
         ["holder", address] => {
             let holders = Holders::of(alloc, ports)?;

@@ -11,7 +11,7 @@ use usb_request::feature::{
 };
 
 /// Why a call was not made.
-#[derive(Clone, Copy, Debug, PartialEq, Eq)]
+#[derive(Clone, Copy)]
 pub(crate) enum CallFault {
     /// Its words are none of a call, or it is none of what a row has so far.
     Words,
@@ -53,17 +53,26 @@ pub(crate) fn behind(text: &str, count: u8) -> &str {
 
 /// A number of one byte.
 pub(crate) fn small(word: &str) -> Result<u8, CallFault> {
-    word.parse::<u8>().map_err(|_| CallFault::Words)
+    match word.parse::<u8>() {
+        Ok(number) => Ok(number),
+        Err(_) => Err(CallFault::Words),
+    }
 }
 
 /// A number of two bytes.
 pub(crate) fn short(word: &str) -> Result<u16, CallFault> {
-    word.parse::<u16>().map_err(|_| CallFault::Words)
+    match word.parse::<u16>() {
+        Ok(number) => Ok(number),
+        Err(_) => Err(CallFault::Words),
+    }
 }
 
 /// A number.
 pub(crate) fn number(word: &str) -> Result<u64, CallFault> {
-    word.parse::<u64>().map_err(|_| CallFault::Words)
+    match word.parse::<u64>() {
+        Ok(number) => Ok(number),
+        Err(_) => Err(CallFault::Words),
+    }
 }
 
 /// The path of a port.

@@ -1,12 +1,14 @@
-//! A bus around another one, with a hub at address 1 that reports a change until that is cleared,
-//! or for good, and a root port whose change of connection no clearing takes away.
-ghost use Rattle.std.specs.Prelude.{◌≡◌, false, Some, IfErr};
+//! A bus around another one that fails after a number of attempts, with a hub at address 1 that
+//! reports a change until that is cleared, or for good, and a root port whose change of connection
+//! no clearing takes away: `odd ..`.
+ghost use Rattle.std.specs.Prelude.{◌≡◌, false, Some, IfErr, if◌then◌else◌};
 ghost use Rattle.usb_bus.specs.Traces.{Spends};
+ghost use Rattle.usb_world.specs.declared.types.BusFault.TheVariants.{Failed};
 ghost use Rattle.usb_world.specs.PlainAttempts.{attempt_data};
 ghost use Rattle.usb_world.specs.Worlds.{FitsMaximum, IsAttempt};
 
 use crate::words;
-use crate::words::{CallFault, add, small};
+use crate::words::{CallFault, add, number, small};
 use arrayvec::ArrayVec;
 use usb_bus::{Attempt, Bus, BusFault, Outcome};
 use usb_packet::Toggle;
@@ -26,7 +28,7 @@ const RESET: [u8; 8] = [0x23, 3, 4, 0, 1, 0, 0, 0];
 const CONFIGURE: [u8; 8] = [0, 9, 1, 0, 0, 0, 0, 0];
 
 /// A change, by the feature that clears it.
-#[derive(Clone, Copy, Debug, PartialEq, Eq)]
+#[derive(Clone, Copy, PartialEq, Eq)]
 enum Told {
     /// Of port 1 of the hub (11.24.2.7.2). With that of its enable the port is disabled, until it
     /// is reset.
@@ -81,7 +83,7 @@ fn told_of(words: &[&str]) -> Result<Told, CallFault> {
 }
 
 /// Who answers the hub's control transfer.
-#[derive(Clone, Copy, Debug, PartialEq, Eq)]
+#[derive(Clone, Copy)]
 enum Answers {
     /// The bus below.
     Below,
@@ -95,11 +97,14 @@ enum Answers {
     Clears,
 }
 
-/// The bus below, with such a hub.
+/// The bus below, with such a hub, as long as attempts are left.
 #[derive(Drop)]
-pub(crate) struct QuirkBus<B: Bus> {
+pub(crate) struct OddBus<B: Bus> {
     bus: B,
-    /// Whether it is one; else each call is one of the bus below.
+    attempts_left: u64,
+    /// Whether it has failed.
+    halted: bool,
+    /// Whether it has such a hub; else each attempt is one of the bus below.
     is_odd: bool,
     told: Option<Told>,
     /// Whether port 1 is disabled.
@@ -143,10 +148,12 @@ fn fitting(max: u8, outcome: Outcome) -> Outcome
     }
 }
 
-impl<B: Bus> QuirkBus<B> {
+impl<B: Bus> OddBus<B> {
     pub(crate) fn new(bus: B) -> Self {
-        QuirkBus {
+        OddBus {
             bus,
+            attempts_left: u64::MAX,
+            halted: false,
             is_odd: false,
             told: None,
             disabled: false,
@@ -167,13 +174,15 @@ impl<B: Bus> QuirkBus<B> {
 
     /// The bus below.
     pub(crate) fn into_inner(self) -> B {
-        let QuirkBus { bus, .. } = self;
+        let OddBus { bus, .. } = self;
         bus
     }
 
     /// A call: what it is to report from now on, or what became of that.
     pub(crate) fn play(&mut self, words: &[&str], out: &mut String) -> words::Told {
         match words {
+            ["fails", "never"] => self.attempts_left = u64::MAX,
+            ["fails", "after", attempts] => self.attempts_left = number(attempts)?,
             ["hub"] => self.is_odd = true,
             ["holds", port] => self.stuck = small(port)?,
             ["holds", port, "dark"] => {
@@ -319,25 +328,32 @@ impl<B: Bus> QuirkBus<B> {
 }
 
 /// Nothing is said of its world.
-impl<B: Bus> Bus for QuirkBus<B> {
+impl<B: Bus> Bus for OddBus<B> {
     ghost modelled = { false };
 
-    ghost world = { λ quirk. B.world quirk.bus };
+    ghost world = { λ odd. B.world odd.bus };
 
-    ghost trace = { λ quirk. B.trace quirk.bus };
+    ghost trace = { λ odd. B.trace odd.bus };
 
-    ghost spent = { λ quirk. B.spent quirk.bus };
+    ghost spent = { λ odd. B.spent odd.bus };
 
-    ghost failed = { λ quirk. B.failed quirk.bus };
+    ghost failed = { λ odd. if odd.halted then Some Failed else B.failed odd.bus };
 
-    ghost ports = { λ quirk. B.ports quirk.bus };
+    ghost ports = { λ odd. B.ports odd.bus };
 
     fn attempt(&mut self, attempt: &Attempt) -> Result<Outcome, BusFault> {
+        let Some(left) = self.attempts_left.checked_sub(1) else {
+            self.halted = true;
+            return Err(BusFault::Failed);
+        };
+        self.attempts_left = left;
         if !self.is_odd || attempt.destination().address != HUB {
+            self.halted = false;
             return self.bus.attempt(attempt);
         }
-        let outcome = self.answer(attempt)?;
-        Ok(fitting(attempt.destination().max, outcome))
+        let outcome = self.answer(attempt);
+        self.halted = false;
+        Ok(fitting(attempt.destination().max, outcome?))
     }
 
     fn root_ports(&self) -> u8 {
@@ -382,9 +398,9 @@ impl<B: Bus> Bus for QuirkBus<B> {
         self.bus.restart_endpoint(address, number, is_in);
     }
 
-    ghost counted = { λ known quirk. Prim.cc known };
+    ghost counted = { λ known odd. Prim.cc known };
 
-    ghost settled = { λ known quirk. Prim.cc known };
+    ghost settled = { λ known odd. Prim.cc known };
 
-    ghost between = { λ known quirk working. Prim.cc known };
+    ghost between = { λ known odd working. Prim.cc known };
 }
