@@ -27,6 +27,27 @@ impl Tally {
     }
 }
 
+/// Plays the rows of a file, and counts them. Prints what calls answer otherwise.
+pub fn play_calls<R: Files + Print + AllocGlobal>(
+    rt: &R,
+    name: &str,
+    tally: &mut Tally,
+) -> io::Result<()> {
+    let text = fs::read_to_string(rt, name)?;
+    let mut row = Row::new(rt.alloc());
+    'lines: for line in text.lines() {
+        match line.strip_prefix("<< ") {
+            Some(name) => {
+                let part = fs::read_to_string(rt, name)?;
+                row.stage.plan.push_str(part.as_str())?;
+            }
+            None => row.take(tally, line)?,
+        }
+    }
+    row.finish(tally)?;
+    print!(rt; "{}", row.report)
+}
+
 /// A row that is played.
 #[derive(Drop)]
 struct Row<'a> {
@@ -39,6 +60,8 @@ struct Row<'a> {
     told: String,
     wanted: String,
     as_wanted: bool,
+    /// What differed in all rows so far.
+    report: String,
 }
 
 impl<'a> Row<'a> {
@@ -50,11 +73,38 @@ impl<'a> Row<'a> {
             told: String::new(alloc),
             wanted: String::new(alloc),
             as_wanted: true,
+            report: String::new(alloc),
         }
+    }
+
+    /// Takes a line that names no file.
+    fn take(&mut self, tally: &mut Tally, line: &'a str) -> Result<(), AllocError> {
+        let (sign, rest) = line.split_once(' ').unwrap_or((line, ""));
+        match sign {
+            "" | "#" => {}
+            "*" => {
+                self.finish(tally)?;
+                self.about = rest;
+            }
+            "<" => add_text(&mut self.stage.plan, rest)?,
+            "$" => self.play(rest)?,
+            "%" => {
+                self.play(rest)?;
+                self.told = String::new(self.stage.alloc);
+            }
+            ">" => add_text(&mut self.wanted, rest)?,
+            _ => {
+                self.report.push_str("no such line: ")?;
+                add_text(&mut self.report, line)?;
+                self.as_wanted = false;
+            }
+        }
+        Ok(())
     }
 
     /// Plays a call. A call that is none answers that.
     fn play(&mut self, call: &'a str) -> Result<(), AllocError> {
+        self.compare()?;
         self.call = call;
         match play(&mut self.stage, call, &mut self.told) {
             Ok(()) => Ok(()),
@@ -62,82 +112,34 @@ impl<'a> Row<'a> {
             Err(CallFault::Memory) => Err(AllocError),
         }
     }
-}
 
-/// Plays the rows of a file, and counts them. Prints a line for each call that answers otherwise.
-pub fn play_calls<R: Files + Print + AllocGlobal>(
-    rt: &R,
-    name: &str,
-    tally: &mut Tally,
-) -> io::Result<()> {
-    let text = fs::read_to_string(rt, name)?;
-    let mut row = Row::new(rt.alloc());
-    'lines: for line in text.lines() {
-        take_line(rt, &mut row, tally, line)?;
+    /// Compares what the last call answered, and reports both if that is not what was wanted.
+    fn compare(&mut self) -> Result<(), AllocError> {
+        if self.told.as_str() != self.wanted.as_str() {
+            self.report.push_str(self.about)?;
+            self.report.push_str(": ")?;
+            self.report.push_str(self.call)?;
+            self.report.push_str(" told\n")?;
+            self.report.push_str(self.told.as_str())?;
+            self.report.push_str("and not\n")?;
+            add_text(&mut self.report, self.wanted.as_str())?;
+            self.as_wanted = false;
+        }
+        self.told = String::new(self.stage.alloc);
+        self.wanted = String::new(self.stage.alloc);
+        self.call = "";
+        Ok(())
     }
-    finish(rt, &mut row, tally)
-}
 
-/// Takes a line of a file of rows.
-fn take_line<'a, R: Files + Print + AllocGlobal>(
-    rt: &R,
-    row: &mut Row<'a>,
-    tally: &mut Tally,
-    line: &'a str,
-) -> io::Result<()> {
-    let (sign, rest) = line.split_once(' ').unwrap_or((line, ""));
-    match sign {
-        "" | "#" => {}
-        "*" => {
-            finish(rt, row, tally)?;
-            row.about = rest;
+    /// Ends a row, and counts it.
+    fn finish(&mut self, tally: &mut Tally) -> Result<(), AllocError> {
+        self.compare()?;
+        if !self.about.is_empty() {
+            tally.count(self.as_wanted);
         }
-        "<" => add_text(&mut row.stage.plan, rest)?,
-        "<<" => {
-            let part = fs::read_to_string(rt, rest)?;
-            row.stage.plan.push_str(part.as_str())?;
-        }
-        "$" => {
-            compare(rt, row)?;
-            row.play(rest)?;
-        }
-        "%" => {
-            compare(rt, row)?;
-            row.play(rest)?;
-            row.told = String::new(rt.alloc());
-        }
-        ">" => add_text(&mut row.wanted, rest)?,
-        _ => {
-            println!(rt; "no such line: {line}")?;
-            row.as_wanted = false;
-        }
+        self.stage = Stage::new(self.stage.alloc);
+        self.about = "";
+        self.as_wanted = true;
+        Ok(())
     }
-    Ok(())
-}
-
-/// Compares what the last call answered, and prints a line if that is not what was wanted.
-fn compare<R: Print + AllocGlobal>(rt: &R, row: &mut Row<'_>) -> io::Result<()> {
-    if row.told.as_str() != row.wanted.as_str() {
-        println!(rt;
-            "{}: {} told\n{}and not\n{}",
-            row.about, row.call, row.told, row.wanted
-        )?;
-        row.as_wanted = false;
-    }
-    row.told = String::new(rt.alloc());
-    row.wanted = String::new(rt.alloc());
-    row.call = "";
-    Ok(())
-}
-
-/// Ends a row, and counts it.
-fn finish<R: Print + AllocGlobal>(rt: &R, row: &mut Row<'_>, tally: &mut Tally) -> io::Result<()> {
-    compare(rt, row)?;
-    if !row.about.is_empty() {
-        tally.count(row.as_wanted);
-    }
-    row.stage = Stage::new(rt.alloc());
-    row.about = "";
-    row.as_wanted = true;
-    Ok(())
 }
