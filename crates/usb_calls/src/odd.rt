@@ -27,46 +27,51 @@ const RESET: [u8; 8] = [0x23, 3, 4, 0, 1, 0, 0, 0];
 
 const CONFIGURE: [u8; 8] = [0, 9, 1, 0, 0, 0, 0, 0];
 
-/// A change, by the feature that clears it.
-#[derive(Clone, Copy, PartialEq, Eq)]
-enum Told {
-    /// Of port 1 of the hub (11.24.2.7.2). With that of its enable the port is disabled, until it
-    /// is reset.
-    Port(u8),
-    /// Of the hub itself (11.24.2.6).
-    Hub(u8),
-    /// Of the hub itself, which refuses its status.
-    Refused,
-    /// Of the connection of port 1, and no clearing takes it away.
-    Stuck,
+/// A change that is reported.
+#[derive(Clone, Copy)]
+struct Told {
+    /// Whether it is one of port 1 of the hub (11.24.2.7.2). With that of its enable the port is
+    /// disabled, until it is reset. Else it is one of the hub itself (11.24.2.6).
+    at_port: bool,
+    /// The feature that clears it.
+    feature: u8,
+    /// Whether the hub refuses its status.
+    is_refused: bool,
+    /// Whether no clearing takes it away.
+    is_stuck: bool,
 }
 
 impl Told {
+    fn new(at_port: bool, feature: u8) -> Told {
+        Told {
+            at_port,
+            feature,
+            is_refused: false,
+            is_stuck: false,
+        }
+    }
+
     /// The bits of the hub's status change (11.12.4).
     fn bits(self) -> u8 {
-        match self {
-            Told::Port(_) | Told::Stuck => 2,
-            Told::Hub(_) | Told::Refused => 1,
-        }
+        if self.at_port { 2 } else { 1 }
     }
 
     /// The bit of wPortChange or of wHubChange.
     fn change(self) -> u8 {
-        match self {
-            Told::Port(17) | Told::Hub(1) => 2,
-            Told::Port(18) => 4,
-            Told::Port(19) => 8,
-            Told::Port(_) | Told::Hub(_) | Told::Refused | Told::Stuck => 1,
+        match self.feature {
+            1 | 17 => 2,
+            18 => 4,
+            19 => 8,
+            _ => 1,
         }
     }
 
     /// The request that clears it (11.24.2.1, 11.24.2.2).
     fn clearing(self) -> [u8; 8] {
-        match self {
-            Told::Port(feature) => [0x23, 1, feature, 0, 1, 0, 0, 0],
-            Told::Hub(feature) => [0x20, 1, feature, 0, 0, 0, 0, 0],
-            Told::Refused => [0x20, 1, 0, 0, 0, 0, 0, 0],
-            Told::Stuck => [0x23, 1, 16, 0, 1, 0, 0, 0],
+        if self.at_port {
+            [0x23, 1, self.feature, 0, 1, 0, 0, 0]
+        } else {
+            [0x20, 1, self.feature, 0, 0, 0, 0, 0]
         }
     }
 }
@@ -74,10 +79,16 @@ impl Told {
 /// The change that words name.
 fn told_of(words: &[&str]) -> Result<Told, CallFault> {
     match words {
-        ["port", feature] => Ok(Told::Port(small(feature)?)),
-        ["hub", feature] => Ok(Told::Hub(small(feature)?)),
-        ["refused"] => Ok(Told::Refused),
-        ["stuck"] => Ok(Told::Stuck),
+        ["port", feature] => Ok(Told::new(true, small(feature)?)),
+        ["hub", feature] => Ok(Told::new(false, small(feature)?)),
+        ["refused"] => Ok(Told {
+            is_refused: true,
+            ..Told::new(false, 0)
+        }),
+        ["stuck"] => Ok(Told {
+            is_stuck: true,
+            ..Told::new(true, 16)
+        }),
         _ => Err(CallFault::Words),
     }
 }
@@ -192,7 +203,7 @@ impl<B: Bus> OddBus<B> {
             ["reports", rest @ ..] => {
                 let told = told_of(rest)?;
                 self.told = Some(told);
-                self.disabled = told == Told::Port(17);
+                self.disabled = told.at_port && told.feature == 17;
             }
             ["cleared"] => add(out, &self.cleared)?,
             ["disabled"] => add(out, &self.disabled)?,
@@ -206,7 +217,7 @@ impl<B: Bus> OddBus<B> {
     fn answers(&self, setup: &[u8]) -> Answers {
         if setup == HUB_STATUS.as_slice() {
             return match self.told {
-                Some(Told::Refused) => Answers::Stalls,
+                Some(told) if told.is_refused => Answers::Stalls,
                 _ => Answers::HubStatus,
             };
         }
@@ -255,9 +266,10 @@ impl<B: Bus> OddBus<B> {
             Answers::HubStatus => Ok(packet(Toggle::One, &[0, 0, change, 0])),
             Answers::Stalls => Ok(Outcome::Stall),
             Answers::Clears => {
-                if self.told != Some(Told::Stuck) {
-                    self.told = None;
-                }
+                self.told = match self.told {
+                    Some(told) if told.is_stuck => Some(told),
+                    _ => None,
+                };
                 self.cleared = self.cleared.saturating_add(1);
                 Ok(packet(Toggle::One, &[]))
             }
@@ -271,7 +283,7 @@ impl<B: Bus> OddBus<B> {
                 _ if status.len() != 4 => Outcome::Payload(toggle, status),
                 bytes => {
                     let change = match self.told {
-                        Some(told) if told.bits() == 2 => told.change(),
+                        Some(told) if told.at_port => told.change(),
                         _ => 0,
                     };
                     let enabled = if self.disabled { 0xfd } else { 0xff };
