@@ -3,7 +3,7 @@ ghost use Rattle.std.specs.Prelude.{◌≡◌, true, Some, IfOk, IfErr};
 ghost use Rattle.usb_bus.specs.Traces.{Attempts, Spends};
 ghost use Rattle.usb_world.specs.PlainAttempts.{attempt_data};
 ghost use Rattle.usb_world.specs.Worlds.{FitsMaximum, IsAttempt};
-ghost use Rattle.usb_own_bus.specs.Counted.{counts_behind, counts_with, no_counts};
+ghost use Rattle.usb_example.specs.Counted.{counts_behind, counts_with, no_counts};
 
 use std::fmt;
 use usb_bus::{Attempt, Bus, BusFault, Outcome};

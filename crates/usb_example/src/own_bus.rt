@@ -1,18 +1,10 @@
-//! The host over your own bus: one that counts what goes over a simulated bus, with a device that
-//! keeps the host waiting.
-//!
-//! # What is proved
-//!
-//! `CountedBus` meets `trait Bus` around any bus, with that one's world and trace. It counts each
-//! attempt that was made by its answer (`counts_behind`).
-#![tactic(auto)]
-
-mod counted;
-
+//! The host over a bus of one's own: one that counts what goes over a simulated bus, with a device
+//! that keeps the host waiting.
+use crate::counted::CountedBus;
+use crate::settle;
 use anyhow::Result;
-use counted::CountedBus;
 use usb_bus::Bus;
-use usb_host::{Host, Round};
+use usb_host::Host;
 use usb_plan::read_plan;
 use usb_sim::SimBus;
 
@@ -37,20 +29,15 @@ how = "lose"
 "#;
 
 /// Enumerates the device over the bus that counts, and prints the counts.
-fn main(rt: HostRuntime) -> Result<()> {
+pub fn show(rt: &HostRuntime) -> Result<()> {
     let mut bus = SimBus::untraced(rt.alloc(), &read_plan(rt.alloc(), WORLD)?)?;
     bus.apply_next_event()?;
-    let mut host = Host::new(rt.alloc(), CountedBus::new(bus));
-    count(&rt, &mut host)
+    count(rt, &mut Host::new(rt.alloc(), CountedBus::new(bus)))
 }
 
-/// Lets the host work until a round finds nothing more to do, and prints what went over its bus.
+/// Lets the host find what is plugged, and prints what went over its bus.
 fn count<B: Bus>(rt: &impl Print, host: &mut Host<CountedBus<B>>) -> Result<()> {
-    for _ in 0..1000 {
-        if host.round()? == Round::Quiet {
-            break;
-        }
-    }
+    settle(host)?;
     let devices = host.tree()?.entries().len();
     println!(rt; "{devices} device, {}", host.bus().counts())?;
     Ok(())

@@ -2,7 +2,7 @@
 use Rattle.std.specs.Prelude.{ℕ, ◌+◌, ◌-◌, ◌^◌, min, Result, Ok, Err}
 use Rattle.usb_world.specs.{BusFault, Outcome}
 use Rattle.usb_world.specs.declared.types.Outcome.TheVariants.{Payload, Ack, Nak, Stall, Nothing}
-use Rattle.usb_own_bus.specs.declared.counted.Counts.{Counts}
+use Rattle.usb_example.specs.declared.counted.Counts.{Counts}
 
 -- before any attempt
 abbrev pub no_counts : Counts
