@@ -1,6 +1,7 @@
 pub mod Interface
 mod DigitPairs
 mod Entries
+mod Both
 mod Steps
 mod Parts
 mod MemoryRefusals
