@@ -438,7 +438,16 @@ fn are_strangers_absent(keys: OtherKeys, members: &EventMembers<'_>) -> bool
     ensures { result ≡ list_all is_none (strangers keys (found members.now)) }
 {
     let EventMembers {
-        path, device, bytes, packets, setup, endpoint, interface, setting, said, ..
+        path,
+        device,
+        bytes,
+        packets,
+        setup,
+        endpoint,
+        interface,
+        setting,
+        said,
+        ..
     } = *members;
     match keys {
         OtherKeys::Alone => are_absent(&[

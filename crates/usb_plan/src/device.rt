@@ -296,8 +296,10 @@ fn device_with(
     ensures { result ≡ device_with identity texts quirks bulk tables keys room }
 {
     let rest = both(bulk, both(tables, both(keys, room)));
-    let (identity, (texts, (quirks, (bulk, (tables, _))))) =
-        both(identity, both(texts, both(quirks, rest)))?;
+    let (identity, (texts, (quirks, (bulk, (tables, _))))) = both(
+        identity,
+        both(texts, both(quirks, rest)),
+    )?;
     Ok(device_of_parts(identity, texts, quirks, bulk, tables))
 }
 
