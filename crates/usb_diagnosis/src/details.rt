@@ -387,6 +387,7 @@ fn device_names<'a>(alloc: Global, devices: &'a [Value]) -> Result<Vec<&'a str>,
 /// The first text of a value that is none of the words: its own, or one of its array.
 fn first_other<'a>(value: &'a Value, words: &[&str]) -> Option<&'a str> {
     match value.as_array() {
+        None if is_word(value, words) => None,
         None => value.as_str(),
         Some(values) => values.iter().find(|value| !is_word(value, words))?.as_str(),
     }
