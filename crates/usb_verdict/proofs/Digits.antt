@@ -1,10 +1,10 @@
 -- Which words spell bytes.
-use Rattle.std.proofs.Common.{◌≡◌, ◌≢◌, ℕ, ◌%◌, List, [], ◌∷◌, length, Result, Ok, Err, Some, None}
-use Rattle.std.proofs.Common.{Bool, true, false, refl, sym, ◌∙◌, ap, codes, arith, absurd}
-use Rattle.std.specs.List.{list_all, AllPass}
+use Rattle.std.proofs.Common.{◌≡◌, ◌≢◌, ℕ, List, [], ◌∷◌, Result, Ok, Err, Some, None}
+use Rattle.std.proofs.Common.{Bool, true, false, refl, sym, ◌∙◌, ap, codes, arith}
+use Rattle.std.proofs.Common.{if◌then◌else◌}
 use Rattle.std.specs.Result.{result_ok}
 use Rattle.std.specs.Str.{bytes_eq}
-use Rattle.std.proofs.lemmas.Bool.{and_parts, false≢true}
+use Rattle.std.proofs.lemmas.Bool.{and_parts, eqb-true, false≢true}
 use Rattle.std.proofs.lemmas.List.Sums.{AllPass-from_list_all, list_all-from_AllPass}
 use Rattle.hex.specs.Hex.{decode_of, is_hex_digit}
 use Rattle.hex.specs.declared.error.FromHexError.{FromHexError}
@@ -16,18 +16,20 @@ digits_decode : (word : List ℕ) → are_digit_pairs word ≡ true
     → (bytes : List ℕ) × (decode_of word ≡ Ok bytes)
 digits_decode word h =
     let parts = and_parts _ _ h in
-    decode_of-digits word (grind (arith, (and_parts _ _ parts.0).1))
+    decode_of-digits word (eqb-true _ _ (and_parts _ _ parts.0).1)
       (AllPass-from_list_all is_hex_digit word parts.1)
 
-spelled : (c : ℕ) (word : List ℕ) (bytes : List ℕ) → decode_of (c ∷ word) ≡ Ok bytes
-    → bytes_in (c ∷ word) ≢ None
-spelled c word bytes h none = grind
+spelled : (dash : Bool) (r : Result (List ℕ) FromHexError) (bytes : List ℕ) → r ≡ Ok bytes
+    → (if dash then Some [] else result_ok r) ≢ None
+spelled true r bytes h none = cc none
+spelled false r bytes h none = cc (sym (ap result_ok h) ∙ none)
 
 -- they spell bytes
 pub digits_spell : (word : List ℕ) → are_digit_pairs word ≡ true → bytes_in word ≢ None
 digits_spell [] h none = cc h
 digits_spell (c ∷ word) h none =
-    let d = digits_decode (c ∷ word) h in spelled c word d.0 d.1 none
+    let d = digits_decode (c ∷ word) h in
+    spelled (bytes_eq (c ∷ word) (codes "-")) (decode_of (c ∷ word)) d.0 d.1 none
 
 -- what decodes is pairs of digits
 decoded_pairs : (c : ℕ) (word bytes : List ℕ) → decode_of (c ∷ word) ≡ Ok bytes
