@@ -85,8 +85,7 @@ impl<B: Bus> Host<B> {
     /// which may be empty, or `None` if it answers NAK.
     ///
     /// Polls may go on after any fault of a transfer: no packet is lost or given twice, as long as
-    /// no halt is cleared, no interface is set, and the device is not enumerated again. Only a clear
-    /// or a setting that failed breaks the pipe.
+    /// no halt is cleared. Only a clear that failed breaks the pipe.
     ///
     /// # Errors
     ///
