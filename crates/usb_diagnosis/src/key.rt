@@ -265,8 +265,9 @@ pub(crate) static ENDPOINT_KEYS: [PlanKey; 5] = [
 ];
 
 /// The keys of a table of `request`.
-pub(crate) static REQUEST_KEYS: [PlanKey; 8] =
-    [TYPE, CODE, VALUE, INDEX, LENGTH, ANSWER, KEPT, REFUSE];
+pub(crate) static REQUEST_KEYS: [PlanKey; 8] = [
+    TYPE, CODE, VALUE, INDEX, LENGTH, ANSWER, KEPT, REFUSE,
+];
 
 /// The keys of a damage.
 pub(crate) static DAMAGE_KEYS: [PlanKey; 4] = [ATTEMPT, PACKET, HOW, BIT];

@@ -1,15 +1,15 @@
 -- The keys of an event by the values that stand at them.
-use Rattle.std.proofs.Common.{◌≡◌, ℕ, List, [], ◌∷◌, ◌++◌, Bool, true, false, not, ◌&&◌, ◌||◌, Some, Option}
+use Rattle.std.proofs.Common.{◌≡◌, ℕ, List, [], ◌∷◌, ◌++◌, Bool, true, false, not, ◌&&◌, ◌||◌, Some}
 use Rattle.std.proofs.Common.{Result, Ok, Err, refl, sym, ap, ap₂, ◌∙◌, codes, is_none}
 use Rattle.std.proofs.Common.{if◌then◌else◌}
 use Rattle.std.specs.Str.{bytes_eq}
-use Rattle.std.specs.List.{list_all, list_any}
+use Rattle.std.specs.List.{list_any}
 use Rattle.toml.specs.Data.{Data, Members, no_members, member, get_member}
 use Rattle.usb_plan.specs.declared.entry_fault.EntryFault.{EntryFault}
 use Rattle.usb_plan.specs.{BadValue, OtherKeys, Alone, PathDevice, PathBytes, PathPackets}
-use Rattle.usb_plan.specs.{PathEndpoint, PathSetting, PathSetup, Said, other_names, strangers}
+use Rattle.usb_plan.specs.{PathEndpoint, PathSetting, PathSetup, Said, names_common}
 use Rattle.usb_plan.specs.{only_named, keys_at, EventValues, event_values, verb_at}
-use Rattle.usb_plan.specs.{action_of, other_keys, SceneData, keys_of, event_keys}
+use Rattle.usb_plan.specs.{action_of, other_keys, SceneData, keys_of, event_keys, verb_fits}
 use Rattle.usb_plan.specs.{keys_given, after_at, event_room, event_with, event_given, event_of}
 use Rattle.usb_plan.specs.{event_in, no_when}
 use Rattle.usb_plan.specs.declared.verb.Verb.{Verb}
@@ -25,10 +25,6 @@ any_without (x ∷ front) back k l h = ap (λ b. bytes_eq l x || b) (any_without
 and_no : (x : Bool) → false ≡ x && false
 and_no true = refl
 and_no false = refl
-
-and_yes : (x : Bool) → x ≡ x && true
-and_yes true = refl
-and_yes false = refl
 
 and_turned : (a b c : Bool) → a && (b && c) ≡ (a && b) && c
 and_turned true b c = refl
@@ -99,25 +95,6 @@ to_interface = to_endpoint ++ codes "interface" ∷ []
 to_setting : List (List ℕ)
 to_setting = to_interface ++ codes "setting" ∷ []
 
--- no other key, and none of those that go with `show` or `interface` alone
-abbrev names_common : EventValues → Bool
-names_common v =
-    not v.has_others && is_none v.said && is_none v.setting && is_none v.interface
-
--- it holds, and so little is there
-abbrev gone : Bool → List (Option Data) → Bool
-gone b [] = b
-gone b (d ∷ ds) = gone (b && is_none d) ds
-
-gone_is : (b : Bool) (ds : List (Option Data)) → gone b ds ≡ b && list_all is_none ds
-gone_is b [] = and_yes b
-gone_is b (d ∷ ds) =
-    gone_is (b && is_none d) ds ∙ sym (and_turned b (is_none d) (list_all is_none ds))
-
--- the same as the keys that are given
-fits : OtherKeys → EventValues → Bool
-fits keys v = gone (not v.has_others) (strangers keys v)
-
 -- the keys of one table
 without_said : (ms : Members) → only_named to_setting ms
     ≡ not (event_values ms).has_others && is_none (event_values ms).said
@@ -155,16 +132,16 @@ unfolding event_values to_packets to_bytes to_device to_path
 without_packets ms = less_named to_bytes [] (codes "packets") ms _ refl (without_setup ms)
 
 path_device_fits : (ms : Members) → only_named to_device ms
-    ≡ fits PathDevice (event_values ms)
-unfolding event_values fits strangers to_bytes to_device to_path
+    ≡ verb_fits PathDevice (event_values ms)
+unfolding event_values verb_fits to_bytes to_device to_path
 path_device_fits ms = less_named to_device [] (codes "bytes") ms _ refl (without_packets ms)
 
-path_fits : (ms : Members) → only_named to_path ms ≡ fits Path (event_values ms)
-unfolding event_values fits strangers to_device to_path
+path_fits : (ms : Members) → only_named to_path ms ≡ verb_fits Path (event_values ms)
+unfolding event_values verb_fits to_device to_path
 path_fits ms = less_named to_path [] (codes "device") ms _ refl (path_device_fits ms)
 
-alone_fits : (ms : Members) → only_named (event_keys []) ms ≡ fits Alone (event_values ms)
-unfolding event_values fits strangers to_path
+alone_fits : (ms : Members) → only_named (event_keys []) ms ≡ verb_fits Alone (event_values ms)
+unfolding event_values verb_fits to_path
 alone_fits ms = less_named (event_keys []) [] (codes "path") ms _ refl (path_fits ms)
 
 -- the same, where the key `endpoint` may stand
@@ -184,29 +161,29 @@ unfolding event_values only_endpoint to_packets to_bytes to_device to_path
 but_packets ms = less_named to_bytes only_endpoint (codes "packets") ms _ refl (but_setup ms)
 
 bytes_fits : (ms : Members) → only_named (to_path ++ codes "bytes" ∷ only_endpoint) ms
-    ≡ fits PathBytes (event_values ms)
-unfolding event_values fits strangers only_endpoint to_bytes to_device to_path
+    ≡ verb_fits PathBytes (event_values ms)
+unfolding event_values verb_fits only_endpoint to_bytes to_device to_path
 bytes_fits ms = less_named to_path (codes "bytes" ∷ only_endpoint) (codes "device") ms _ refl
     (but_packets ms)
 
 packets_fits : (ms : Members) → only_named (to_path ++ codes "packets" ∷ only_endpoint) ms
-    ≡ fits PathPackets (event_values ms)
-unfolding event_values fits strangers only_endpoint to_packets to_bytes to_device to_path
+    ≡ verb_fits PathPackets (event_values ms)
+unfolding event_values verb_fits only_endpoint to_packets to_bytes to_device to_path
 packets_fits ms =
     let back : List (List ℕ) = codes "packets" ∷ only_endpoint in
     less_named to_path back (codes "device") ms _ refl
     (less_named to_device back (codes "bytes") ms _ refl (but_setup ms))
 
 endpoint_fits : (ms : Members) → only_named (to_path ++ only_endpoint) ms
-    ≡ fits PathEndpoint (event_values ms)
-unfolding event_values fits strangers only_endpoint to_bytes to_device to_path
+    ≡ verb_fits PathEndpoint (event_values ms)
+unfolding event_values verb_fits only_endpoint to_bytes to_device to_path
 endpoint_fits ms =
     less_named to_path only_endpoint (codes "device") ms _ refl
     (less_named to_device only_endpoint (codes "bytes") ms _ refl (but_packets ms))
 
 setup_fits : (ms : Members) → only_named (to_path ++ codes "bytes" ∷ codes "setup" ∷ []) ms
-    ≡ fits PathSetup (event_values ms)
-unfolding event_values fits strangers to_setup to_packets to_bytes to_device to_path
+    ≡ verb_fits PathSetup (event_values ms)
+unfolding event_values verb_fits to_setup to_packets to_bytes to_device to_path
 setup_fits ms =
     less_named to_path (codes "bytes" ∷ codes "setup" ∷ []) (codes "device") ms _ refl
     (less_named to_bytes (codes "setup" ∷ []) (codes "packets") ms _ refl (without_endpoint ms))
@@ -227,8 +204,8 @@ with_setting ms =
     (less_named to_setup only_setting (codes "endpoint") ms _ refl (without_said ms)))
 
 setting_fits : (ms : Members) → only_named (to_path ++ only_setting) ms
-    ≡ fits PathSetting (event_values ms)
-unfolding event_values fits strangers only_setting to_bytes to_device to_path
+    ≡ verb_fits PathSetting (event_values ms)
+unfolding event_values verb_fits only_setting to_bytes to_device to_path
 setting_fits ms =
     less_named to_path only_setting (codes "device") ms _ refl
     (less_named to_device only_setting (codes "bytes") ms _ refl (with_setting ms))
@@ -249,8 +226,8 @@ with_said ms =
     (less_named to_endpoint only_said (codes "interface") ms _ refl
     (less_named to_interface only_said (codes "setting") ms _ refl (not_not _))))
 
-said_fits : (ms : Members) → only_named (event_keys only_said) ms ≡ fits Said (event_values ms)
-unfolding event_values fits strangers only_said to_packets to_bytes to_device to_path
+said_fits : (ms : Members) → only_named (event_keys only_said) ms ≡ verb_fits Said (event_values ms)
+unfolding event_values verb_fits only_said to_packets to_bytes to_device to_path
 said_fits ms =
     less_named (event_keys []) only_said (codes "path") ms _ refl
     (less_named to_path only_said (codes "device") ms _ refl
@@ -260,24 +237,18 @@ said_fits ms =
 answer : Bool → Result (Unit {0}) EntryFault
 answer b = if b then Ok tt else Err BadValue
 
-only_given : (keys : OtherKeys) (ms : Members)
-    → only_named (event_keys (other_names keys)) ms ≡ fits keys (event_values ms)
-unfolding only_endpoint only_said only_setting to_device to_path
-only_given Alone ms = alone_fits ms
-only_given Path ms = path_fits ms
-only_given PathDevice ms = path_device_fits ms
-only_given PathBytes ms = bytes_fits ms
-only_given PathPackets ms = packets_fits ms
-only_given PathEndpoint ms = endpoint_fits ms
-only_given PathSetup ms = setup_fits ms
-only_given PathSetting ms = setting_fits ms
-only_given Said ms = said_fits ms
-
 pub keys_given-event_values : (keys : OtherKeys) (ms : Members) → keys_given keys (event_values ms)
     ≡ keys_of keys ms
-unfolding keys_given keys_of keys_at answer fits
-keys_given-event_values keys ms = ap answer (sym (only_given keys ms
-    ∙ gone_is (not (event_values ms).has_others) (strangers keys (event_values ms))))
+unfolding keys_given keys_of keys_at answer only_endpoint only_said only_setting to_device to_path
+keys_given-event_values Alone ms = ap answer (sym (alone_fits ms))
+keys_given-event_values Path ms = ap answer (sym (path_fits ms))
+keys_given-event_values PathDevice ms = ap answer (sym (path_device_fits ms))
+keys_given-event_values PathBytes ms = ap answer (sym (bytes_fits ms))
+keys_given-event_values PathPackets ms = ap answer (sym (packets_fits ms))
+keys_given-event_values PathEndpoint ms = ap answer (sym (endpoint_fits ms))
+keys_given-event_values PathSetup ms = ap answer (sym (setup_fits ms))
+keys_given-event_values PathSetting ms = ap answer (sym (setting_fits ms))
+keys_given-event_values Said ms = ap answer (sym (said_fits ms))
 
 -- an event by the values of its table
 pub event_in_refused : (scene : SceneData) (count : ℕ) (ms : Members) (v : EventValues)

@@ -1,7 +1,6 @@
 pub mod Interface
 mod DigitPairs
 mod Entries
-mod Both
 mod Steps
 mod Parts
 mod MemoryRefusals

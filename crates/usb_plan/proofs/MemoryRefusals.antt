@@ -1,10 +1,11 @@
 -- What was read is what is spelled, but where memory was refused.
-use Rattle.std.proofs.Common.{◌≡◌, ◌≢◌, ℕ, Bool, List, Option, Some, None, Result}
+use Rattle.std.proofs.Common.{◌≡◌, ◌≢◌, ℕ, List, [], ◌∷◌, ◌++◌, Bool, Option, Some, None, Result}
 use Rattle.std.proofs.Common.{Ok, Err, refl, ap, sym, ◌∙◌, IsErrAnd}
 use Rattle.usb_device.specs.{Hub}
 use Rattle.usb_plan.specs.declared.entry_fault.EntryFault.{EntryFault}
-use Rattle.usb_plan.specs.{Memory, PlanFault, Identity, DeviceTexts, both, least, at, entry_at}
-use Rattle.usb_plan.specs.{◌>>=◌, EqualUnless, control, event_with, out_endpoint, send_with}
+use Rattle.usb_plan.specs.{Memory, PlanFault, Identity, DeviceTexts, fault_in_part, sooner}
+use Rattle.usb_plan.specs.{least_fault, least, at, entry_at, ◌>>=◌, EqualUnless, send, control}
+use Rattle.usb_plan.specs.{event_with, out_endpoint, send_to, send_with}
 use Rattle.usb_plan.specs.{bulk_with, class_at, hub_with, with_item, identity_with}
 use Rattle.usb_plan.specs.{device_tables_with, device_texts_with, device_with, DeviceTables}
 use Rattle.usb_plan.specs.{endpoint_with, endpoints_with}
@@ -61,41 +62,28 @@ unfolding least
 least-memory Memory = refl
 least-memory _ = refl
 
+sooner-memory : (f : Option EntryFault) → sooner f (Err Memory) ≡ Err Memory
+unfolding sooner
+sooner-memory None = refl
+sooner-memory (Some k) = ap Err (least-memory k)
+
 memory-least : (k : EntryFault) → least Memory k ≡ Memory
 unfolding least
 memory-least Memory = refl
 memory-least _ = refl
 
+memory-sooner : (others : Result (Unit {0}) EntryFault) → sooner (Some Memory) others ≡ Err Memory
+unfolding sooner
+memory-sooner (Ok u) = refl
+memory-sooner (Err k) = ap Err (memory-least k)
+
 -- refused memory is told before all
-memory-both : {A B : Type 0} (b : Result B EntryFault) → both {A = A} (Err Memory) b ≡ Err Memory
-unfolding both
-memory-both (Ok b) = refl
-memory-both (Err k) = ap Err (memory-least k)
-
-both-memory : {A B : Type 0} (a : Result A EntryFault) → both {B = B} a (Err Memory) ≡ Err Memory
-unfolding both
-both-memory (Ok a) = refl
-both-memory (Err k) = ap Err (least-memory k)
-
-both_unless : {A B : Type 0} (a x : Result A EntryFault) (b y : Result B EntryFault)
-    → EqualUnless Memory a x → EqualUnless Memory b y → EqualUnless Memory (both a b) (both x y)
-both_unless a x b y h g =
-    unless_then Memory _ (both x b) _
-    (unless_through Memory Memory (λ r. both r b) a x (memory-both b) h)
-    (unless_through Memory Memory (both x) b y (both-memory x) g)
-
-first_unless : {A B : Type 0} (a x : Result A EntryFault) (b : Result B EntryFault)
-    → EqualUnless Memory a x → EqualUnless Memory (both a b) (both x b)
-first_unless a x b h = unless_through Memory Memory (λ r. both r b) a x (memory-both b) h
-
-second_unless : {A B : Type 0} (a : Result A EntryFault) (b y : Result B EntryFault)
-    → EqualUnless Memory b y → EqualUnless Memory (both a b) (both a y)
-second_unless a b y h = unless_through Memory Memory (both a) b y (both-memory a) h
-
--- what follows takes it on
-then_unless : {A B : Type 0} (r s : Result A EntryFault) (f : A → Result B EntryFault)
-    → EqualUnless Memory r s → EqualUnless Memory (r >>= f) (s >>= f)
-then_unless r s f h = unless_through Memory Memory (λ x. x >>= f) r s refl h
+pub least_fault-memory : (before after : List (Option EntryFault))
+    → least_fault (before ++ Some Memory ∷ after) ≡ Err Memory
+unfolding least_fault
+least_fault-memory [] after = memory-sooner (least_fault after)
+least_fault-memory (f ∷ before) after = ap (sooner f) (least_fault-memory before after)
+    ∙ sooner-memory f
 
 pub hub_with_unless : (wide : Bool) (ports : ℕ) (read spelled : Result (List ℕ) EntryFault)
     → EqualUnless Memory read spelled → EqualUnless Memory (hub_with wide ports read)
@@ -104,71 +92,102 @@ unfolding hub_with
 hub_with_unless wide ports read spelled h = unless_through Memory Memory (hub_with wide ports) read
     spelled refl h
 
+send_unless : (path bytes b : Result (List ℕ) EntryFault) → EqualUnless Memory bytes b
+    → EqualUnless Memory (send path bytes) (send path b)
+unfolding send fault_in_part
+send_unless path bytes b h = unless_through Memory Memory (send path) bytes b
+    (bind_err _ _ Memory (least_fault-memory (_ ∷ []) _)) h
+
+send_to_unless : (path : Result (List ℕ) EntryFault) (endpoint : Result ℕ EntryFault)
+    (bytes b : Result (List ℕ) EntryFault) → EqualUnless Memory bytes b
+    → EqualUnless Memory (send_to path endpoint bytes) (send_to path endpoint b)
+unfolding send_to fault_in_part
+send_to_unless path endpoint bytes b h = unless_through Memory Memory (send_to path endpoint) bytes
+    b (bind_err _ _ Memory (least_fault-memory (_ ∷ _ ∷ []) _)) h
+
 pub send_with_unless : (endpoint : Option Data) (path bytes b : Result (List ℕ) EntryFault)
     → EqualUnless Memory bytes b
     → EqualUnless Memory (send_with endpoint path bytes) (send_with endpoint path b)
 unfolding send_with
-send_with_unless None path bytes b h = then_unless _ _ _ (second_unless path bytes b h)
-send_with_unless (Some d) path bytes b h = then_unless _ _ _ (second_unless path _ _
-    (second_unless (out_endpoint d) bytes b h))
+send_with_unless None path bytes b h = send_unless path bytes b h
+send_with_unless (Some d) path bytes b h = send_to_unless path (out_endpoint d) bytes b h
 
 pub control_unless : (path : Result (List ℕ) EntryFault) (request r : Result Request EntryFault)
     (bytes b : Result (Unit {0}) EntryFault) → EqualUnless Memory request r
     → EqualUnless Memory bytes b
     → EqualUnless Memory (control path request bytes) (control path r b)
-unfolding control
-control_unless path request r bytes b h g = then_unless _ _ _ (second_unless path _ _
-    (both_unless request r bytes b h g))
+unfolding control fault_in_part
+control_unless path request r bytes b h g =
+    unless_then Memory _ (control path r bytes) _
+    (unless_through Memory Memory (λ x. control path x bytes) request r
+    (bind_err _ _ Memory (least_fault-memory (_ ∷ []) _)) h)
+    (unless_through Memory Memory (control path r) bytes b
+    (bind_err _ _ Memory (least_fault-memory (_ ∷ _ ∷ []) _)) g)
 
 pub event_unless : (action a : Result Action EntryFault) (after : Result ℕ EntryFault)
     (keys room : Result (Unit {0}) EntryFault) → EqualUnless Memory action a
     → EqualUnless Memory (event_with action after keys room) (event_with a after keys room)
-unfolding event_with
-event_unless action a after keys room h = then_unless _ _ _ (first_unless action a _ h)
+unfolding event_with fault_in_part
+event_unless action a after keys room h =
+    unless_through Memory Memory (λ x. event_with x after keys room) action a
+    (bind_err _ _ Memory (least_fault-memory [] _)) h
 
 pub row_unless : (numbers : Result Codes EntryFault) (fields : Result Fields EntryFault)
     (answer a : Result OwnAnswer EntryFault) (keys : Result (Unit {0}) EntryFault)
     → EqualUnless Memory answer a
     → EqualUnless Memory (row_with numbers fields answer keys) (row_with numbers fields a keys)
-unfolding row_with
-row_unless numbers fields answer a keys h = then_unless _ _ _ (second_unless numbers _ _
-    (second_unless fields _ _ (first_unless answer a keys h)))
+unfolding row_with fault_in_part
+row_unless numbers fields answer a keys h =
+    unless_through Memory Memory (λ x. row_with numbers fields x keys) answer a
+    (bind_err _ _ Memory (least_fault-memory (_ ∷ _ ∷ []) _)) h
 
 pub endpoint_unless : (address : Result ℕ EntryFault) (given g : Result EndpointData EntryFault)
     (halt_after : Result (Option ℕ) EntryFault) (naks : Result ℕ EntryFault)
     (keys : Result (Unit {0}) EntryFault) → EqualUnless Memory given g
     → EqualUnless Memory (endpoint_with address given halt_after naks keys)
     (endpoint_with address g halt_after naks keys)
-unfolding endpoint_with
-endpoint_unless address given g halt_after naks keys h = then_unless _ _ _
-    (second_unless address _ _ (first_unless given g _ h))
+unfolding endpoint_with fault_in_part
+endpoint_unless address given g halt_after naks keys h =
+    unless_through Memory Memory (λ x. endpoint_with address x halt_after naks keys) given g
+    (bind_err _ _ Memory (least_fault-memory (_ ∷ []) _)) h
 
 pub endpoints_unless : (endpoints e : Result (List EndpointSpec) EntryFault)
     (distinct : Result (Unit {0}) EntryFault) → EqualUnless Memory endpoints e
     → EqualUnless Memory (endpoints_with endpoints distinct) (endpoints_with e distinct)
-unfolding endpoints_with
-endpoints_unless endpoints e distinct h = then_unless _ _ _ (first_unless endpoints e distinct h)
+unfolding endpoints_with fault_in_part
+endpoints_unless endpoints e distinct h = unless_through Memory Memory
+    (λ x. endpoints_with x distinct) endpoints e
+    (bind_err _ _ Memory (least_fault-memory [] _)) h
 
 pub device_tables_unless : (endpoints e : Result (List EndpointSpec) EntryFault)
     (requests r : Result (List OwnRequest) EntryFault) → EqualUnless Memory endpoints e
     → EqualUnless Memory requests r
     → EqualUnless Memory (device_tables_with endpoints requests) (device_tables_with e r)
-unfolding device_tables_with
+unfolding device_tables_with fault_in_part
 device_tables_unless endpoints e requests r h g =
-    then_unless _ _ _ (both_unless endpoints e requests r h g)
+    unless_then Memory _ (device_tables_with e requests) _
+    (unless_through Memory Memory (λ x. device_tables_with x requests) endpoints e
+    (bind_err _ _ Memory (least_fault-memory [] _)) h)
+    (unless_through Memory Memory (device_tables_with e) requests r
+    (bind_err _ _ Memory (least_fault-memory (_ ∷ []) _)) g)
 
 pub bulk_unless : (source s : Result (List ℕ) EntryFault)
     (halt_after : Result (Option ℕ) EntryFault) → EqualUnless Memory source s
     → EqualUnless Memory (bulk_with source halt_after) (bulk_with s halt_after)
-unfolding bulk_with
-bulk_unless source s halt_after h = then_unless _ _ _ (first_unless source s halt_after h)
+unfolding bulk_with fault_in_part
+bulk_unless source s halt_after h = unless_through Memory Memory (λ x. bulk_with x halt_after)
+    source s (bind_err _ _ Memory (least_fault-memory [] _)) h
 
 pub device_texts_unless : (configs c strings s : Result Texts EntryFault)
     → EqualUnless Memory configs c → EqualUnless Memory strings s
     → EqualUnless Memory (device_texts_with configs strings) (device_texts_with c s)
-unfolding device_texts_with
+unfolding device_texts_with fault_in_part
 device_texts_unless configs c strings s h g =
-    then_unless _ _ _ (both_unless configs c strings s h g)
+    unless_then Memory _ (device_texts_with c strings) _
+    (unless_through Memory Memory (λ x. device_texts_with x strings) configs c
+    (bind_err _ _ Memory (least_fault-memory [] _)) h)
+    (unless_through Memory Memory (device_texts_with c) strings s
+    (bind_err _ _ Memory (least_fault-memory (_ ∷ []) _)) g)
 
 -- the class is asked of the descriptor that was read
 pub identity_unless : (name n : Result (List ℕ) EntryFault) (low : Result Bool EntryFault)
@@ -177,13 +196,17 @@ pub identity_unless : (name n : Result (List ℕ) EntryFault) (low : Result Bool
     → EqualUnless Memory descriptor d → EqualUnless Memory hub h
     → EqualUnless Memory (identity_with name low descriptor (class_at ports low descriptor) hub)
     (identity_with n low d (class_at ports low d) h)
-unfolding identity_with
+unfolding identity_with fault_in_part
 identity_unless name n low descriptor d ports hub h name_is descriptor_is hub_is =
-    then_unless _ _ _ (both_unless name n _ _ name_is (second_unless low _ _
-    (unless_then Memory _ (both d (both (class_at ports low d) hub)) _
-    (unless_through Memory Memory (λ x. both x (both (class_at ports low x) hub)) descriptor d
-    (memory-both _) descriptor_is)
-    (second_unless d _ _ (second_unless (class_at ports low d) hub h hub_is)))))
+    unless_then Memory _ (identity_with n low descriptor (class_at ports low descriptor) hub) _
+    (unless_through Memory Memory (λ x. identity_with x low descriptor
+    (class_at ports low descriptor) hub) name n (bind_err _ _ Memory (least_fault-memory [] _))
+    name_is)
+    (unless_then Memory _ (identity_with n low d (class_at ports low d) hub) _
+    (unless_through Memory Memory (λ x. identity_with n low x (class_at ports low x) hub) descriptor
+    d (bind_err _ _ Memory (least_fault-memory (_ ∷ _ ∷ []) _)) descriptor_is)
+    (unless_through Memory Memory (identity_with n low d (class_at ports low d)) hub h
+    (bind_err _ _ Memory (least_fault-memory (_ ∷ _ ∷ _ ∷ _ ∷ []) _)) hub_is))
 
 pub device_unless : (identity i : Result Identity EntryFault)
     (texts c : Result DeviceTexts EntryFault) (quirks : Result Quirks EntryFault)
@@ -193,21 +216,30 @@ pub device_unless : (identity i : Result Identity EntryFault)
     → EqualUnless Memory tables t
     → EqualUnless Memory (device_with identity texts quirks bulk tables keys room)
     (device_with i c quirks b t keys room)
-unfolding device_with
+unfolding device_with fault_in_part
 device_unless identity i texts c quirks bulk b tables t keys room identity_is texts_is bulk_is
     tables_is =
-    then_unless _ _ _ (both_unless identity i _ _ identity_is (both_unless texts c _ _ texts_is
-    (second_unless quirks _ _ (both_unless bulk b _ _ bulk_is (first_unless tables t _ tables_is)))))
+    unless_then Memory _ (device_with i texts quirks bulk tables keys room) _
+    (unless_through Memory Memory (λ x. device_with x texts quirks bulk tables keys room)
+    identity i (bind_err _ _ Memory (least_fault-memory [] _)) identity_is)
+    (unless_then Memory _ (device_with i c quirks bulk tables keys room) _
+    (unless_through Memory Memory (λ x. device_with i x quirks bulk tables keys room) texts c
+    (bind_err _ _ Memory (least_fault-memory (_ ∷ []) _)) texts_is)
+    (unless_then Memory _ (device_with i c quirks b tables keys room) _
+    (unless_through Memory Memory (λ x. device_with i c quirks x tables keys room) bulk b
+    (bind_err _ _ Memory (least_fault-memory (_ ∷ _ ∷ _ ∷ []) _)) bulk_is)
+    (unless_through Memory Memory (λ x. device_with i c quirks b x keys room) tables t
+    (bind_err _ _ Memory (least_fault-memory (_ ∷ _ ∷ _ ∷ _ ∷ []) _)) tables_is)))
 
 items-memory : {A : Type 0} (item : Result A EntryFault)
     → with_item {A = A} (Err Memory) item ≡ Err Memory
-unfolding with_item
-items-memory item = bind_err _ _ Memory (memory-both item)
+unfolding with_item fault_in_part
+items-memory item = bind_err _ _ Memory (least_fault-memory [] (fault_in_part item ∷ []))
 
 item-memory : {A : Type 0} (items : Result (List A) EntryFault)
     → with_item items (Err Memory) ≡ Err Memory
-unfolding with_item
-item-memory items = bind_err _ _ Memory (both-memory items)
+unfolding with_item fault_in_part
+item-memory items = bind_err _ _ Memory (least_fault-memory (fault_in_part items ∷ []) [])
 
 -- one item more, where neither was refused memory
 pub record WithItemIs {A : Type 0} (items read : Result (List A) EntryFault)

@@ -11,8 +11,9 @@ use Rattle.usb_port.specs.{path_of}
 use Rattle.usb_request.specs.{DIRECTION_IN}
 use Rattle.usb_plan.specs.declared.entry_fault.EntryFault.{EntryFault}
 use Rattle.usb_plan.specs.{MissingKey, BadValue, UnknownDevice, BadPath, PortTaken, PortEmpty}
-use Rattle.usb_plan.specs.{Identity, DeviceTables, DeviceTexts, SceneData, Way, both, is_port}
-use Rattle.usb_plan.specs.{entry_at, ◌>>=◌, read_text, number_in, number_at}
+use Rattle.usb_plan.specs.{Identity, DeviceTables, DeviceTexts, SceneData, Way, fault_in_part}
+use Rattle.usb_plan.specs.{is_port}
+use Rattle.usb_plan.specs.{sooner, least_fault, entry_at, ◌>>=◌, read_text, number_in, number_at}
 use Rattle.usb_plan.specs.{number_or, class_at, hub_at, no_hub, is_low_speed, is_other, quirks_with}
 use Rattle.usb_plan.specs.{quirks_of, flag_at, stalls_at, source_at, naks_at, bulk_with, read_bulk}
 use Rattle.usb_plan.specs.{halt_at, halt_in, name_in, name_at, speed_at, descriptor_at, with_quirks}
@@ -22,9 +23,9 @@ use Rattle.usb_plan.specs.{device_in, has_numbers_of, read_path, free_path, take
 use Rattle.usb_plan.specs.{action_of}
 use Rattle.usb_plan.specs.{EventValues, event_values, device_index_at, bytes_at, packets_at}
 use Rattle.usb_plan.specs.{plug_of, unplug_of, send_of, receive_of, clear_of, control_of, look_of}
-use Rattle.usb_plan.specs.{asked, control, request_at, after_at, event_room, interrupt_of, any_endpoint}
-use Rattle.usb_plan.specs.{out_endpoint, in_endpoint, in_endpoint_at}
-use Rattle.usb_plan.specs.{send_with, receive_with, clear_with, interface_of, byte_at}
+use Rattle.usb_plan.specs.{asked, request_at, after_at, event_room, interrupt_of, any_endpoint}
+use Rattle.usb_plan.specs.{out_endpoint, in_endpoint, in_endpoint_at, send_to, receive_from}
+use Rattle.usb_plan.specs.{send_with, receive_with, clear_with, clear_end, interface_of, byte_at}
 use Rattle.usb_plan.specs.{show_of}
 use Rattle.usb_plan.specs.declared.action.Request.{Request}
 use Rattle.usb_plan.specs.declared.action.Request.TheVariants.{Read, Write}
@@ -36,7 +37,6 @@ use Rattle.usb_plan.specs.declared.plan.Top.{Top}
 use Rattle.usb_plan.specs.declared.quirks.Quirks.{Quirks}
 use Rattle.usb_plan.specs.declared.bulk.Bulk.{Bulk}
 use Rattle.usb_plan.specs.declared.fault.Place.{Place}
-use Rattle.usb_plan.proofs.Both.{AreGood, both_good}
 use Rattle.usb_world.specs.{Event, Action, Plug, Unplug, Send, Receive, Clear, Look, SendTo}
 use Rattle.usb_world.specs.{ReceiveFrom, Poll, ClearOf, SetInterface, Show}
 use Rattle.usb_world.specs.{Damage, Harm, Lose, LosePre, Flip, is_rooted, has_port, is_taken}
@@ -47,6 +47,7 @@ use Rattle.usb_plan.specs.declared.verb.Verb.TheVariants as verb
 use Rattle.usb_plan.specs.declared.damage.Way.TheVariants as way
 use Rattle.usb_device.specs.{Spec, Hub, hub_fits, has_hub_class, function, is_named}
 use Rattle.usb_plan.specs.Device as device
+use Rattle.usb_plan.specs.Action as action
 use Rattle.usb_plan.specs.Damage as damage
 
 -- a value was good, and what was asked for after it
@@ -64,22 +65,28 @@ ok_or_some : {A : Type 0} (o : Option A) (k : EntryFault) (x : A) → ok_or o k 
 ok_or_some None k x h = cc
 ok_or_some (Some a) k x h = cc
 
--- both parts were good, and what was made of them
-record IsMadeOf {A B C : Type 0} (a : Result A EntryFault) (b : Result B EntryFault)
-    (f : A × B → Result C EntryFault) (y : C) : Type 0 where
-  value : A × B
-  parts : AreGood a b value
-  rest : f value ≡ Ok y
+fault_in_part-none : {A : Type 0} (r : Result A EntryFault) → fault_in_part r ≡ None → (x : A)
+    × (r ≡ Ok x)
+unfolding fault_in_part
+fault_in_part-none (Ok x) h = (x, refl)
+fault_in_part-none (Err k) h = cc
 
-made_of : {A B C : Type 0} (a : Result A EntryFault) (b : Result B EntryFault)
-    (f : A × B → Result C EntryFault) (y : C) → both a b >>= f ≡ Ok y → IsMadeOf a b f y
-made_of a b f y h =
-    let good = bind_good (both a b) f y h in
-    record {
-      value = good.value;
-      parts = both_good a b good.value good.good;
-      rest = good.rest;
-    }
+sooner_ok : (f : Option EntryFault) (others : Result (Unit {0}) EntryFault) (u : Unit {0})
+    → sooner f others ≡ Ok u → (f ≡ None) × (others ≡ Ok u)
+unfolding sooner
+sooner_ok None others u h = (refl, h)
+sooner_ok (Some k) (Ok v) u h = cc
+sooner_ok (Some k) (Err l) u h = cc
+
+-- where nothing is told, the part at an index is good
+good_part : {A : Type 0} (fs : List (Option EntryFault)) (u : Unit {0}) (i : ℕ)
+    (r : Result A EntryFault) → least_fault fs ≡ Ok u → slice_get fs i ≡ Some (fault_in_part r)
+    → (x : A) × (r ≡ Ok x)
+unfolding least_fault
+good_part [] u i r h at = cc
+good_part (f ∷ fs) u zero r h at = let same : f ≡ fault_in_part r = cc at in
+    fault_in_part-none r (sym same ∙ (sooner_ok f (least_fault fs) u h).0)
+good_part (f ∷ fs) u (suc i) r h at = good_part fs u i r (sooner_ok f (least_fault fs) u h).1 at
 
 pub entry_at_ok : {A : Type 0} (p : Place) (r : Result A EntryFault) (x : A) → entry_at p r ≡ Ok x
     → r ≡ Ok x
@@ -166,12 +173,14 @@ naks_at_ok o n h = number_or_ok 0 0 200 o n (omega arith) h
 pub quirks_of_ok : (ms : Members) (q : Quirks) → quirks_of ms ≡ Ok q → FewNaks q
 unfolding quirks_of quirks_with
 quirks_of_ok ms q h =
-    let made = made_of _ _ _ q h in
-    let busy = both_good _ _ made.value.1 made.parts.two in
-    let silent = both_good _ _ made.value.1.1 busy.two in
-    let naks = both_good _ _ made.value.1.1.1 silent.two in
-    let same : made.value.1.1.1.0 ≡ q.naks = cc made.rest in
-    naks_at_ok (get_member (codes "naks") ms) q.naks (naks.one ∙ ap Ok same)
+    let e0 = bind_good (least_fault _) _ q h in
+    let e1 = bind_good (flag_at (get_member (codes "self_powered") ms)) _ q e0.rest in
+    let e2 = bind_good (flag_at (get_member (codes "busy") ms)) _ q e1.rest in
+    let e3 = bind_good (flag_at (get_member (codes "silent") ms)) _ q e2.rest in
+    let e4 = bind_good (naks_at (get_member (codes "naks") ms)) _ q e3.rest in
+    let e5 = bind_good (stalls_at (get_member (codes "stalls") ms)) _ q e4.rest in
+    let same : e4.value ≡ q.naks = cc e5.rest in
+    naks_at_ok (get_member (codes "naks") ms) q.naks (e4.good ∙ ap Ok same)
 
 number_in_least : (low high : ℕ) (r : Result ℕ EntryFault) (o : Option ℤ) → r ≡ number_in low high o
     → IfOk r (λ n. low ≤ n)
@@ -192,9 +201,11 @@ halt_at_ok (Some d) h e = halt_in_ok (number_in 1 65535 (as_integer d)) h e
 pub read_bulk_ok : (ms : Members) (b : Bulk) → read_bulk ms ≡ Ok b → HaltsLater b
 unfolding read_bulk bulk_with
 read_bulk_ok ms b h =
-    let made = made_of _ _ _ b h in
-    let same : made.value.1 ≡ b.halt_after = cc made.rest in
-    halt_at_ok (get_member (codes "halt_after") ms) b.halt_after (made.parts.two ∙ ap Ok same)
+    let e0 = bind_good (least_fault _) _ b h in
+    let e1 = bind_good (source_at (get_member (codes "source") ms)) _ b e0.rest in
+    let e2 = bind_good (halt_at (get_member (codes "halt_after") ms)) _ b e1.rest in
+    let same : e2.value ≡ b.halt_after = cc e2.rest in
+    halt_at_ok (get_member (codes "halt_after") ms) b.halt_after (e2.good ∙ ap Ok same)
 
 class_at_ok : (wide : Bool) (ports descriptor : Option Data) (low : Bool) (bytes : List ℕ)
     (u : Unit {0}) (hub : Option Hub) → class_at ports (Ok low) (Ok bytes) ≡ Ok u
@@ -228,18 +239,18 @@ identity_with_ok : (name : Result (List ℕ) EntryFault) (low : Result Bool Entr
     → IdentityIs name low descriptor class hub i
 unfolding identity_with
 identity_with_ok name low descriptor class hub i h =
-    let made = made_of name _ _ i h in
-    let v = made.value in
-    let lows = both_good low _ v.1 made.parts.two in
-    let descriptors = both_good descriptor _ v.1.1 lows.two in
-    let classes = both_good class hub v.1.1.1 descriptors.two in
+    let e0 = bind_good (least_fault _) _ i h in
+    let e1 = bind_good name _ i e0.rest in
+    let e2 = bind_good low _ i e1.rest in
+    let e3 = bind_good descriptor _ i e2.rest in
+    let e4 = bind_good hub _ i e3.rest in
+    let class_good = good_part _ e0.value 3 class e0.good refl in
     record {
-      name_is = made.parts.one ∙ (let same : v.0 ≡ i.name = cc made.rest in ap Ok same);
-      low_is = lows.one ∙ (let same : v.1.0 ≡ i.low = cc made.rest in ap Ok same);
-      descriptor_is = descriptors.one
-          ∙ (let same : v.1.1.0 ≡ i.descriptor = cc made.rest in ap Ok same);
-      class_is = classes.one;
-      hub_is = classes.two ∙ (let same : v.1.1.1.1 ≡ i.hub = cc made.rest in ap Ok same);
+      name_is = e1.good ∙ (let same : e1.value ≡ i.name = cc e4.rest in ap Ok same);
+      low_is = e2.good ∙ (let same : e2.value ≡ i.low = cc e4.rest in ap Ok same);
+      descriptor_is = e3.good ∙ (let same : e3.value ≡ i.descriptor = cc e4.rest in ap Ok same);
+      class_is = class_good.1;
+      hub_is = e4.good ∙ (let same : e4.value ≡ i.hub = cc e4.rest in ap Ok same);
     }
 
 identity_is : (wide : Bool) (earlier : List Spec) (ms : Members) (i : Identity)
@@ -270,20 +281,22 @@ device_with_ok : (wide : Bool) (earlier : List Spec) (ms : Members) (i : Result 
     → Joins earlier s
 unfolding device_with
 device_with_ok wide earlier ms i c q b tables keys left s i_is room_is h =
-    let made = made_of i _ _ s h in
-    let v = made.value in
-    let texts = both_good c _ v.1 made.parts.two in
-    let quirks = both_good q _ v.1.1 texts.two in
-    let bulk = both_good b _ v.1.1.1 quirks.two in
-    let rest = both_good tables _ v.1.1.1.1 bulk.two in
-    let last = both_good keys left v.1.1.1.1.1 rest.two in
-    let is = identity_is wide earlier ms v.0 (sym i_is ∙ made.parts.one) in
-    let same : device_of_parts v.0 v.1.0 v.1.1.0 v.1.1.1.0 v.1.1.1.1.0 ≡ s = cc made.rest in
-    let name : v.0.name ≡ s.name =
-    sym (device_of_parts_name v.0 v.1.0 v.1.1.0 v.1.1.1.0 v.1.1.1.1.0) ∙ ap (λ t. t.name) same in
+    let e0 = bind_good (least_fault _) _ s h in
+    let e1 = bind_good i _ s e0.rest in
+    let e2 = bind_good c _ s e1.rest in
+    let e3 = bind_good q _ s e2.rest in
+    let e4 = bind_good b _ s e3.rest in
+    let e5 = bind_good tables _ s e4.rest in
+    let left_good = good_part _ e0.value 6 left e0.good refl in
+    let is = identity_is wide earlier ms e1.value (sym i_is ∙ e1.good) in
+    let same : device_of_parts e1.value e2.value e3.value e4.value e5.value ≡ s = cc e5.rest in
+    let name : e1.value.name ≡ s.name =
+    sym (device_of_parts_name e1.value e2.value e3.value e4.value e5.value)
+    ∙ ap (λ t. t.name) same in
     record {
-      room = device_room_ok earlier v.1.1.1.1.1.1 (sym room_is ∙ last.two);
-      new = rw (← name) (name_at_ok earlier (get_member (codes "name") ms) v.0.name is.name_is);
+      room = device_room_ok earlier left_good.0 (sym room_is ∙ left_good.1);
+      new = rw (← name) (name_at_ok earlier (get_member (codes "name") ms) e1.value.name
+          is.name_is);
     }
 
 read_device_ok : (wide : Bool) (earlier : List Spec) (ms : Members) (s : Spec)
@@ -368,14 +381,15 @@ FitsScene scene a = action_fits scene.roots scene.devices scene.plugged a ≡ tr
 
 plug_of_ok : (scene : SceneData) (v : EventValues) (a : Action) → plug_of scene v ≡ Ok a
     → FitsScene scene a
-unfolding plug_of
+unfolding plug_of action.plug
 plug_of_ok scene v a h =
-    let made = made_of _ _ _ a h in
-    let p = made.value in
-    let same : Change (Plug p.0 p.1) ≡ a = cc made.rest in
-    let path = free_path_ok scene (read_path scene v.path) p.0 made.parts.one in
-    let device = lt-ltb p.1 (length scene.devices)
-    (device_index_at_ok scene v.device p.1 made.parts.two) in
+    let e0 = bind_good (least_fault _) _ a h in
+    let e1 = bind_good (free_path scene (read_path scene v.path)) _ a e0.rest in
+    let e2 = bind_good (device_index_at scene v.device) _ a e1.rest in
+    let same : Change (Plug e1.value e2.value) ≡ a = cc e2.rest in
+    let path = free_path_ok scene (read_path scene v.path) e1.value e1.good in
+    let device = lt-ltb e2.value (length scene.devices)
+    (device_index_at_ok scene v.device e2.value e2.good) in
     rw (← same) (rw (path.port, path.free, device))
 
 unplug_of_ok : (scene : SceneData) (v : EventValues) (a : Action) → unplug_of scene v ≡ Ok a
@@ -413,19 +427,21 @@ in_endpoint_at_ok o e h =
 
 send_with_ok : (scene : SceneData) (o p : Option Data) (bytes : Result (List ℕ) EntryFault)
     (a : Action) → send_with o (read_path scene p) bytes ≡ Ok a → FitsScene scene a
-unfolding send_with
+unfolding send_with action.send send_to
 send_with_ok scene None p bytes a h =
-    let made = made_of _ _ _ a h in
-    let x = made.value in
-    let same : Ask (Send x.0 x.1) ≡ a = cc made.rest in
-    rw (← same) (read_path_ok scene p x.0 made.parts.one)
+    let e0 = bind_good (least_fault _) _ a h in
+    let e1 = bind_good (read_path scene p) _ a e0.rest in
+    let e2 = bind_good bytes _ a e1.rest in
+    let same : Ask (Send e1.value e2.value) ≡ a = cc e2.rest in
+    rw (← same) (read_path_ok scene p e1.value e1.good)
 send_with_ok scene (Some d) p bytes a h =
-    let made = made_of _ _ _ a h in
-    let x = made.value in
-    let ends = both_good (out_endpoint d) bytes x.1 made.parts.two in
-    let same : Ask (SendTo x.0 x.1.0 x.1.1) ≡ a = cc made.rest in
-    let way = out_endpoint_ok d x.1.0 ends.one in
-    rw (← same) (rw (read_path_ok scene p x.0 made.parts.one, way))
+    let e0 = bind_good (least_fault _) _ a h in
+    let e1 = bind_good (read_path scene p) _ a e0.rest in
+    let e2 = bind_good (out_endpoint d) _ a e1.rest in
+    let e3 = bind_good bytes _ a e2.rest in
+    let same : Ask (SendTo e1.value e2.value e3.value) ≡ a = cc e3.rest in
+    let way = out_endpoint_ok d e2.value e2.good in
+    rw (← same) (rw (read_path_ok scene p e1.value e1.good, way))
 
 send_of_ok : (scene : SceneData) (v : EventValues) (a : Action) → send_of scene v ≡ Ok a
     → FitsScene scene a
@@ -434,21 +450,23 @@ send_of_ok scene v a h = send_with_ok scene v.endpoint v.path (bytes_at v.bytes)
 
 receive_with_ok : (scene : SceneData) (o p q : Option Data) (a : Action)
     → receive_with o (read_path scene p) (packets_at q) ≡ Ok a → FitsScene scene a
-unfolding receive_with
+unfolding receive_with action.receive receive_from
 receive_with_ok scene None p q a h =
-    let made = made_of _ _ _ a h in
-    let x = made.value in
-    let same : Ask (Receive x.0 x.1) ≡ a = cc made.rest in
-    let few = le-leb x.1 1000 (packets_at_ok q x.1 made.parts.two) in
-    rw (← same) (rw (read_path_ok scene p x.0 made.parts.one, few))
+    let e0 = bind_good (least_fault _) _ a h in
+    let e1 = bind_good (read_path scene p) _ a e0.rest in
+    let e2 = bind_good (packets_at q) _ a e1.rest in
+    let same : Ask (Receive e1.value e2.value) ≡ a = cc e2.rest in
+    let few = le-leb e2.value 1000 (packets_at_ok q e2.value e2.good) in
+    rw (← same) (rw (read_path_ok scene p e1.value e1.good, few))
 receive_with_ok scene (Some d) p q a h =
-    let made = made_of _ _ _ a h in
-    let x = made.value in
-    let ends = both_good (in_endpoint d) (packets_at q) x.1 made.parts.two in
-    let same : Ask (ReceiveFrom x.0 x.1.0 x.1.1) ≡ a = cc made.rest in
-    let way = in_endpoint_ok d x.1.0 ends.one in
-    let few = le-leb x.1.1 1000 (packets_at_ok q x.1.1 ends.two) in
-    rw (← same) (rw (read_path_ok scene p x.0 made.parts.one, way, few))
+    let e0 = bind_good (least_fault _) _ a h in
+    let e1 = bind_good (read_path scene p) _ a e0.rest in
+    let e2 = bind_good (in_endpoint d) _ a e1.rest in
+    let e3 = bind_good (packets_at q) _ a e2.rest in
+    let same : Ask (ReceiveFrom e1.value e2.value e3.value) ≡ a = cc e3.rest in
+    let way = in_endpoint_ok d e2.value e2.good in
+    let few = le-leb e3.value 1000 (packets_at_ok q e3.value e3.good) in
+    rw (← same) (rw (read_path_ok scene p e1.value e1.good, way, few))
 
 receive_of_ok : (scene : SceneData) (v : EventValues) (a : Action) → receive_of scene v ≡ Ok a
     → FitsScene scene a
@@ -457,15 +475,17 @@ receive_of_ok scene v a h = receive_with_ok scene v.endpoint v.path v.packets a 
 
 clear_with_ok : (scene : SceneData) (o p : Option Data) (a : Action)
     → clear_with o (read_path scene p) ≡ Ok a → FitsScene scene a
-unfolding clear_with
+unfolding clear_with clear_end
 clear_with_ok scene None p a h =
     let path = bind_good (read_path scene p) _ a h in
     let same : Ask (Clear path.value) ≡ a = cc path.rest in
     rw (← same) (read_path_ok scene p path.value path.good)
 clear_with_ok scene (Some d) p a h =
-    let made = made_of _ _ _ a h in
-    let same : Ask (ClearOf made.value.0 made.value.1) ≡ a = cc made.rest in
-    rw (← same) (read_path_ok scene p made.value.0 made.parts.one)
+    let e0 = bind_good (least_fault _) _ a h in
+    let e1 = bind_good (read_path scene p) _ a e0.rest in
+    let e2 = bind_good (any_endpoint d) _ a e1.rest in
+    let same : Ask (ClearOf e1.value e2.value) ≡ a = cc e2.rest in
+    rw (← same) (read_path_ok scene p e1.value e1.good)
 
 clear_of_ok : (scene : SceneData) (v : EventValues) (a : Action) → clear_of scene v ≡ Ok a
     → FitsScene scene a
@@ -474,22 +494,25 @@ clear_of_ok scene v a h = clear_with_ok scene v.endpoint v.path a h
 
 interrupt_of_ok : (scene : SceneData) (v : EventValues) (a : Action)
     → interrupt_of scene v ≡ Ok a → FitsScene scene a
-unfolding interrupt_of
+unfolding interrupt_of action.poll
 interrupt_of_ok scene v a h =
-    let made = made_of _ _ _ a h in
-    let p = made.value in
-    let same : Ask (Poll p.0 p.1) ≡ a = cc made.rest in
-    let way = in_endpoint_at_ok v.endpoint p.1 made.parts.two in
-    rw (← same) (rw (read_path_ok scene v.path p.0 made.parts.one, way))
+    let e0 = bind_good (least_fault _) _ a h in
+    let e1 = bind_good (read_path scene v.path) _ a e0.rest in
+    let e2 = bind_good (in_endpoint_at v.endpoint) _ a e1.rest in
+    let same : Ask (Poll e1.value e2.value) ≡ a = cc e2.rest in
+    let way = in_endpoint_at_ok v.endpoint e2.value e2.good in
+    rw (← same) (rw (read_path_ok scene v.path e1.value e1.good, way))
 
 interface_of_ok : (scene : SceneData) (v : EventValues) (a : Action)
     → interface_of scene v ≡ Ok a → FitsScene scene a
-unfolding interface_of
+unfolding interface_of action.set_interface
 interface_of_ok scene v a h =
-    let made = made_of _ _ _ a h in
-    let p = made.value in
-    let same : Ask (SetInterface p.0 p.1.0 p.1.1) ≡ a = cc made.rest in
-    rw (← same) (read_path_ok scene v.path p.0 made.parts.one)
+    let e0 = bind_good (least_fault _) _ a h in
+    let e1 = bind_good (read_path scene v.path) _ a e0.rest in
+    let e2 = bind_good (byte_at v.interface) _ a e1.rest in
+    let e3 = bind_good (byte_at v.setting) _ a e2.rest in
+    let same : Ask (SetInterface e1.value e2.value e3.value) ≡ a = cc e3.rest in
+    rw (← same) (read_path_ok scene v.path e1.value e1.good)
 
 asked_fits : (scene : SceneData) (p : List ℕ) (r : Request) → is_rooted scene.roots p ≡ true
     → FitsScene scene (Ask (asked p r))
@@ -499,12 +522,13 @@ asked_fits scene p (Write write) rooted = rooted
 
 control_of_ok : (scene : SceneData) (v : EventValues) (a : Action) → control_of scene v ≡ Ok a
     → FitsScene scene a
-unfolding control_of control
+unfolding control_of action.control
 control_of_ok scene v a h =
-    let made = made_of _ _ _ a h in
-    let p = made.value in
-    let same : Ask (asked p.0 p.1.0) ≡ a = cc made.rest in
-    rw (← same) (asked_fits scene p.0 p.1.0 (read_path_ok scene v.path p.0 made.parts.one))
+    let e0 = bind_good (least_fault _) _ a h in
+    let e1 = bind_good (read_path scene v.path) _ a e0.rest in
+    let e2 = bind_good (request_at v) _ a e1.rest in
+    let same : Ask (asked e1.value e2.value) ≡ a = cc e2.rest in
+    rw (← same) (asked_fits scene e1.value e2.value (read_path_ok scene v.path e1.value e1.good))
 
 look_of_ok : (scene : SceneData) (v : EventValues) (a : Action) → look_of scene v ≡ Ok a
     → FitsScene scene a
@@ -546,19 +570,19 @@ event_of_ok : (v : Verb) (scene : SceneData) (count : ℕ) (ms : Members) (e : E
     → event_of v scene count ms ≡ Ok e → EventFits scene count e
 unfolding event_of event_with
 event_of_ok v scene count ms e h =
-    let made = made_of _ _ _ e h in
-    let p = made.value in
-    let afters = both_good _ _ p.1 made.parts.two in
-    let last = both_good _ (event_room count) p.1.1 afters.two in
-    let same_after : p.1.0 ≡ e.after = cc made.rest in
-    let same_action : p.0 ≡ e.action = cc made.rest in
+    let e0 = bind_good (least_fault _) _ e h in
+    let e1 = bind_good (after_at (get_member (codes "after") ms)) _ e e0.rest in
+    let e2 = bind_good (action_of v scene (event_values ms)) _ e e1.rest in
+    let left = good_part _ e0.value 3 (event_room count) e0.good refl in
+    let same_after : e1.value ≡ e.after = cc e2.rest in
+    let same_action : e2.value ≡ e.action = cc e2.rest in
     let after = le-leb e.after 1000000000 (after_at_ok (get_member (codes "after") ms) e.after
-    (afters.one ∙ ap Ok same_after)) in
+    (e1.good ∙ ap Ok same_after)) in
     record {
-      room = event_room_ok count p.1.1.1 last.two;
+      room = event_room_ok count left.0 left.1;
       fits = rw (
         after,
-        action_of_ok v scene (event_values ms) e.action (made.parts.one ∙ ap Ok same_action),
+        action_of_ok v scene (event_values ms) e.action (e2.good ∙ ap Ok same_action),
       );
     }
 
@@ -619,22 +643,23 @@ read_damage_ok : (last count : ℕ) (ms : Members) (d : Damage) → read_damage 
     → Comes last count d
 unfolding read_damage damage_with
 read_damage_ok last count ms d h =
-    let made = made_of _ _ _ d h in
-    let p = made.value in
-    let packets = both_good _ _ p.1 made.parts.two in
-    let harms = both_good _ _ p.1.1 packets.two in
-    let left = both_good _ (damage.damage_room count) p.1.1.1 harms.two in
-    let same_attempt : p.0 ≡ d.attempt = cc made.rest in
-    let same_packet : p.1.0 ≡ d.packet = cc made.rest in
-    let same_harm : p.1.1.0 ≡ d.harm = cc made.rest in
+    let how = harm_by (way_at (get_member (codes "how") ms)) (get_member (codes "bit") ms) in
+    let e0 = bind_good (least_fault _) _ d h in
+    let e1 = bind_good (attempt_at last (get_member (codes "attempt") ms)) _ d e0.rest in
+    let e2 = bind_good (packet_number (get_member (codes "packet") ms)) _ d e1.rest in
+    let e3 = bind_good how _ d e2.rest in
+    let left = good_part _ e0.value 4 (damage.damage_room count) e0.good refl in
+    let same_attempt : e1.value ≡ d.attempt = cc e3.rest in
+    let same_packet : e2.value ≡ d.packet = cc e3.rest in
+    let same_harm : e3.value ≡ d.harm = cc e3.rest in
     let attempt = attempt_at_ok last (get_member (codes "attempt") ms) d.attempt
-    (made.parts.one ∙ ap Ok same_attempt) in
+    (e1.good ∙ ap Ok same_attempt) in
     let packet = packet_number_ok (get_member (codes "packet") ms) d.packet
-    (packets.one ∙ ap Ok same_packet) in
+    (e2.good ∙ ap Ok same_packet) in
     let harm = harm_by_ok (way_at (get_member (codes "how") ms)) (get_member (codes "bit") ms)
-    d.harm (harms.one ∙ ap Ok same_harm) in
+    d.harm (e3.good ∙ ap Ok same_harm) in
     record {
-      room = damage_room_ok count p.1.1.1.1 left.two;
+      room = damage_room_ok count left.0 left.1;
       fits = rw (
         lt-ltb last d.attempt attempt.0,
         le-leb 1 d.packet packet.0,
@@ -649,20 +674,18 @@ placed_damage_ok : (number attempt : ℕ) (ms : Members) (d : Damage)
 unfolding placed_damage damage_with
 placed_damage_ok number attempt ms d told =
     let h = entry_at_ok _ _ d told in
-    let made = made_of _ _ _ d h in
-    let p = made.value in
-    let packets = both_good _ _ p.1 made.parts.two in
-    let harms = both_good _ _ p.1.1 packets.two in
-    let left = both_good _ (damage.damage_room (number - 1)) p.1.1.1 harms.two in
-    let given : attempt ≡ p.0 = cc made.parts.one in
-    let same_attempt : attempt ≡ d.attempt = given ∙ (let same : p.0 ≡ d.attempt = cc made.rest
-    in same) in
-    let same_packet : p.1.0 ≡ d.packet = cc made.rest in
-    let same_harm : p.1.1.0 ≡ d.harm = cc made.rest in
+    let how = harm_by (way_at (get_member (codes "how") ms)) (get_member (codes "bit") ms) in
+    let e0 = bind_good (least_fault _) _ d h in
+    let e2 = bind_good (packet_number (get_member (codes "packet") ms)) _ d e0.rest in
+    let e3 = bind_good how _ d e2.rest in
+    let left = good_part _ e0.value 4 (damage.damage_room (number - 1)) e0.good refl in
+    let same_attempt : attempt ≡ d.attempt = cc e3.rest in
+    let same_packet : e2.value ≡ d.packet = cc e3.rest in
+    let same_harm : e3.value ≡ d.harm = cc e3.rest in
     let packet = packet_number_ok (get_member (codes "packet") ms) d.packet
-    (packets.one ∙ ap Ok same_packet) in
+    (e2.good ∙ ap Ok same_packet) in
     let harm = harm_by_ok (way_at (get_member (codes "how") ms)) (get_member (codes "bit") ms)
-    d.harm (harms.one ∙ ap Ok same_harm) in
+    d.harm (e3.good ∙ ap Ok same_harm) in
     record {
       fits = λ some. rw (
         lt-ltb 0 d.attempt (rw (← same_attempt) some),
@@ -670,7 +693,7 @@ placed_damage_ok number attempt ms d told =
         le-leb d.packet 3 packet.1,
         harm,
       );
-      room = omega (arith, damage_room_ok (number - 1) p.1.1.1.1 left.two);
+      room = omega (arith, damage_room_ok (number - 1) left.0 left.1);
     }
 
 pub placed_damage_is : (number attempt : ℕ) (ms : Members) (r : Result Damage PlanFault)
@@ -697,16 +720,16 @@ roots_at_ok o n h = number_at_ok 1 7 o n h
 pub top_of_ok : (ms : Members) (top : Top) → top_of ms ≡ Ok top → TopFits top
 unfolding top_of top_with
 top_of_ok ms top h =
-    let made = made_of _ _ _ top h in
-    let p = made.value in
-    let numbers = both_good _ _ p.1 made.parts.two in
-    let same_limit : p.0 ≡ top.limit = cc made.rest in
-    let same_roots : p.1.0 ≡ top.roots = cc made.rest in
-    let roots = roots_at_ok (get_member (codes "roots") ms) top.roots (numbers.one
+    let e0 = bind_good (least_fault _) _ top h in
+    let e1 = bind_good (limit_at (get_member (codes "limit") ms)) _ top e0.rest in
+    let e2 = bind_good (roots_at (get_member (codes "roots") ms)) _ top e1.rest in
+    let e3 = bind_good (flag_at (get_member (codes "wide_hubs") ms)) _ top e2.rest in
+    let same_limit : e1.value ≡ top.limit = cc e3.rest in
+    let same_roots : e2.value ≡ top.roots = cc e3.rest in
+    let roots = roots_at_ok (get_member (codes "roots") ms) top.roots (e2.good
     ∙ ap Ok same_roots) in
     record {
-      limit = limit_at_ok (get_member (codes "limit") ms) top.limit (made.parts.one
-          ∙ ap Ok same_limit);
+      limit = limit_at_ok (get_member (codes "limit") ms) top.limit (e1.good ∙ ap Ok same_limit);
       some_root = roots.0;
       few_roots = roots.1;
     }

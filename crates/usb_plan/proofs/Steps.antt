@@ -5,8 +5,8 @@ use Rattle.std.proofs.lemmas.List.{drop_more, drop_all, length_push, length-map}
 use Rattle.std.proofs.lemmas.Bool.{le-leb, lt-leb}
 use Rattle.std.proofs.lemmas.List.Folds.{list_all-map}
 use Rattle.std.specs.List.{list_all, list_any}
-use Rattle.usb_plan.specs.{is_table, BadValue, Memory, both, EqualUnless, read_items, hex_in}
-use Rattle.usb_plan.specs.{data_list, items_from, with_item}
+use Rattle.usb_plan.specs.{is_table, BadValue, Memory, fault_in_part, sooner, least_fault}
+use Rattle.usb_plan.specs.{EqualUnless, read_items, hex_in, data_list, items_from, with_item}
 use Rattle.usb_plan.specs.{texts_in, names, is_stall, share_address, tables_in}
 use Rattle.toml.specs.Data.{Data}
 use Rattle.usb_plan.specs.declared.entry_fault.EntryFault.{EntryFault}
@@ -19,7 +19,7 @@ AtMost n items = IfOk items (λ xs. length xs ≤ n)
 
 pub AtMost-with_item : {A : Type 0} (n : ℕ) (items : Result (List A) EntryFault)
     (item : Result A EntryFault) → AtMost n items → AtMost (n + 1) (with_item items item)
-unfolding with_item both
+unfolding with_item least_fault sooner fault_in_part
 AtMost-with_item n (Ok xs) (Ok x) h = rw length_push (omega arith)
 AtMost-with_item n (Ok xs) (Err k) h = tt
 AtMost-with_item n (Err k) (Ok x) h = tt

@@ -1,7 +1,6 @@
 -- What an event does, by the keys that go with its `do`.
 use Rattle.std.specs.Prelude.{ℕ, codes, List, [], ◌∷◌, Bool, not, ◌&&◌, Option, Some, None, is_none}
 use Rattle.std.specs.Prelude.{ok_or, Result, Ok, Err, position, if◌then◌else◌, length, ◌==◌, nat_le}
-use Rattle.std.specs.List.{list_all}
 use Rattle.std.specs.Str.{bytes_eq}
 use Rattle.toml.specs.Data.{Data, Members}
 use Rattle.usb_plan.specs.declared.entry_fault.EntryFault.{EntryFault}
@@ -11,7 +10,7 @@ use Rattle.usb_plan.specs.declared.action.OtherKeys.{OtherKeys}
 use Rattle.usb_plan.specs.declared.action.OtherKeys.TheVariants.{Alone, Path, PathDevice, PathBytes}
 use Rattle.usb_plan.specs.declared.action.OtherKeys.TheVariants.{PathPackets, PathSetup}
 use Rattle.usb_plan.specs.declared.action.OtherKeys.TheVariants.{PathEndpoint, PathSetting, Said}
-use Rattle.usb_plan.specs.EntryFault.{both, ◌>>=◌}
+use Rattle.usb_plan.specs.EntryFault.{fault_in_part, least_fault, ◌>>=◌}
 use Rattle.usb_plan.specs.Endpoints.{address_at}
 use Rattle.usb_plan.specs.EventMembers.{EventValues}
 use Rattle.usb_plan.specs.Keys.{keys_at}
@@ -98,34 +97,97 @@ unfoldable pub asked : List ℕ → Request → Asked
 asked path (Read setup) = ControlIn path setup
 asked path (Write write) = ControlOut path write
 
+unfoldable pub plug : Result (List ℕ) EntryFault → Result ℕ EntryFault → Result Action EntryFault
+plug path device = do
+  u ← least_fault (fault_in_part path ∷ fault_in_part device ∷ [])
+  p ← path
+  d ← device
+  Ok (Change (Plug p d))
+
+unfoldable pub send : Result (List ℕ) EntryFault → Result (List ℕ) EntryFault
+    → Result Action EntryFault
+send path bytes = do
+  u ← least_fault (fault_in_part path ∷ fault_in_part bytes ∷ [])
+  p ← path
+  b ← bytes
+  Ok (Ask (Send p b))
+
+unfoldable pub receive : Result (List ℕ) EntryFault → Result ℕ EntryFault → Result Action EntryFault
+receive path packets = do
+  u ← least_fault (fault_in_part path ∷ fault_in_part packets ∷ [])
+  p ← path
+  n ← packets
+  Ok (Ask (Receive p n))
+
+unfoldable pub send_to : Result (List ℕ) EntryFault → Result ℕ EntryFault
+    → Result (List ℕ) EntryFault → Result Action EntryFault
+send_to path endpoint bytes = do
+  u ← least_fault (fault_in_part path ∷ fault_in_part endpoint ∷ fault_in_part bytes ∷ [])
+  p ← path
+  e ← endpoint
+  b ← bytes
+  Ok (Ask (SendTo p e b))
+
+unfoldable pub receive_from : Result (List ℕ) EntryFault → Result ℕ EntryFault
+    → Result ℕ EntryFault → Result Action EntryFault
+receive_from path endpoint packets = do
+  u ← least_fault (fault_in_part path ∷ fault_in_part endpoint ∷ fault_in_part packets ∷ [])
+  p ← path
+  e ← endpoint
+  n ← packets
+  Ok (Ask (ReceiveFrom p e n))
+
+unfoldable pub poll : Result (List ℕ) EntryFault → Result ℕ EntryFault → Result Action EntryFault
+poll path endpoint = do
+  u ← least_fault (fault_in_part path ∷ fault_in_part endpoint ∷ [])
+  p ← path
+  e ← endpoint
+  Ok (Ask (Poll p e))
+
+unfoldable pub clear_end : Result (List ℕ) EntryFault → Result ℕ EntryFault
+    → Result Action EntryFault
+clear_end path endpoint = do
+  u ← least_fault (fault_in_part path ∷ fault_in_part endpoint ∷ [])
+  p ← path
+  e ← endpoint
+  Ok (Ask (ClearOf p e))
+
+unfoldable pub set_interface : Result (List ℕ) EntryFault → Result ℕ EntryFault
+    → Result ℕ EntryFault → Result Action EntryFault
+set_interface path interface setting = do
+  u ← least_fault (fault_in_part path ∷ fault_in_part interface ∷ fault_in_part setting ∷ [])
+  p ← path
+  i ← interface
+  s ← setting
+  Ok (Ask (SetInterface p i s))
+
 -- with the key `endpoint` it is to that endpoint, else to the first bulk OUT
 unfoldable pub send_with : Option Data → Result (List ℕ) EntryFault → Result (List ℕ) EntryFault
     → Result Action EntryFault
-send_with None path bytes = both path bytes >>= λ p. Ok (Ask (Send p.0 p.1))
-send_with (Some d) path bytes =
-    both path (both (out_endpoint d) bytes) >>= λ p. Ok (Ask (SendTo p.0 p.1.0 p.1.1))
+send_with None path bytes = send path bytes
+send_with (Some d) path bytes = send_to path (out_endpoint d) bytes
 
 -- with the key `endpoint` it is from that endpoint, else from the first bulk IN
 unfoldable pub receive_with : Option Data → Result (List ℕ) EntryFault → Result ℕ EntryFault
     → Result Action EntryFault
-receive_with None path packets = both path packets >>= λ p. Ok (Ask (Receive p.0 p.1))
-receive_with (Some d) path packets =
-    both path (both (in_endpoint d) packets) >>= λ p. Ok (Ask (ReceiveFrom p.0 p.1.0 p.1.1))
+receive_with None path packets = receive path packets
+receive_with (Some d) path packets = receive_from path (in_endpoint d) packets
 
 -- with the key `endpoint` it is that endpoint's halt, else those of the first bulk ones
 unfoldable pub clear_with : Option Data → Result (List ℕ) EntryFault → Result Action EntryFault
 clear_with None path = path >>= λ p. Ok (Ask (Clear p))
-clear_with (Some d) path = both path (any_endpoint d) >>= λ p. Ok (Ask (ClearOf p.0 p.1))
+clear_with (Some d) path = clear_end path (any_endpoint d)
 
 unfoldable pub control : Result (List ℕ) EntryFault → Result Request EntryFault
     → Result (Unit {0}) EntryFault → Result Action EntryFault
-control path request bytes =
-    both path (both request bytes) >>= λ p. Ok (Ask (asked p.0 p.1.0))
+control path request bytes = do
+  u ← least_fault (fault_in_part path ∷ fault_in_part request ∷ fault_in_part bytes ∷ [])
+  p ← path
+  r ← request
+  Ok (Ask (asked p r))
 
 unfoldable pub plug_of : SceneData → EventValues → Result Action EntryFault
-plug_of scene v =
-    both (free_path scene (read_path scene v.path)) (device_index_at scene v.device)
-    >>= λ p. Ok (Change (Plug p.0 p.1))
+plug_of scene v = plug (free_path scene (read_path scene v.path)) (device_index_at scene v.device)
 
 unfoldable pub unplug_of : SceneData → EventValues → Result Action EntryFault
 unplug_of scene v = taken_path scene (read_path scene v.path) >>= λ path. Ok (Change (Unplug path))
@@ -150,13 +212,11 @@ unfoldable pub look_of : SceneData → EventValues → Result Action EntryFault
 look_of scene v = read_path scene v.path >>= λ path. Ok (Ask (Look path))
 
 unfoldable pub interrupt_of : SceneData → EventValues → Result Action EntryFault
-interrupt_of scene v =
-    both (read_path scene v.path) (in_endpoint_at v.endpoint) >>= λ p. Ok (Ask (Poll p.0 p.1))
+interrupt_of scene v = poll (read_path scene v.path) (in_endpoint_at v.endpoint)
 
 unfoldable pub interface_of : SceneData → EventValues → Result Action EntryFault
 interface_of scene v =
-    both (read_path scene v.path) (both (byte_at v.interface) (byte_at v.setting))
-    >>= λ p. Ok (Ask (SetInterface p.0 p.1.0 p.1.1))
+    set_interface (read_path scene v.path) (byte_at v.interface) (byte_at v.setting)
 
 abbrev pub event_keys : List (List ℕ) → List (List ℕ)
 event_keys others = codes "do" ∷ codes "after" ∷ others
@@ -176,30 +236,37 @@ other_names Said = codes "said" ∷ []
 unfoldable pub keys_of : OtherKeys → Members → Result (Unit {0}) EntryFault
 keys_of keys ms = keys_at (event_keys (other_names keys)) ms
 
--- what stands at the known keys that do not go with these
-unfoldable pub strangers : OtherKeys → EventValues → List (Option Data)
-strangers Alone v =
-    v.said ∷ v.setting ∷ v.interface ∷ v.endpoint ∷ v.setup ∷ v.packets ∷ v.bytes ∷ v.device
-    ∷ v.path ∷ []
-strangers Path v =
-    v.said ∷ v.setting ∷ v.interface ∷ v.endpoint ∷ v.setup ∷ v.packets ∷ v.bytes ∷ v.device ∷ []
-strangers PathDevice v =
-    v.said ∷ v.setting ∷ v.interface ∷ v.endpoint ∷ v.setup ∷ v.packets ∷ v.bytes ∷ []
-strangers PathBytes v =
-    v.said ∷ v.setting ∷ v.interface ∷ v.setup ∷ v.packets ∷ v.device ∷ []
-strangers PathPackets v =
-    v.said ∷ v.setting ∷ v.interface ∷ v.setup ∷ v.bytes ∷ v.device ∷ []
-strangers PathEndpoint v =
-    v.said ∷ v.setting ∷ v.interface ∷ v.setup ∷ v.packets ∷ v.bytes ∷ v.device ∷ []
-strangers PathSetup v =
-    v.said ∷ v.setting ∷ v.interface ∷ v.endpoint ∷ v.packets ∷ v.device ∷ []
-strangers PathSetting v =
-    v.said ∷ v.endpoint ∷ v.setup ∷ v.packets ∷ v.bytes ∷ v.device ∷ []
-strangers Said v =
-    v.setting ∷ v.interface ∷ v.endpoint ∷ v.setup ∷ v.packets ∷ v.bytes ∷ v.device
-    ∷ v.path ∷ []
+-- no other key, and none of those that go with `show` or `interface` alone
+abbrev pub names_common : EventValues → Bool
+names_common v =
+    not v.has_others && is_none v.said && is_none v.setting && is_none v.interface
 
 -- the same by what stands at the keys: no other key, and nothing at those that do not go with `do`
+unfoldable pub verb_fits : OtherKeys → EventValues → Bool
+verb_fits Alone v =
+    names_common v && is_none v.endpoint && is_none v.setup && is_none v.packets &&
+    is_none v.bytes && is_none v.device && is_none v.path
+verb_fits Path v =
+    names_common v && is_none v.endpoint && is_none v.setup && is_none v.packets &&
+    is_none v.bytes && is_none v.device
+verb_fits PathDevice v =
+    names_common v && is_none v.endpoint && is_none v.setup && is_none v.packets &&
+    is_none v.bytes
+verb_fits PathBytes v =
+    names_common v && is_none v.setup && is_none v.packets && is_none v.device
+verb_fits PathPackets v =
+    names_common v && is_none v.setup && is_none v.bytes && is_none v.device
+verb_fits PathEndpoint v =
+    names_common v && is_none v.setup && is_none v.packets && is_none v.bytes &&
+    is_none v.device
+verb_fits PathSetup v =
+    names_common v && is_none v.endpoint && is_none v.packets && is_none v.device
+verb_fits PathSetting v =
+    not v.has_others && is_none v.said && is_none v.endpoint && is_none v.setup &&
+    is_none v.packets && is_none v.bytes && is_none v.device
+verb_fits Said v =
+    not v.has_others && is_none v.setting && is_none v.interface && is_none v.endpoint &&
+    is_none v.setup && is_none v.packets && is_none v.bytes && is_none v.device && is_none v.path
+
 unfoldable pub keys_given : OtherKeys → EventValues → Result (Unit {0}) EntryFault
-keys_given keys v =
-    if not v.has_others && list_all is_none (strangers keys v) then Ok tt else Err BadValue
+keys_given keys v = if verb_fits keys v then Ok tt else Err BadValue

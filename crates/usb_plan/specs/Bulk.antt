@@ -1,9 +1,9 @@
 -- The keys of a device's bulk endpoints.
-use Rattle.std.specs.Prelude.{ℕ, ℤ, codes, List, [], Option, Some, None, Result, Ok}
+use Rattle.std.specs.Prelude.{ℕ, ℤ, codes, List, [], ◌∷◌, Option, Some, None, Result, Ok}
 use Rattle.toml.specs.Data.{Data, Members, get_member, as_integer}
 use Rattle.usb_plan.specs.declared.entry_fault.EntryFault.{EntryFault}
 use Rattle.usb_plan.specs.declared.bulk.Bulk.{Bulk}
-use Rattle.usb_plan.specs.EntryFault.{both, ◌>>=◌}
+use Rattle.usb_plan.specs.EntryFault.{fault_in_part, least_fault, ◌>>=◌}
 use Rattle.usb_plan.specs.Value.{number_in, hex_in}
 
 -- the key `source`; absent it is empty
@@ -21,8 +21,11 @@ halt_at (Some d) = halt_in (as_integer d)
 
 unfoldable pub bulk_with : Result (List ℕ) EntryFault → Result (Option ℕ) EntryFault
     → Result Bulk EntryFault
-bulk_with source halt_after =
-    both source halt_after >>= λ p. Ok (record { source = p.0; halt_after = p.1 })
+bulk_with source halt_after = do
+  u ← least_fault (fault_in_part source ∷ fault_in_part halt_after ∷ [])
+  bytes ← source
+  packets ← halt_after
+  Ok (record { source = bytes; halt_after = packets })
 
 -- the keys of bulk endpoints
 unfoldable pub read_bulk : Members → Result Bulk EntryFault

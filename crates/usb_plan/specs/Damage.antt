@@ -10,7 +10,7 @@ use Rattle.usb_plan.specs.declared.damage.Way.{Way}
 use Rattle.usb_plan.specs.declared.damage.Way.TheVariants as way
 use Rattle.usb_plan.specs.declared.fault.Place.TheVariants as place
 use Rattle.usb_plan.specs.declared.fault.PlanFault.{PlanFault}
-use Rattle.usb_plan.specs.EntryFault.{both, entry_at, ◌>>=◌}
+use Rattle.usb_plan.specs.EntryFault.{fault_in_part, least_fault, entry_at, ◌>>=◌}
 use Rattle.usb_plan.specs.Keys.{keys_at, no_when}
 use Rattle.usb_plan.specs.Value.{read_text, number_at}
 use Rattle.usb_world.specs.{Damage, Harm, Lose, LosePre, Flip, damage_fits}
@@ -60,9 +60,13 @@ unfoldable pub damage_with :
     Result ℕ EntryFault → Result ℕ EntryFault → Result Harm EntryFault
     → Result (Unit {0}) EntryFault
     → Result (Unit {0}) EntryFault → Result Damage EntryFault
-damage_with attempt packet harm keys room =
-    both attempt (both packet (both harm (both keys room)))
-    >>= λ p. Ok (record { attempt = p.0; packet = p.1.0; harm = p.1.1.0 })
+damage_with attempt packet harm keys room = do
+  u ← least_fault (fault_in_part attempt ∷ fault_in_part packet ∷ fault_in_part harm ∷ fault_in_part
+      keys ∷ fault_in_part room ∷ [])
+  n ← attempt
+  p ← packet
+  h ← harm
+  Ok (record { attempt = n; packet = p; harm = h })
 
 abbrev pub damage_keys : List (List ℕ)
 damage_keys = codes "attempt" ∷ codes "packet" ∷ codes "how" ∷ codes "bit" ∷ []

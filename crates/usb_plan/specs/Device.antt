@@ -13,7 +13,7 @@ use Rattle.usb_plan.specs.declared.device.DeviceTexts.{DeviceTexts}
 use Rattle.usb_plan.specs.declared.device.DeviceTables.{DeviceTables}
 use Rattle.usb_plan.specs.declared.quirks.Quirks.{Quirks}
 use Rattle.usb_plan.specs.declared.bulk.Bulk.{Bulk}
-use Rattle.usb_plan.specs.EntryFault.{both, entry_at, ◌>>=◌}
+use Rattle.usb_plan.specs.EntryFault.{fault_in_part, least_fault, entry_at, ◌>>=◌}
 use Rattle.usb_plan.specs.Keys.{keys_at}
 use Rattle.usb_plan.specs.Value.{read_text, hex_in}
 use Rattle.usb_plan.specs.Texts.{texts_in}
@@ -97,14 +97,14 @@ unfoldable pub identity_with :
     Result (List ℕ) EntryFault → Result Bool EntryFault → Result (List ℕ) EntryFault
     → Result (Unit {0}) EntryFault
     → Result (Option Hub) EntryFault → Result Identity EntryFault
-identity_with name low descriptor class hub =
-    both name (both low (both descriptor (both class hub)))
-    >>= λ p. Ok (record {
-      name = p.0;
-      low = p.1.0;
-      descriptor = p.1.1.0;
-      hub = p.1.1.1.1;
-    })
+identity_with name low descriptor class hub = do
+  u ← least_fault (fault_in_part name ∷ fault_in_part low ∷ fault_in_part descriptor ∷ fault_in_part
+      class ∷ fault_in_part hub ∷ [])
+  n ← name
+  l ← low
+  d ← descriptor
+  h ← hub
+  Ok (record { name = n; low = l; descriptor = d; hub = h })
 
 -- the keys of what a device is, beside the earlier ones
 unfoldable pub identity_of : Bool → List Spec → Members → Result Identity EntryFault
@@ -118,8 +118,11 @@ identity_of wide earlier ms =
 
 unfoldable pub device_texts_with : Result Texts EntryFault → Result Texts EntryFault
     → Result DeviceTexts EntryFault
-device_texts_with configs strings =
-    both configs strings >>= λ p. Ok (record { configs = p.0; strings = p.1 })
+device_texts_with configs strings = do
+  u ← least_fault (fault_in_part configs ∷ fault_in_part strings ∷ [])
+  c ← configs
+  s ← strings
+  Ok (record { configs = c; strings = s })
 
 -- the keys of the texts that a device gives
 unfoldable pub device_texts_of : Members → Result DeviceTexts EntryFault
@@ -129,8 +132,11 @@ device_texts_of ms =
 
 unfoldable pub device_tables_with : Result (List EndpointSpec) EntryFault
     → Result (List OwnRequest) EntryFault → Result DeviceTables EntryFault
-device_tables_with endpoints requests =
-    both endpoints requests >>= λ p. Ok (record { endpoints = p.0; requests = p.1 })
+device_tables_with endpoints requests = do
+  u ← least_fault (fault_in_part endpoints ∷ fault_in_part requests ∷ [])
+  e ← endpoints
+  r ← requests
+  Ok (record { endpoints = e; requests = r })
 
 -- the keys of the tables in a device
 unfoldable pub device_tables_of : Members → Result DeviceTables EntryFault
@@ -157,9 +163,16 @@ unfoldable pub device_with :
     Result Identity EntryFault → Result DeviceTexts EntryFault → Result Quirks EntryFault
     → Result Bulk EntryFault → Result DeviceTables EntryFault
     → Result (Unit {0}) EntryFault → Result (Unit {0}) EntryFault → Result Spec EntryFault
-device_with identity texts quirks bulk tables keys room =
-    both identity (both texts (both quirks (both bulk (both tables (both keys room)))))
-    >>= λ p. Ok (device_of_parts p.0 p.1.0 p.1.1.0 p.1.1.1.0 p.1.1.1.1.0)
+device_with identity texts quirks bulk tables keys room = do
+  u ← least_fault (fault_in_part identity ∷ fault_in_part texts ∷ fault_in_part quirks ∷
+      fault_in_part bulk ∷ fault_in_part tables
+      ∷ fault_in_part keys ∷ fault_in_part room ∷ [])
+  i ← identity
+  c ← texts
+  q ← quirks
+  b ← bulk
+  t ← tables
+  Ok (device_of_parts i c q b t)
 
 -- the device that a table describes, beside the earlier ones
 unfoldable pub read_device : Bool → List Spec → Members → Result Spec EntryFault

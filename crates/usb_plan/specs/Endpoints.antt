@@ -8,7 +8,7 @@ use Rattle.usb_request.specs.{DIRECTION_IN, is_endpoint_address}
 use Rattle.usb_device.specs.{EndpointData, EndpointSpec, Packets, Source}
 use Rattle.usb_plan.specs.declared.entry_fault.EntryFault.{EntryFault}
 use Rattle.usb_plan.specs.declared.entry_fault.EntryFault.TheVariants.{BadValue}
-use Rattle.usb_plan.specs.EntryFault.{both, ◌>>=◌}
+use Rattle.usb_plan.specs.EntryFault.{fault_in_part, least_fault, ◌>>=◌}
 use Rattle.usb_plan.specs.Keys.{keys_at}
 use Rattle.usb_plan.specs.Bulk.{halt_at}
 use Rattle.usb_plan.specs.Texts.{items_from, texts_in}
@@ -46,14 +46,14 @@ endpoint_naks d = number_or 0 0 300 d
 unfoldable pub endpoint_with :
     Result ℕ EntryFault → Result EndpointData EntryFault → Result (Option ℕ) EntryFault
     → Result ℕ EntryFault → Result (Unit {0}) EntryFault → Result EndpointSpec EntryFault
-endpoint_with address given halt_after naks keys =
-    both address (both given (both halt_after (both naks keys)))
-    >>= λ p. Ok (record {
-      address = p.0;
-      «data» = p.1.0;
-      halt_after = p.1.1.0;
-      naks = p.1.1.1.0;
-    })
+endpoint_with address given halt_after naks keys = do
+  u ← least_fault (fault_in_part address ∷ fault_in_part given ∷ fault_in_part halt_after ∷
+      fault_in_part naks ∷ fault_in_part keys ∷ [])
+  a ← address
+  g ← given
+  h ← halt_after
+  n ← naks
+  Ok (record { address = a; «data» = g; halt_after = h; naks = n })
 
 abbrev pub endpoint_keys : List (List ℕ)
 endpoint_keys =
@@ -93,7 +93,9 @@ distinct_at ds = if are_distinct ds then Ok tt else Err BadValue
 
 unfoldable pub endpoints_with : Result (List EndpointSpec) EntryFault
     → Result (Unit {0}) EntryFault → Result (List EndpointSpec) EntryFault
-endpoints_with endpoints distinct = both endpoints distinct >>= λ p. Ok p.0
+endpoints_with endpoints distinct = do
+  u ← least_fault (fault_in_part endpoints ∷ fault_in_part distinct ∷ [])
+  endpoints
 
 -- at most 30 tables
 unfoldable pub endpoints_in : Data → Result (List EndpointSpec) EntryFault

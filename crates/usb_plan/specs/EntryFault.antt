@@ -1,5 +1,6 @@
 -- The fault of an entry is the one of least number.
-use Rattle.std.specs.Prelude.{◌≡◌, ◌≢◌, ℕ, Result, Ok, Err, nat_le, if◌then◌else◌}
+use Rattle.std.specs.Prelude.{◌≡◌, ◌≢◌, ℕ, List, [], ◌∷◌, Option, Some, None, Result, Ok, Err}
+use Rattle.std.specs.Prelude.{nat_le, if◌then◌else◌}
 use Rattle.hex.specs.declared.error.FromHexError.{FromHexError}
 use Rattle.hex.specs.declared.error.FromHexError.TheVariants.{InvalidHexCharacter, OddLength}
 use Rattle.hex.specs.declared.error.FromHexError.TheVariants.{InvalidStringLength, OutOfMemory}
@@ -35,13 +36,22 @@ hex_fault OddLength = BadHex
 hex_fault InvalidStringLength = BadHex
 hex_fault (InvalidHexCharacter c index) = BadHex
 
--- both values, or the fault of least number
-unfoldable pub both : {A B : Type 0} → Result A EntryFault → Result B EntryFault
-    → Result (A × B) EntryFault
-both (Ok a) (Ok b) = Ok (a, b)
-both (Ok a) (Err l) = Err l
-both (Err k) (Ok b) = Err k
-both (Err k) (Err l) = Err (least k l)
+-- the fault of a part
+unfoldable pub fault_in_part : {A : Type 0} → Result A EntryFault → Option EntryFault
+fault_in_part (Ok a) = None
+fault_in_part (Err k) = Some k
+
+-- a fault beside what is told of others
+unfoldable pub sooner : Option EntryFault → Result (Unit {0}) EntryFault
+    → Result (Unit {0}) EntryFault
+sooner None others = others
+sooner (Some k) (Ok u) = Err k
+sooner (Some k) (Err l) = Err (least k l)
+
+-- of these faults the one of least number is told
+unfoldable pub least_fault : List (Option EntryFault) → Result (Unit {0}) EntryFault
+least_fault [] = Ok tt
+least_fault (fault ∷ faults) = sooner fault (least_fault faults)
 
 unfoldable pub at : Place → EntryFault → PlanFault
 at place Memory = fault.Memory

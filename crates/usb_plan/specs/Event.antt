@@ -7,7 +7,7 @@ use Rattle.usb_plan.specs.declared.entry_fault.EntryFault.TheVariants.{BadValue}
 use Rattle.usb_plan.specs.declared.verb.Verb.{Verb}
 use Rattle.usb_plan.specs.declared.fault.Place.TheVariants as place
 use Rattle.usb_plan.specs.declared.fault.PlanFault.{PlanFault}
-use Rattle.usb_plan.specs.EntryFault.{both, entry_at, ◌>>=◌}
+use Rattle.usb_plan.specs.EntryFault.{fault_in_part, least_fault, entry_at, ◌>>=◌}
 use Rattle.usb_plan.specs.Keys.{no_when}
 use Rattle.usb_plan.specs.Value.{number_or}
 use Rattle.usb_plan.specs.Verb.{verb_at, other_keys, action_of}
@@ -29,9 +29,12 @@ unfoldable pub event_with :
     Result Action EntryFault → Result ℕ EntryFault → Result (Unit {0}) EntryFault
     → Result (Unit {0}) EntryFault
     → Result Event EntryFault
-event_with action after keys room =
-    both action (both after (both keys room))
-    >>= λ p. Ok (record { after = p.1.0; action = p.0 })
+event_with action after keys room = do
+  u ← least_fault (fault_in_part action ∷ fault_in_part after ∷ fault_in_part keys ∷ fault_in_part
+      room ∷ [])
+  n ← after
+  a ← action
+  Ok (record { after = n; action = a })
 
 -- the event of these values, whose `do` is that verb, in the scene, after so many others
 unfoldable pub event_given : Verb → SceneData → ℕ → EventValues → Result Event EntryFault

@@ -22,7 +22,7 @@ pub mod Attempts
 -- the words of this crate, wherever one stands
 pub use Place.{place_text}
 pub use EntryFault.{EqualUnless, hex_fault, rank, ◌>>=◌}
-unfoldable pub use EntryFault.{at, both, entry_at, least}
+unfoldable pub use EntryFault.{at, entry_at, fault_in_part, least, least_fault, sooner}
 pub use Value.{data_list, hex_read, is_table}
 unfoldable pub use Value.{byte_at, hex_bytes, hex_in, number_at, number_in, number_or, read_items}
 unfoldable pub use Value.{read_text, tables_in, text_in}
@@ -54,13 +54,14 @@ unfoldable pub use Path.{free_path, has_numbers_of, read_path, taken_path}
 unfoldable pub use Plugged.{first_through}
 pub use EventMembers.{EventValues, all_event_keys, found}
 unfoldable pub use EventMembers.{event_values, with_value}
-pub use Action.{event_keys, other_names}
-unfoldable pub use Action.{any_endpoint, asked, bytes_at, clear_of, clear_with, control}
+pub use Action.{event_keys, names_common, other_names}
+unfoldable pub use Action.{any_endpoint, asked, bytes_at, clear_end, clear_of, clear_with, control}
 unfoldable pub use Action.{control_of, device_index_at, given, in_endpoint, in_endpoint_at}
 unfoldable pub use Action.{interface_of, interrupt_of, keys_given, keys_of, look_of, no_bytes}
-unfoldable pub use Action.{out_endpoint, packets_at, plug_of, receive_of, receive_with, request_at}
-unfoldable pub use Action.{request_with, send_of, send_with, setup_at, setup_in, show_of}
-unfoldable pub use Action.{strangers, unplug_of, write_bytes, write_with}
+unfoldable pub use Action.{out_endpoint, packets_at, plug, plug_of, poll, receive, receive_from}
+unfoldable pub use Action.{receive_of, receive_with, request_at, request_with, send, send_of}
+unfoldable pub use Action.{send_to, send_with, set_interface, setup_at, setup_in, show_of}
+unfoldable pub use Action.{unplug_of, verb_fits, write_bytes, write_with}
 unfoldable pub use Verb.{action_of, other_keys, verb_at, verb_named}
 unfoldable pub use Event.{after_at, event_given, event_in, event_of, event_room, event_with}
 unfoldable pub use Event.{events_from}

@@ -14,7 +14,7 @@ use Rattle.usb_plan.specs.declared.own_requests.Codes.{Codes}
 use Rattle.usb_plan.specs.declared.own_requests.Fields.{Fields}
 use Rattle.usb_plan.specs.declared.own_requests.Refusal.{Refusal}
 use Rattle.usb_plan.specs.declared.own_requests.Refusal.TheVariants as refusal
-use Rattle.usb_plan.specs.EntryFault.{both, ◌>>=◌}
+use Rattle.usb_plan.specs.EntryFault.{fault_in_part, least_fault, ◌>>=◌}
 use Rattle.usb_plan.specs.Keys.{keys_at}
 use Rattle.usb_plan.specs.Quirks.{flag_at}
 use Rattle.usb_plan.specs.Texts.{items_from}
@@ -41,8 +41,11 @@ own_at type request = do
 
 unfoldable pub codes_with : Result ℕ EntryFault → Result ℕ EntryFault
     → Result (Unit {0}) EntryFault → Result Codes EntryFault
-codes_with type request own =
-    both type (both request own) >>= λ p. Ok (record { request_type = p.0; request = p.1.0 })
+codes_with type request own = do
+  u ← least_fault (fault_in_part type ∷ fault_in_part request ∷ fault_in_part own ∷ [])
+  t ← type
+  r ← request
+  Ok (record { request_type = t; request = r })
 
 -- the keys `type` and `request`
 unfoldable pub codes_of : Members → Result Codes EntryFault
@@ -54,9 +57,12 @@ codes_of ms =
 unfoldable pub fields_with :
     Result (Option ℕ) EntryFault → Result (Option ℕ) EntryFault → Result (Option ℕ) EntryFault
     → Result Fields EntryFault
-fields_with value index length =
-    both value (both index length)
-    >>= λ p. Ok (record { value = p.0; index = p.1.0; length = p.1.1 })
+fields_with value index length = do
+  u ← least_fault (fault_in_part value ∷ fault_in_part index ∷ fault_in_part length ∷ [])
+  v ← value
+  i ← index
+  l ← length
+  Ok (record { value = v; index = i; length = l })
 
 -- the keys `value`, `index` and `length`; an absent one stands for any number
 unfoldable pub fields_of : Members → Result Fields EntryFault
@@ -115,16 +121,20 @@ answer_of ms = do
 unfoldable pub row_with :
     Result Codes EntryFault → Result Fields EntryFault → Result OwnAnswer EntryFault
     → Result (Unit {0}) EntryFault → Result OwnRequest EntryFault
-row_with numbers fields answer keys =
-    both numbers (both fields (both answer keys))
-    >>= λ p. Ok (record {
-      request_type = p.0.request_type;
-      request = p.0.request;
-      value = p.1.0.value;
-      index = p.1.0.index;
-      length = p.1.0.length;
-      answer = p.1.1.0;
-    })
+row_with numbers fields answer keys = do
+  u ← least_fault (fault_in_part numbers ∷ fault_in_part fields ∷ fault_in_part answer ∷
+      fault_in_part keys ∷ [])
+  n ← numbers
+  f ← fields
+  a ← answer
+  Ok (record {
+    request_type = n.request_type;
+    request = n.request;
+    value = f.value;
+    index = f.index;
+    length = f.length;
+    answer = a;
+  })
 
 abbrev pub request_keys : List (List ℕ)
 request_keys =

@@ -10,7 +10,7 @@ use Rattle.usb_plan.specs.declared.fault.Place.TheVariants as place
 use Rattle.usb_plan.specs.declared.fault.PlanFault.{PlanFault}
 use Rattle.usb_plan.specs.declared.fault.PlanFault.TheVariants as fault
 use Rattle.usb_plan.specs.declared.plan.Top.{Top}
-use Rattle.usb_plan.specs.EntryFault.{both, entry_at, ◌>>=◌}
+use Rattle.usb_plan.specs.EntryFault.{fault_in_part, least_fault, entry_at, ◌>>=◌}
 use Rattle.usb_plan.specs.Keys.{keys_at}
 use Rattle.usb_plan.specs.Quirks.{flag_at}
 use Rattle.usb_plan.specs.Value.{read_items, number_at, data_list, is_table}
@@ -54,9 +54,14 @@ unfoldable pub top_with :
     Result ℕ EntryFault → Result ℕ EntryFault → Result Bool EntryFault
     → Result (Unit {0}) EntryFault → Result (Unit {0}) EntryFault
     → Result (Unit {0}) EntryFault → Result (Unit {0}) EntryFault → Result Top EntryFault
-top_with limit roots wide devices events damages keys =
-    both limit (both roots (both wide (both devices (both events (both damages keys)))))
-    >>= λ p. Ok (record { limit = p.0; roots = p.1.0; wide = p.1.1.0 })
+top_with limit roots wide devices events damages keys = do
+  u ← least_fault (fault_in_part limit ∷ fault_in_part roots ∷ fault_in_part wide ∷ fault_in_part
+      devices ∷ fault_in_part events
+      ∷ fault_in_part damages ∷ fault_in_part keys ∷ [])
+  l ← limit
+  r ← roots
+  w ← wide
+  Ok (record { limit = l; roots = r; wide = w })
 
 -- the numbers at the top, and whether hubs may be wide
 unfoldable pub top_of : Members → Result Top EntryFault

@@ -1,5 +1,5 @@
 -- The keys of what a device does otherwise than others.
-use Rattle.std.specs.Prelude.{ℕ, codes, List, Bool, false, ◌||◌, Option, Some, None, ok_or}
+use Rattle.std.specs.Prelude.{ℕ, codes, List, [], ◌∷◌, Bool, false, ◌||◌, Option, Some, None, ok_or}
 use Rattle.std.specs.Prelude.{Result, Ok, Err, if◌then◌else◌}
 use Rattle.std.specs.List.{list_any, list_all}
 use Rattle.std.specs.Str.{bytes_eq}
@@ -7,7 +7,7 @@ use Rattle.toml.specs.Data.{Data, Members, get_member, as_bool, as_str}
 use Rattle.usb_plan.specs.declared.entry_fault.EntryFault.{EntryFault}
 use Rattle.usb_plan.specs.declared.entry_fault.EntryFault.TheVariants.{BadValue}
 use Rattle.usb_plan.specs.declared.quirks.Quirks.{Quirks}
-use Rattle.usb_plan.specs.EntryFault.{both, ◌>>=◌}
+use Rattle.usb_plan.specs.EntryFault.{fault_in_part, least_fault, ◌>>=◌}
 use Rattle.usb_plan.specs.Value.{read_items, number_or}
 use Rattle.usb_device.specs.{no_stalls, Stalls}
 
@@ -62,15 +62,23 @@ unfoldable pub quirks_with :
     Result Bool EntryFault → Result Bool EntryFault → Result Bool EntryFault → Result ℕ EntryFault
     → Result Stalls EntryFault
     → Result Quirks EntryFault
-quirks_with self_powered busy silent naks stalls =
-    both self_powered (both busy (both silent (both naks stalls)))
-    >>= λ p. Ok (record {
-      self_powered = p.0;
-      busy = p.1.0;
-      silent = p.1.1.0;
-      naks = p.1.1.1.0;
-      stalls = p.1.1.1.1;
-    })
+quirks_with self_powered busy silent naks stalls = do
+  u ← least_fault (fault_in_part self_powered ∷ fault_in_part busy ∷ fault_in_part silent ∷
+      fault_in_part naks
+      ∷ fault_in_part stalls ∷ [])
+  powered ← self_powered
+  is_busy ← busy
+  is_silent ← silent
+  count ← naks
+  refused ← stalls
+  Ok (record {
+    self_powered = powered;
+    busy = is_busy;
+    silent = is_silent;
+    naks = count;
+    stalls =
+        refused;
+  })
 
 -- the keys of what a device does otherwise than others
 unfoldable pub quirks_of : Members → Result Quirks EntryFault

@@ -4,13 +4,17 @@ use Rattle.std.specs.Prelude.{if◌then◌else◌}
 use Rattle.toml.specs.Data.{Data}
 use Rattle.usb_plan.specs.declared.entry_fault.EntryFault.{EntryFault}
 use Rattle.usb_plan.specs.declared.entry_fault.EntryFault.TheVariants.{BadValue}
-use Rattle.usb_plan.specs.EntryFault.{both, ◌>>=◌}
+use Rattle.usb_plan.specs.EntryFault.{fault_in_part, least_fault, ◌>>=◌}
 use Rattle.usb_plan.specs.Value.{read_items, hex_in}
 
 -- the items with one more at their end, or the fault of least number
 unfoldable pub with_item : {A : Type 0} → Result (List A) EntryFault → Result A EntryFault
     → Result (List A) EntryFault
-with_item items item = both items item >>= λ p. Ok (p.0 ++ p.1 ∷ [])
+with_item items item = do
+  u ← least_fault (fault_in_part items ∷ fault_in_part item ∷ [])
+  xs ← items
+  x ← item
+  Ok (xs ++ x ∷ [])
 
 -- the items so far and those that are read of the values, or the fault of least number
 unfoldable pub items_from : {A : Type 0} → (Data → Result A EntryFault)

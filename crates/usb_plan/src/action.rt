@@ -1,16 +1,16 @@
 //! What an event does, by the keys that go with its `do`.
 
-ghost use Rattle.std.specs.Prelude.{◌≡◌, ◌≤◌, is_none, option_map};
-ghost use Rattle.std.specs.List.{list_all};
+ghost use Rattle.std.specs.Prelude.{◌≡◌, ◌≤◌, option_map};
 ghost use Rattle.toml.specs.View.{view};
-ghost use Rattle.usb_plan.specs.Action.{device_index_at, bytes_at, packets_at, any_endpoint, out_endpoint, in_endpoint, in_endpoint_at, setup_in, setup_at, no_bytes, given, write_bytes, write_with, request_with, request_at, asked, send_with, receive_with, clear_with, control, plug_of, unplug_of, send_of, receive_of, clear_of, control_of, look_of, interrupt_of, interface_of, show_of, strangers, keys_given};
+ghost use Rattle.usb_plan.specs.Action.{device_index_at, bytes_at, packets_at, any_endpoint, out_endpoint, in_endpoint, in_endpoint_at, setup_in, setup_at, no_bytes, given, write_bytes, write_with, request_with, request_at, asked, plug, send, receive, send_to, receive_from, poll, clear_end, set_interface, send_with, receive_with, clear_with, control, plug_of, unplug_of, send_of, receive_of, clear_of, control_of, look_of, interrupt_of, interface_of, show_of, names_common, verb_fits, keys_given};
 ghost use Rattle.usb_plan.specs.EventMembers.{found};
+ghost use Rattle.usb_plan.specs.declared.action.OtherKeys.TheVariants.{PathSetting, Said};
 ghost use Rattle.usb_request.specs.Layout.{IsToDevice};
 ghost use Rattle.usb_plan.specs.EntryFault.{EqualUnless};
 ghost use Rattle.usb_plan.specs.declared.entry_fault.EntryFault.TheVariants.{Memory};
 
 use crate::endpoints::address_at;
-use crate::entry_fault::{EntryFault, both};
+use crate::entry_fault::{EntryFault, fault_in_part, least_fault};
 use crate::keys::MOST_PACKETS;
 use crate::members::EventMembers;
 use crate::path::{free_path, read_path, taken_path};
@@ -38,10 +38,7 @@ fn device_index_at(scene: &Scene<'_>, value: Option<&Value>) -> Result<usize, En
 fn bytes_at(alloc: Global, value: Option<&Value>) -> Result<SentBytes, EntryFault>
     ensures { EqualUnless Memory result (bytes_at (option_map (λ v. view v.now) value.entry)) }
 {
-    match value {
-        None => Err(EntryFault::MissingKey),
-        Some(value) => hex_bytes(alloc, value),
-    }
+    hex_bytes(alloc, value.ok_or(EntryFault::MissingKey)?)
 }
 
 /// The key `packets`.
@@ -92,10 +89,7 @@ fn in_endpoint(value: &Value) -> Result<EndpointAddress, EntryFault>
 fn in_endpoint_at(value: Option<&Value>) -> Result<EndpointAddress, EntryFault>
     ensures { result ≡ in_endpoint_at (option_map (λ v. view v.now) value.entry) }
 {
-    match value {
-        None => Err(EntryFault::MissingKey),
-        Some(value) => in_endpoint(value),
-    }
+    in_endpoint(value.ok_or(EntryFault::MissingKey)?)
 }
 
 /// Setup data, of their eight bytes (9.3).
@@ -209,6 +203,131 @@ fn asked(path: PortPath, request: Request) -> Ask
     }
 }
 
+/// The plug of parts of which some may be faults.
+#[tactic(auto, unfolding(crate::specs::Action::plug))]
+fn faulty_plug(
+    path: Result<PortPath, EntryFault>,
+    device: Result<usize, EntryFault>,
+) -> Result<Action, EntryFault>
+    ensures { result ≡ plug path device }
+{
+    least_fault(&[fault_in_part(&path), fault_in_part(&device)])?;
+    Ok(Action::Change(Change::Plug(path?, device?)))
+}
+
+/// The plug of these parts; that both are there is seen first.
+#[tactic(auto, unfolding(crate::specs::Action::plug, crate::specs::EntryFault::fault_in_part, crate::specs::EntryFault::least_fault, crate::specs::EntryFault::sooner))]
+fn plug(
+    path: Result<PortPath, EntryFault>,
+    device: Result<usize, EntryFault>,
+) -> Result<Action, EntryFault>
+    ensures { result ≡ plug path device }
+{
+    match (path, device) {
+        (Ok(path), Ok(device)) => Ok(Action::Change(Change::Plug(path, device))),
+        (path, device) => faulty_plug(path, device),
+    }
+}
+
+/// The action to send bytes to the first bulk OUT, or the least fault of the parts.
+#[tactic(auto, unfolding(crate::specs::Action::send))]
+fn send(
+    path: Result<PortPath, EntryFault>,
+    bytes: Result<SentBytes, EntryFault>,
+) -> Result<Action, EntryFault>
+    ensures { result ≡ send path bytes }
+{
+    least_fault(&[fault_in_part(&path), fault_in_part(&bytes)])?;
+    Ok(Action::Ask(Ask::Send(path?, bytes?)))
+}
+
+/// The action to receive packets from the first bulk IN, or the least fault of the parts.
+#[tactic(auto, unfolding(crate::specs::Action::receive))]
+fn receive(
+    path: Result<PortPath, EntryFault>,
+    packets: Result<u16, EntryFault>,
+) -> Result<Action, EntryFault>
+    ensures { result ≡ receive path packets }
+{
+    least_fault(&[fault_in_part(&path), fault_in_part(&packets)])?;
+    Ok(Action::Ask(Ask::Receive(path?, packets?)))
+}
+
+/// The action to send bytes to this OUT endpoint, or the least fault of the parts.
+#[tactic(auto, unfolding(crate::specs::Action::send_to))]
+fn send_to(
+    path: Result<PortPath, EntryFault>,
+    endpoint: Result<EndpointAddress, EntryFault>,
+    bytes: Result<SentBytes, EntryFault>,
+) -> Result<Action, EntryFault>
+    ensures { result ≡ send_to path endpoint bytes }
+{
+    least_fault(&[
+        fault_in_part(&path),
+        fault_in_part(&endpoint),
+        fault_in_part(&bytes),
+    ])?;
+    Ok(Action::Ask(Ask::SendTo(path?, endpoint?, bytes?)))
+}
+
+/// The action to receive packets from this IN endpoint, or the least fault of the parts.
+#[tactic(auto, unfolding(crate::specs::Action::receive_from))]
+fn receive_from(
+    path: Result<PortPath, EntryFault>,
+    endpoint: Result<EndpointAddress, EntryFault>,
+    packets: Result<u16, EntryFault>,
+) -> Result<Action, EntryFault>
+    ensures { result ≡ receive_from path endpoint packets }
+{
+    least_fault(&[
+        fault_in_part(&path),
+        fault_in_part(&endpoint),
+        fault_in_part(&packets),
+    ])?;
+    Ok(Action::Ask(Ask::ReceiveFrom(path?, endpoint?, packets?)))
+}
+
+/// The action to ask this IN endpoint once for a packet, or the least fault of the parts.
+#[tactic(auto, unfolding(crate::specs::Action::poll))]
+fn poll(
+    path: Result<PortPath, EntryFault>,
+    endpoint: Result<EndpointAddress, EntryFault>,
+) -> Result<Action, EntryFault>
+    ensures { result ≡ poll path endpoint }
+{
+    least_fault(&[fault_in_part(&path), fault_in_part(&endpoint)])?;
+    Ok(Action::Ask(Ask::Poll(path?, endpoint?)))
+}
+
+/// The action to clear the halt of this endpoint, or the least fault of the parts.
+#[tactic(auto, unfolding(crate::specs::Action::clear_end))]
+fn clear_end(
+    path: Result<PortPath, EntryFault>,
+    endpoint: Result<EndpointAddress, EntryFault>,
+) -> Result<Action, EntryFault>
+    ensures { result ≡ clear_end path endpoint }
+{
+    least_fault(&[fault_in_part(&path), fault_in_part(&endpoint)])?;
+    Ok(Action::Ask(Ask::ClearOf(path?, endpoint?)))
+}
+
+/// The action to choose this alternate setting of an interface, or the least fault of the parts.
+#[tactic(auto, unfolding(crate::specs::Action::set_interface))]
+fn set_interface(
+    path: Result<PortPath, EntryFault>,
+    interface: Result<u8, EntryFault>,
+    setting: Result<u8, EntryFault>,
+) -> Result<Action, EntryFault>
+    ensures { result ≡ set_interface path interface setting }
+{
+    least_fault(&[
+        fault_in_part(&path),
+        fault_in_part(&interface),
+        fault_in_part(&setting),
+    ])?;
+    Ok(Action::Ask(Ask::SetInterface(path?, interface?, setting?)))
+}
+
 /// Sends to the endpoint at a key, without it to the first bulk OUT.
 #[tactic(auto, unfolding(crate::specs::Action::send_with))]
 fn send_with(
@@ -219,14 +338,8 @@ fn send_with(
     ensures { result ≡ send_with (option_map (λ v. view v.now) endpoint.entry) path bytes }
 {
     match endpoint {
-        None => {
-            let (path, bytes) = both(path, bytes)?;
-            Ok(Action::Ask(Ask::Send(path, bytes)))
-        }
-        Some(endpoint) => {
-            let (path, (endpoint, bytes)) = both(path, both(out_endpoint(endpoint), bytes))?;
-            Ok(Action::Ask(Ask::SendTo(path, endpoint, bytes)))
-        }
+        None => send(path, bytes),
+        Some(endpoint) => send_to(path, out_endpoint(endpoint), bytes),
     }
 }
 
@@ -240,14 +353,8 @@ fn receive_with(
     ensures { result ≡ receive_with (option_map (λ v. view v.now) endpoint.entry) path packets }
 {
     match endpoint {
-        None => {
-            let (path, packets) = both(path, packets)?;
-            Ok(Action::Ask(Ask::Receive(path, packets)))
-        }
-        Some(endpoint) => {
-            let (path, (endpoint, packets)) = both(path, both(in_endpoint(endpoint), packets))?;
-            Ok(Action::Ask(Ask::ReceiveFrom(path, endpoint, packets)))
-        }
+        None => receive(path, packets),
+        Some(endpoint) => receive_from(path, in_endpoint(endpoint), packets),
     }
 }
 
@@ -261,10 +368,7 @@ fn clear_with(
 {
     match endpoint {
         None => Ok(Action::Ask(Ask::Clear(path?))),
-        Some(endpoint) => {
-            let (path, endpoint) = both(path, any_endpoint(endpoint))?;
-            Ok(Action::Ask(Ask::ClearOf(path, endpoint)))
-        }
+        Some(endpoint) => clear_end(path, any_endpoint(endpoint)),
     }
 }
 
@@ -278,8 +382,12 @@ fn control(
 ) -> Result<Action, EntryFault>
     ensures { result ≡ control path request bytes }
 {
-    let (path, (request, ())) = both(path, both(request, bytes))?;
-    Ok(Action::Ask(asked(path, request)))
+    least_fault(&[
+        fault_in_part(&path),
+        fault_in_part(&request),
+        fault_in_part(&bytes),
+    ])?;
+    Ok(Action::Ask(asked(path?, request?)))
 }
 
 /// Plugs a device.
@@ -287,9 +395,9 @@ fn control(
 pub(crate) fn plug_of(scene: &Scene<'_>, members: &EventMembers<'_>) -> Result<Action, EntryFault>
     ensures { result ≡ plug_of scene.now (found members.now) }
 {
-    let path = free_path(scene, read_path(scene, members.path));
-    let (path, device) = both(path, device_index_at(scene, members.device))?;
-    Ok(Action::Change(Change::Plug(path, device)))
+    let path = read_path(scene, members.path);
+    let device = device_index_at(scene, members.device);
+    plug(free_path(scene, path), device)
 }
 
 /// Unplugs what is at a port.
@@ -377,8 +485,7 @@ pub(crate) fn interrupt_of(
     ensures { result ≡ interrupt_of scene.now (found members.now) }
 {
     let path = read_path(scene, members.path);
-    let (path, endpoint) = both(path, in_endpoint_at(members.endpoint))?;
-    Ok(Action::Ask(Ask::Poll(path, endpoint)))
+    poll(path, in_endpoint_at(members.endpoint))
 }
 
 /// Chooses an alternate setting of an interface.
@@ -390,9 +497,7 @@ pub(crate) fn interface_of(
     ensures { result ≡ interface_of scene.now (found members.now) }
 {
     let path = read_path(scene, members.path);
-    let numbers = both(byte_at(members.interface), byte_at(members.setting));
-    let (path, (interface, setting)) = both(path, numbers)?;
-    Ok(Action::Ask(Ask::SetInterface(path, interface, setting)))
+    set_interface(path, byte_at(members.interface), byte_at(members.setting))
 }
 
 /// The keys that go with an event's `do` and `after`.
@@ -418,57 +523,72 @@ pub(crate) enum OtherKeys {
     Said,
 }
 
-/// Whether nothing stands at a key.
-fn is_absent(value: &Option<&Value>) -> bool
-    ensures { result ≡ is_none (option_map (λ v. view v.now) value.now) }
+/// Whether there is no other key, and none of those that go with `show` or `interface` alone.
+fn names_common(members: &EventMembers<'_>) -> bool
+    ensures { result ≡ names_common (found members.now) }
 {
-    value.is_none()
+    let no_others = !members.has_others;
+    let no_said = members.said.is_none();
+    no_others && no_said && members.setting.is_none() && members.interface.is_none()
 }
 
-/// Whether nothing stands at each of these keys.
-fn are_absent(values: &[Option<&Value>]) -> bool
-    ensures { result ≡ list_all (λ v. is_none (option_map (λ w. view w.now) v)) values.now }
+/// Whether each key that is there goes with `interface`.
+#[tactic(auto, unfolding(crate::specs::Action::verb_fits))]
+fn interface_fits(members: &EventMembers<'_>) -> bool
+    ensures { result ≡ verb_fits PathSetting (found members.now) }
 {
-    values.iter().all(|value| is_absent(value))
+    let no_others = !members.has_others;
+    let no_said = members.said.is_none();
+    let no_end = members.endpoint.is_none();
+    let no_setup = members.setup.is_none();
+    let no_packets = members.packets.is_none();
+    let no_bytes = members.bytes.is_none();
+    let no_device = members.device.is_none();
+    no_others && no_said && no_end && no_setup && no_packets && no_bytes && no_device
 }
 
-/// Whether nothing stands at each known key that does not go with these.
-#[tactic(auto, unfolding(crate::specs::Action::strangers))]
-fn are_strangers_absent(keys: OtherKeys, members: &EventMembers<'_>) -> bool
-    ensures { result ≡ list_all is_none (strangers keys (found members.now)) }
+/// Whether each key that is there goes with `show`.
+#[tactic(auto, unfolding(crate::specs::Action::verb_fits))]
+fn show_fits(members: &EventMembers<'_>) -> bool
+    ensures { result ≡ verb_fits Said (found members.now) }
 {
-    let EventMembers {
-        path,
-        device,
-        bytes,
-        packets,
-        setup,
-        endpoint,
-        interface,
-        setting,
-        said,
-        ..
-    } = *members;
+    let no_others = !members.has_others;
+    let no_setting = members.setting.is_none();
+    let no_interface = members.interface.is_none();
+    let no_end = members.endpoint.is_none();
+    let no_setup = members.setup.is_none();
+    let no_packets = members.packets.is_none();
+    let no_bytes = members.bytes.is_none();
+    let no_device = members.device.is_none();
+    let no_path = members.path.is_none();
+    let alone = no_others && no_setting && no_interface;
+    alone && no_end && no_setup && no_packets && no_bytes && no_device && no_path
+}
+
+/// Whether each key that is there is one of those, `do` or `after`.
+#[tactic(auto, unfolding(crate::specs::Action::verb_fits))]
+fn fits(keys: OtherKeys, members: &EventMembers<'_>) -> bool
+    ensures { result ≡ verb_fits keys (found members.now) }
+{
+    let known = names_common(members);
+    let no_device = members.device.is_none();
+    let no_bytes = members.bytes.is_none();
+    let no_packets = members.packets.is_none();
+    let no_setup = members.setup.is_none();
+    let no_end = members.endpoint.is_none();
     match keys {
-        OtherKeys::Alone => are_absent(&[
-            said, setting, interface, endpoint, setup, packets, bytes, device, path,
-        ]),
-        OtherKeys::Path => are_absent(&[
-            said, setting, interface, endpoint, setup, packets, bytes, device,
-        ]),
-        OtherKeys::PathDevice => are_absent(&[
-            said, setting, interface, endpoint, setup, packets, bytes,
-        ]),
-        OtherKeys::PathBytes => are_absent(&[said, setting, interface, setup, packets, device]),
-        OtherKeys::PathPackets => are_absent(&[said, setting, interface, setup, bytes, device]),
-        OtherKeys::PathEndpoint => are_absent(&[
-            said, setting, interface, setup, packets, bytes, device,
-        ]),
-        OtherKeys::PathSetup => are_absent(&[said, setting, interface, endpoint, packets, device]),
-        OtherKeys::PathSetting => are_absent(&[said, endpoint, setup, packets, bytes, device]),
-        OtherKeys::Said => are_absent(&[
-            setting, interface, endpoint, setup, packets, bytes, device, path,
-        ]),
+        OtherKeys::Alone => {
+            let no_path = members.path.is_none();
+            known && no_end && no_setup && no_packets && no_bytes && no_device && no_path
+        }
+        OtherKeys::Path => known && no_end && no_setup && no_packets && no_bytes && no_device,
+        OtherKeys::PathDevice => known && no_end && no_setup && no_packets && no_bytes,
+        OtherKeys::PathBytes => known && no_setup && no_packets && no_device,
+        OtherKeys::PathPackets => known && no_setup && no_bytes && no_device,
+        OtherKeys::PathEndpoint => known && no_setup && no_packets && no_bytes && no_device,
+        OtherKeys::PathSetup => known && no_end && no_packets && no_device,
+        OtherKeys::PathSetting => interface_fits(members),
+        OtherKeys::Said => show_fits(members),
     }
 }
 
@@ -477,7 +597,7 @@ fn are_strangers_absent(keys: OtherKeys, members: &EventMembers<'_>) -> bool
 pub(crate) fn keys_given(keys: OtherKeys, members: &EventMembers<'_>) -> Result<(), EntryFault>
     ensures { result ≡ keys_given keys (found members.now) }
 {
-    if !members.has_others && are_strangers_absent(keys, members) {
+    if fits(keys, members) {
         Ok(())
     } else {
         Err(EntryFault::BadValue)

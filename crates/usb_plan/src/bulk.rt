@@ -6,7 +6,7 @@ ghost use Rattle.usb_plan.specs.EntryFault.{EqualUnless};
 ghost use Rattle.usb_plan.specs.Bulk.{source_at, halt_in, halt_at, bulk_with, read_bulk};
 ghost use Rattle.usb_plan.specs.declared.entry_fault.EntryFault.TheVariants.{Memory};
 
-use crate::entry_fault::{EntryFault, both};
+use crate::entry_fault::{EntryFault, fault_in_part, least_fault};
 use crate::keys::MOST_BEFORE_HALT;
 use crate::value::{hex_in, number_in, value_at};
 use std::alloc::Global;
@@ -61,8 +61,11 @@ fn bulk_with(
 ) -> Result<Bulk, EntryFault>
     ensures { result ≡ bulk_with source halt_after }
 {
-    let (source, halt_after) = both(source, halt_after)?;
-    Ok(Bulk { source, halt_after })
+    least_fault(&[fault_in_part(&source), fault_in_part(&halt_after)])?;
+    Ok(Bulk {
+        source: source?,
+        halt_after: halt_after?,
+    })
 }
 
 /// The keys of bulk endpoints.

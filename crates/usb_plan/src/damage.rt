@@ -7,7 +7,7 @@ ghost use Rattle.usb_plan.specs.EntryFault.{EqualUnless};
 ghost use Rattle.usb_plan.specs.declared.fault.PlanFault.TheVariants.{Memory as NoMemory};
 ghost use Rattle.usb_plan.specs.Damage.{attempt_at, packet_number, way_named, way_at, no_bit, flip_at, harm_of, harm_by, damage_room, damage_with, placed_damage, IsPlaced, read_damage, damage_entry, damages_from};
 
-use crate::entry_fault::{EntryFault, both, entry_at};
+use crate::entry_fault::{EntryFault, entry_at, fault_in_part, least_fault};
 use crate::fault::{Place, PlanFault};
 use crate::keys::{LAST_ATTEMPT, LAST_BIT, LAST_PACKET, MOST_DAMAGES, keys_at, no_when};
 use crate::value::{number_at, read_text, value_at};
@@ -126,12 +126,17 @@ fn damage_with(
 ) -> Result<Damage, EntryFault>
     ensures { result ≡ damage_with attempt packet harm keys room }
 {
-    let rest = both(harm, both(keys, room));
-    let (attempt, (packet, (harm, _))) = both(attempt, both(packet, rest))?;
+    least_fault(&[
+        fault_in_part(&attempt),
+        fault_in_part(&packet),
+        fault_in_part(&harm),
+        fault_in_part(&keys),
+        fault_in_part(&room),
+    ])?;
     Ok(Damage {
-        attempt,
-        packet,
-        harm,
+        attempt: attempt?,
+        packet: packet?,
+        harm: harm?,
     })
 }
 
@@ -184,13 +189,9 @@ fn damage_entry(last: u64, count: usize, table: Option<&Table>) -> Result<Damage
     requires { last < 2 ^ 63 }
     ensures { result ≡ damage_entry last count (option_map (λ t. table_view t.now) table.entry) }
 {
-    match table {
-        None => Err(EntryFault::BadValue),
-        Some(table) => {
-            no_when(value_at(table, "when"))?;
-            read_damage(last, count, table)
-        }
-    }
+    let table = table.ok_or(EntryFault::BadValue)?;
+    no_when(value_at(table, "when"))?;
+    read_damage(last, count, table)
 }
 
 /// The damages that the values describe, or the first fault.

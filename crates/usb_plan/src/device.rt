@@ -12,7 +12,7 @@ ghost use Rattle.usb_plan.specs.Device.{name_in, name_at, speed_at, descriptor_a
 
 use crate::bulk::{Bulk, read_bulk};
 use crate::endpoints::endpoints_of;
-use crate::entry_fault::{EntryFault, both, entry_at};
+use crate::entry_fault::{EntryFault, entry_at, fault_in_part, least_fault};
 use crate::fault::{Place, PlanFault};
 use crate::hub::{class_at, hub_at};
 use crate::keys::{MOST_DEVICES, keys_at};
@@ -62,10 +62,7 @@ fn speed_at(value: Option<&Value>) -> Result<bool, EntryFault>
 fn descriptor_at(alloc: Global, value: Option<&Value>) -> Result<Bytes<255>, EntryFault>
     ensures { EqualUnless Memory result (descriptor_at (option_map (λ v. view v.now) value.entry)) }
 {
-    match value {
-        None => Err(EntryFault::MissingKey),
-        Some(value) => hex_in::<255>(alloc, value),
-    }
+    hex_in::<255>(alloc, value.ok_or(EntryFault::MissingKey)?)
 }
 
 /// The key `configs`.
@@ -73,10 +70,7 @@ fn descriptor_at(alloc: Global, value: Option<&Value>) -> Result<Bytes<255>, Ent
 fn configs_at(alloc: Global, value: Option<&Value>) -> Result<ConfigTexts, EntryFault>
     ensures { EqualUnless Memory result (configs_at (option_map (λ v. view v.now) value.entry)) }
 {
-    match value {
-        None => Err(EntryFault::MissingKey),
-        Some(value) => texts_in::<8, 65535>(alloc, value),
-    }
+    texts_in::<8, 65535>(alloc, value.ok_or(EntryFault::MissingKey)?)
 }
 
 /// The key `strings`, which may be absent.
@@ -162,13 +156,18 @@ fn identity_with(
 ) -> Result<Identity, EntryFault>
     ensures { result ≡ identity_with name low descriptor class hub }
 {
-    let rest = both(descriptor, both(class, hub));
-    let (name, (low, (descriptor, ((), hub)))) = both(name, both(low, rest))?;
+    least_fault(&[
+        fault_in_part(&name),
+        fault_in_part(&low),
+        fault_in_part(&descriptor),
+        fault_in_part(&class),
+        fault_in_part(&hub),
+    ])?;
     Ok(Identity {
-        name,
-        low,
-        descriptor,
-        hub,
+        name: name?,
+        low: low?,
+        descriptor: descriptor?,
+        hub: hub?,
     })
 }
 
@@ -206,8 +205,11 @@ fn device_texts_with(
 ) -> Result<DeviceTexts, EntryFault>
     ensures { result ≡ device_texts_with configs strings }
 {
-    let (configs, strings) = both(configs, strings)?;
-    Ok(DeviceTexts { configs, strings })
+    least_fault(&[fault_in_part(&configs), fault_in_part(&strings)])?;
+    Ok(DeviceTexts {
+        configs: configs?,
+        strings: strings?,
+    })
 }
 
 /// The keys of the texts that a device gives.
@@ -235,10 +237,10 @@ fn device_tables_with(
 ) -> Result<DeviceTables, EntryFault>
     ensures { result ≡ device_tables_with endpoints requests }
 {
-    let (endpoints, requests) = both(endpoints, requests)?;
+    least_fault(&[fault_in_part(&endpoints), fault_in_part(&requests)])?;
     Ok(DeviceTables {
-        endpoints,
-        requests,
+        endpoints: endpoints?,
+        requests: requests?,
     })
 }
 
@@ -295,12 +297,16 @@ fn device_with(
     requires halt { ForOk bulk HaltsLater }
     ensures { result ≡ device_with identity texts quirks bulk tables keys room }
 {
-    let rest = both(bulk, both(tables, both(keys, room)));
-    let (identity, (texts, (quirks, (bulk, (tables, _))))) = both(
-        identity,
-        both(texts, both(quirks, rest)),
-    )?;
-    Ok(device_of_parts(identity, texts, quirks, bulk, tables))
+    least_fault(&[
+        fault_in_part(&identity),
+        fault_in_part(&texts),
+        fault_in_part(&quirks),
+        fault_in_part(&bulk),
+        fault_in_part(&tables),
+        fault_in_part(&keys),
+        fault_in_part(&room),
+    ])?;
+    Ok(device_of_parts(identity?, texts?, quirks?, bulk?, tables?))
 }
 
 const KEYS: [&str; 16] = [
@@ -353,10 +359,7 @@ fn device_in(
     ensures { EqualUnless Memory result
         (device_in wide earlier.now (option_map (λ t. table_view t.now) table.entry)) }
 {
-    match table {
-        None => Err(EntryFault::BadValue),
-        Some(table) => read_device(alloc, wide, earlier, table),
-    }
+    read_device(alloc, wide, earlier, table.ok_or(EntryFault::BadValue)?)
 }
 
 /// The devices that the values describe, or the first fault.

@@ -11,7 +11,7 @@ ghost use Rattle.usb_plan.specs.Texts.{items_from, with_item};
 ghost use Rattle.usb_plan.specs.declared.entry_fault.EntryFault.TheVariants.{Memory};
 
 use crate::bulk::halt_at;
-use crate::entry_fault::{EntryFault, both};
+use crate::entry_fault::{EntryFault, fault_in_part, least_fault};
 use crate::keys::{MOST_ENDPOINT_NAKS, MOST_ENDPOINTS, keys_at};
 use crate::texts::texts_in;
 use crate::value::{byte_at, hex_in, number_or, tables_in, value_at};
@@ -105,13 +105,18 @@ fn endpoint_with(
 ) -> Result<EndpointSpec, EntryFault>
     ensures { result ≡ endpoint_with address given halt_after naks keys }
 {
-    let rest = both(halt_after, both(naks, keys));
-    let (address, (data, (halt_after, (naks, ())))) = both(address, both(given, rest))?;
+    least_fault(&[
+        fault_in_part(&address),
+        fault_in_part(&given),
+        fault_in_part(&halt_after),
+        fault_in_part(&naks),
+        fault_in_part(&keys),
+    ])?;
     Ok(EndpointSpec {
-        address,
-        data,
-        halt_after,
-        naks,
+        address: address?,
+        data: given?,
+        halt_after: halt_after?,
+        naks: naks?,
     })
 }
 
@@ -135,10 +140,7 @@ fn endpoint_of(alloc: Global, table: &Table) -> Result<EndpointSpec, EntryFault>
 fn endpoint_in(alloc: Global, value: &Value) -> Result<EndpointSpec, EntryFault>
     ensures { EqualUnless Memory result (endpoint_in (view value.now)) }
 {
-    match value.as_table() {
-        None => Err(EntryFault::BadValue),
-        Some(table) => endpoint_of(alloc, table),
-    }
+    endpoint_of(alloc, value.as_table().ok_or(EntryFault::BadValue)?)
 }
 
 /// The endpoints with one more at their end.
@@ -150,8 +152,9 @@ fn with_endpoint(
     requires { ForOk endpoints (λ x. length x < 30) }
     ensures { EqualUnless Memory result (with_item endpoints endpoint) }
 {
-    let (mut endpoints, endpoint) = both(endpoints, endpoint)?;
-    endpoints.push(endpoint)?;
+    least_fault(&[fault_in_part(&endpoints), fault_in_part(&endpoint)])?;
+    let mut endpoints = endpoints?;
+    endpoints.push(endpoint?)?;
     Ok(endpoints)
 }
 
@@ -174,10 +177,8 @@ fn endpoints_among(alloc: Global, values: &[Value]) -> Result<EndpointSpecs, Ent
 fn address_in(value: &Value) -> Result<EndpointAddress, EntryFault>
     ensures { result ≡ address_in (view value.now) }
 {
-    match value.as_table() {
-        None => Err(EntryFault::BadValue),
-        Some(table) => address_at(value_at(table, "address")),
-    }
+    let table = value.as_table().ok_or(EntryFault::BadValue)?;
+    address_at(value_at(table, "address"))
 }
 
 /// Whether both are addresses without a fault, and equal.
@@ -237,8 +238,8 @@ fn endpoints_with(
 ) -> Result<EndpointSpecs, EntryFault>
     ensures { result ≡ endpoints_with endpoints distinct }
 {
-    let (endpoints, ()) = both(endpoints, distinct)?;
-    Ok(endpoints)
+    least_fault(&[fault_in_part(&endpoints), fault_in_part(&distinct)])?;
+    endpoints
 }
 
 /// The endpoints of an array of at most 30 tables.

@@ -1,7 +1,7 @@
 //! The faults of one entry, and which of several is reported.
 
-ghost use Rattle.std.specs.Prelude.{◌≡◌};
-ghost use Rattle.usb_plan.specs.EntryFault.{both, entry_at};
+ghost use Rattle.std.specs.Prelude.{◌≡◌, Some};
+ghost use Rattle.usb_plan.specs.EntryFault.{fault_in_part, sooner, least_fault, entry_at};
 ghost use Rattle.usb_plan.specs.declared.entry_fault.EntryFault.TheVariants.{Memory};
 
 use crate::fault::{Place, PlanFault};
@@ -66,19 +66,34 @@ impl From<FromHexError> for EntryFault {
     }
 }
 
-/// Both values, or the fault of the two that is first in order.
-#[tactic(auto, unfolding(crate::specs::EntryFault::both, crate::specs::EntryFault::least))]
-pub(crate) fn both<A: Drop, B: Drop>(
-    one: Result<A, EntryFault>,
-    two: Result<B, EntryFault>,
-) -> Result<(A, B), EntryFault>
-    ensures { result ≡ both one two }
+/// The fault of a part, if it has one.
+#[tactic(auto, unfolding(crate::specs::EntryFault::fault_in_part))]
+pub(crate) fn fault_in_part<A>(part: &Result<A, EntryFault>) -> Option<EntryFault>
+    ensures { result ≡ fault_in_part part.now }
 {
-    match (one, two) {
-        (Ok(one), Ok(two)) => Ok((one, two)),
-        (Ok(_), Err(fault)) => Err(fault),
-        (Err(fault), Ok(_)) => Err(fault),
-        (Err(fault), Err(other)) => Err(fault.min(other)),
+    part.as_ref().err().copied()
+}
+
+/// A fault beside what is reported of the parts after it.
+#[tactic(auto, unfolding(crate::specs::EntryFault::sooner, crate::specs::EntryFault::least))]
+fn sooner(fault: EntryFault, others: Result<(), EntryFault>) -> Result<(), EntryFault>
+    ensures { result ≡ sooner (Some fault) others }
+{
+    match others {
+        Ok(()) => Err(fault),
+        Err(other) => Err(fault.min(other)),
+    }
+}
+
+/// Refuses an entry with faults in its parts, and reports the first in order.
+#[tactic(auto, unfolding(crate::specs::EntryFault::least_fault, crate::specs::EntryFault::sooner))]
+pub(crate) fn least_fault(faults: &[Option<EntryFault>]) -> Result<(), EntryFault>
+    ensures { result ≡ least_fault faults.now }
+{
+    match faults.split_first() {
+        None => Ok(()),
+        Some((None, rest)) => least_fault(rest),
+        Some((Some(fault), rest)) => sooner(*fault, least_fault(rest)),
     }
 }
 

@@ -13,7 +13,7 @@ ghost use Rattle.usb_plan.specs.declared.entry_fault.EntryFault.TheVariants.{Mem
 ghost use Rattle.usb_plan.specs.Event.{after_at, event_room, event_with, event_given, event_of, event_in, events_from};
 
 use crate::action::keys_given;
-use crate::entry_fault::{EntryFault, both, entry_at};
+use crate::entry_fault::{EntryFault, entry_at, fault_in_part, least_fault};
 use crate::fault::{Place, PlanFault};
 use crate::keys::{LONGEST_WAIT, MOST_EVENTS, no_when};
 use crate::members::EventMembers;
@@ -45,8 +45,30 @@ fn event_room(count: usize) -> Result<(), EntryFault>
     }
 }
 
-/// The event of these parts, or their least fault.
+/// The event of parts of which some may be faults.
 #[tactic(auto, unfolding(crate::specs::Event::event_with))]
+fn faulty_event(
+    action: Result<Action, EntryFault>,
+    after: Result<u64, EntryFault>,
+    keys: Result<(), EntryFault>,
+    room: Result<(), EntryFault>,
+) -> Result<Event, EntryFault>
+    ensures { result ≡ event_with action after keys room }
+{
+    least_fault(&[
+        fault_in_part(&action),
+        fault_in_part(&after),
+        fault_in_part(&keys),
+        fault_in_part(&room),
+    ])?;
+    Ok(Event {
+        after: after?,
+        action: action?,
+    })
+}
+
+/// The event of these parts; that they all are there is seen first.
+#[tactic(auto, unfolding(crate::specs::Event::event_with, crate::specs::EntryFault::fault_in_part, crate::specs::EntryFault::least_fault, crate::specs::EntryFault::sooner))]
 fn event_with(
     action: Result<Action, EntryFault>,
     after: Result<u64, EntryFault>,
@@ -55,8 +77,10 @@ fn event_with(
 ) -> Result<Event, EntryFault>
     ensures { result ≡ event_with action after keys room }
 {
-    let (action, (after, _)) = both(action, both(after, both(keys, room)))?;
-    Ok(Event { after, action })
+    match (action, after, keys, room) {
+        (Ok(action), Ok(after), Ok(()), Ok(())) => Ok(Event { after, action }),
+        (action, after, keys, room) => faulty_event(action, after, keys, room),
+    }
 }
 
 /// The event of a table whose `do` is that verb, in the scene, after this number of others.

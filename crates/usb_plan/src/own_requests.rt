@@ -8,7 +8,7 @@ ghost use Rattle.usb_plan.specs.OwnRequests.{answer_of, answer_with, codes_of, c
 ghost use Rattle.usb_plan.specs.Texts.{items_from, with_item};
 ghost use Rattle.usb_plan.specs.declared.entry_fault.EntryFault.TheVariants.{Memory};
 
-use crate::entry_fault::{EntryFault, both};
+use crate::entry_fault::{EntryFault, fault_in_part, least_fault};
 use crate::keys::{MOST_REQUESTS, keys_at};
 use crate::quirks::flag_at;
 use crate::value::{byte_at, hex_in, number_in, tables_in, text_in, value_at};
@@ -76,10 +76,14 @@ fn codes_with(
 ) -> Result<Codes, EntryFault>
     ensures { result ≡ codes_with request_type request own }
 {
-    let (request_type, (request, ())) = both(request_type, both(request, own))?;
+    least_fault(&[
+        fault_in_part(&request_type),
+        fault_in_part(&request),
+        fault_in_part(&own),
+    ])?;
     Ok(Codes {
-        request_type,
-        request,
+        request_type: request_type?,
+        request: request?,
     })
 }
 
@@ -111,11 +115,15 @@ fn fields_with(
 ) -> Result<Fields, EntryFault>
     ensures { result ≡ fields_with value index length }
 {
-    let (value, (index, length)) = both(value, both(index, length))?;
+    least_fault(&[
+        fault_in_part(&value),
+        fault_in_part(&index),
+        fault_in_part(&length),
+    ])?;
     Ok(Fields {
-        value,
-        index,
-        length,
+        value: value?,
+        index: index?,
+        length: length?,
     })
 }
 
@@ -255,14 +263,21 @@ fn row_with(
 ) -> Result<OwnRequest, EntryFault>
     ensures { result ≡ row_with codes fields answer keys }
 {
-    let (codes, (fields, (answer, ()))) = both(codes, both(fields, both(answer, keys)))?;
+    least_fault(&[
+        fault_in_part(&codes),
+        fault_in_part(&fields),
+        fault_in_part(&answer),
+        fault_in_part(&keys),
+    ])?;
+    let codes = codes?;
+    let fields = fields?;
     Ok(OwnRequest {
         request_type: codes.request_type,
         request: codes.request,
         value: fields.value,
         index: fields.index,
         length: fields.length,
-        answer,
+        answer: answer?,
     })
 }
 
@@ -289,10 +304,7 @@ fn row_of(alloc: Global, table: &Table) -> Result<OwnRequest, EntryFault>
 fn row_in(alloc: Global, value: &Value) -> Result<OwnRequest, EntryFault>
     ensures { EqualUnless Memory result (row_in (view value.now)) }
 {
-    match value.as_table() {
-        None => Err(EntryFault::BadValue),
-        Some(table) => row_of(alloc, table),
-    }
+    row_of(alloc, value.as_table().ok_or(EntryFault::BadValue)?)
 }
 
 /// The rows with one more at their end.
@@ -304,8 +316,9 @@ fn with_row(
     requires { ForOk rows (λ x. length x < 64) }
     ensures { EqualUnless Memory result (with_item rows row) }
 {
-    let (mut rows, row) = both(rows, row)?;
-    rows.push(row)?;
+    least_fault(&[fault_in_part(&rows), fault_in_part(&row)])?;
+    let mut rows = rows?;
+    rows.push(row?)?;
     Ok(rows)
 }
 

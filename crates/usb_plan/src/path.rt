@@ -25,9 +25,7 @@ fn has_numbers_of(wide: bool, path: &PortPath) -> bool
 pub(crate) fn read_path(scene: &Scene<'_>, value: Option<&Value>) -> Result<PortPath, EntryFault>
     ensures { result ≡ read_path scene.now (option_map (λ v. view v.now) value.entry) }
 {
-    let Some(path) = PortPath::from_text(read_text(value)?) else {
-        return Err(EntryFault::BadPath);
-    };
+    let path = PortPath::from_text(read_text(value)?).ok_or(EntryFault::BadPath)?;
     if scene.is_rooted(&path) && has_numbers_of(scene.wide_hubs(), &path) {
         Ok(path)
     } else {

@@ -10,7 +10,7 @@ ghost use Rattle.usb_plan.specs.Plan.{limit_at, roots_at, entries_in, entries_at
 
 use crate::damage::damages_of;
 use crate::device::devices_of;
-use crate::entry_fault::{EntryFault, both, entry_at};
+use crate::entry_fault::{EntryFault, entry_at, fault_in_part, least_fault};
 use crate::event::events_of;
 use crate::fault::{Place, PlanFault};
 use crate::keys::{MOST_ATTEMPTS, MOST_ROOTS, keys_at};
@@ -98,9 +98,20 @@ fn top_with(
 ) -> Result<Top, EntryFault>
     ensures { result ≡ top_with limit roots wide devices events damages keys }
 {
-    let entries = both(devices, both(events, both(damages, keys)));
-    let (limit, (roots, (wide, _))) = both(limit, both(roots, both(wide, entries)))?;
-    Ok(Top { limit, roots, wide })
+    least_fault(&[
+        fault_in_part(&limit),
+        fault_in_part(&roots),
+        fault_in_part(&wide),
+        fault_in_part(&devices),
+        fault_in_part(&events),
+        fault_in_part(&damages),
+        fault_in_part(&keys),
+    ])?;
+    Ok(Top {
+        limit: limit?,
+        roots: roots?,
+        wide: wide?,
+    })
 }
 
 /// The table has no other keys than those at the top.

@@ -5,7 +5,7 @@ ghost use Rattle.std.specs.List.{list_any, list_all};
 ghost use Rattle.toml.specs.View.{view, table_view};
 ghost use Rattle.usb_plan.specs.Quirks.{is_word, flag_at, naks_at, names, is_stall, stalls_named, stalls_in, stalls_at, quirks_with, quirks_of};
 
-use crate::entry_fault::{EntryFault, both};
+use crate::entry_fault::{EntryFault, fault_in_part, least_fault};
 use crate::keys::MOST_NAKS;
 use crate::value::{number_or, read_items, value_at};
 use toml::{Table, Value};
@@ -146,14 +146,19 @@ fn quirks_with(
 ) -> Result<Quirks, EntryFault>
     ensures { result ≡ quirks_with self_powered busy silent naks stalls }
 {
-    let rest = both(silent, both(naks, stalls));
-    let (self_powered, (busy, (silent, (naks, stalls)))) = both(self_powered, both(busy, rest))?;
+    least_fault(&[
+        fault_in_part(&self_powered),
+        fault_in_part(&busy),
+        fault_in_part(&silent),
+        fault_in_part(&naks),
+        fault_in_part(&stalls),
+    ])?;
     Ok(Quirks {
-        self_powered,
-        busy,
-        silent,
-        naks,
-        stalls,
+        self_powered: self_powered?,
+        busy: busy?,
+        silent: silent?,
+        naks: naks?,
+        stalls: stalls?,
     })
 }
 

@@ -147,10 +147,7 @@ impl<'a> Scene<'a> {
 fn device_indexed(devices: &[DeviceSpec], index: Option<usize>) -> Option<&DeviceSpec>
     ensures { option_map (λ d. d.now) result ≡ device_indexed devices.now index }
 {
-    match index {
-        None => None,
-        Some(index) => devices.get(index),
-    }
+    devices.get(index?)
 }
 
 /// How many ports the key `ports` of a device's table says, 0 without it.

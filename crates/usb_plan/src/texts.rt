@@ -8,7 +8,7 @@ ghost use Rattle.usb_plan.specs.Texts.{with_item, items_from, texts_in};
 ghost use Rattle.usb_plan.specs.Value.{hex_in};
 ghost use Rattle.usb_plan.specs.declared.entry_fault.EntryFault.TheVariants.{Memory};
 
-use crate::entry_fault::{EntryFault, both};
+use crate::entry_fault::{EntryFault, fault_in_part, least_fault};
 use crate::value::{hex_in, read_items};
 use std::alloc::Global;
 use toml::Value;
@@ -23,8 +23,9 @@ fn with_text<const COUNT: usize, const MAX: usize>(
     requires { ForOk texts (λ x. length x < COUNT) }
     ensures { EqualUnless Memory result (with_item texts.entry text.entry) }
 {
-    let (mut texts, text) = both(texts, text)?;
-    texts.push(text)?;
+    least_fault(&[fault_in_part(&texts), fault_in_part(&text)])?;
+    let mut texts = texts?;
+    texts.push(text?)?;
     Ok(texts)
 }
 

@@ -37,10 +37,7 @@ pub(crate) fn read_text<'a>(value: Option<&'a Value>) -> Result<&'a str, EntryFa
     ensures { result_map_both (λ t. t.now) (λ k. k) result
         ≡ read_text (option_map (λ v. view v.now) value.entry) }
 {
-    match value {
-        None => Err(EntryFault::MissingKey),
-        Some(value) => text_in(value),
-    }
+    text_in(value.ok_or(EntryFault::MissingKey)?)
 }
 
 /// The values of the array that a value is.
@@ -49,10 +46,8 @@ pub(crate) fn read_items(value: &Value) -> Result<&[Value], EntryFault>
     ensures { result_map_both (λ vs. map view vs.now) (λ k. k) result
         ≡ read_items (view value.now) }
 {
-    match value.as_array() {
-        None => Err(EntryFault::BadValue),
-        Some(values) => Ok(values.as_slice()),
-    }
+    let values = value.as_array().ok_or(EntryFault::BadValue)?;
+    Ok(values.as_slice())
 }
 
 /// Whether a value is a table.
@@ -109,10 +104,8 @@ pub(crate) fn number_in(low: u64, high: u64, number: Option<i64>) -> Result<u64,
 pub(crate) fn number_at(low: u64, high: u64, value: Option<&Value>) -> Result<u64, EntryFault>
     ensures { result ≡ number_at low high (option_map (λ v. view v.now) value.entry) }
 {
-    match value {
-        None => Err(EntryFault::MissingKey),
-        Some(value) => number_in(low, high, value.as_integer()),
-    }
+    let value = value.ok_or(EntryFault::MissingKey)?;
+    number_in(low, high, value.as_integer())
 }
 
 /// A byte that has to be there.
@@ -120,13 +113,9 @@ pub(crate) fn number_at(low: u64, high: u64, value: Option<&Value>) -> Result<u6
 pub(crate) fn byte_at(value: Option<&Value>) -> Result<u8, EntryFault>
     ensures { result ≡ byte_at (option_map (λ v. view v.now) value.entry) }
 {
-    match value {
-        None => Err(EntryFault::MissingKey),
-        Some(value) => {
-            let number = number_in(0, 255, value.as_integer())?;
-            Ok(number as u8)
-        }
-    }
+    let value = value.ok_or(EntryFault::MissingKey)?;
+    let number = number_in(0, 255, value.as_integer())?;
+    Ok(number as u8)
 }
 
 /// A number that may be absent, and then is `absent`.

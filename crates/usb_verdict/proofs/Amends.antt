@@ -95,21 +95,21 @@ pub refused_get : (path : List ℕ) (old : List ListedPort) (x : ListedPort)
 refused_get path old x (Ok done) at h = tt
 refused_get path old x (Err f) at h = λ detail.
     refused_at path detail old (length old - 1) x f
-      (omega (arith, slice_get_within old (length old - 1) x at))
-      (sym (get_or_from_slice_get old (length old - 1) x x at)) (h detail)
+    (omega (arith, slice_get_within old (length old - 1) x at))
+    (sym (get_or_from_slice_get old (length old - 1) x x at)) (h detail)
 
 -- the last port can get one
 pub kept_get : (path : List ℕ) (old : List ListedPort) (x : ListedPort)
     (r : Result Unit ListingFault) → slice_get old (length old - 1) ≡ Some x
     → OnOk r ((detail : DetailSaid) (f : ListingFault)
-      → amended_port path detail (port_said x) ≢ Err f)
+    → amended_port path detail (port_said x) ≢ Err f)
     → OnOk r ((detail : DetailSaid) (f : ListingFault)
-      → amended path detail (map port_said old) ≢ Err f)
+    → amended path detail (map port_said old) ≢ Err f)
 kept_get path old x (Err f) at h = tt
 kept_get path old x (Ok done) at h = λ detail.
     kept_at path detail old (length old - 1) x
-      (omega (arith, slice_get_within old (length old - 1) x at))
-      (sym (get_or_from_slice_get old (length old - 1) x x at)) (h detail)
+    (omega (arith, slice_get_within old (length old - 1) x at))
+    (sym (get_or_from_slice_get old (length old - 1) x x at)) (h detail)
 
 -- there is none to get it
 pub none_get : (path : List ℕ) (detail : DetailSaid) (old : List ListedPort)

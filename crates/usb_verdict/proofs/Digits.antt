@@ -17,7 +17,7 @@ digits_decode : (word : List ℕ) → are_digit_pairs word ≡ true
 digits_decode word h =
     let parts = and_parts _ _ h in
     decode_of-digits word (eqb-true _ _ (and_parts _ _ parts.0).1)
-      (AllPass-from_list_all is_hex_digit word parts.1)
+    (AllPass-from_list_all is_hex_digit word parts.1)
 
 spelled : (dash : Bool) (r : Result (List ℕ) FromHexError) (bytes : List ℕ) → r ≡ Ok bytes
     → (if dash then Some [] else result_ok r) ≢ None

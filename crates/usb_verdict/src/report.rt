@@ -112,12 +112,7 @@ impl ReportedListing {
     }
 
     /// Adds the configuration that was chosen for the device at a path. Memory is needed last.
-    fn choose(
-        &mut self,
-        alloc: Global,
-        path: &PortPath,
-        digits: &str,
-    ) -> Result<(), ListingFault>
+    fn choose(&mut self, alloc: Global, path: &PortPath, digits: &str) -> Result<(), ListingFault>
         ensures taken { OnOk result (joined (chosen path.now digits.now) (map port_said self.old)
             ≡ Ok (map port_said self.new)) }
         ensures fault { IfErr result (λ fault. (fault ≡ Memory)
