@@ -14,10 +14,10 @@ use Rattle.toml.specs.Data.{Data, Members, array, as_table, boolean, datetime, f
 use Rattle.toml.specs.Data.{integer, member, no_members, string, table}
 use Rattle.usb_plan.specs.declared.fault.Place.{Place}
 use Rattle.usb_plan.specs.declared.fault.Place.TheVariants as place
-use Rattle.usb_plan.specs.{BadValue, EqualUnless, PlanFault, both, damage_entry, damage_room}
-use Rattle.usb_plan.specs.{damage_with, entries_of, entry_at, last_from, no_when, plan_of}
-use Rattle.usb_plan.specs.{devices_from, plan_of_entries, plan_with, ports_said, read_damage}
-use Rattle.usb_plan.specs.{◌>>=◌}
+use Rattle.usb_plan.specs.{BadValue, EqualUnless, PlanFault, damage_entry, damage_room, damage_with}
+use Rattle.usb_plan.specs.{entries_of, entry_at, fault_in_part, last_from, least_fault, no_when}
+use Rattle.usb_plan.specs.{plan_of, devices_from, plan_of_entries, plan_with, ports_said}
+use Rattle.usb_plan.specs.{read_damage, sooner, ◌>>=◌}
 use Rattle.usb_plan.specs.Damage as damage
 use Rattle.usb_plan.specs.Event as plan
 use Rattle.usb_world.specs.{Damage, Event, Harm, PlanData, plan_data}
@@ -112,29 +112,52 @@ known_same : (p : PlanData) → length p.damages ≤ 10000 → plan_known p [] �
 unfolding plan_known damages_known
 known_same p le = rw (all_known 0 p.events, take_all 10000 p.damages le) refl
 
--- what holds of the second of two parts holds of both
-second_known : {A B : Type 0} (a : Result A _) (b : Result B _) (Q : Type 0) → IfOk b (λ y. Q)
-    → IfOk (both a b) (λ x. Q)
-unfolding both
-second_known (Ok a) (Ok b) Q h = h
-second_known (Ok a) (Err l) Q h = tt
-second_known (Err k) (Ok b) Q h = tt
-second_known (Err k) (Err l) Q h = tt
+-- no fault of these, so none of the last one
+skipped : (f : Option _) (others : Result (Unit {0}) _) (Q : Type 0)
+    → IfOk others (λ u. Q) → IfOk (sooner f others) (λ u. Q)
+unfolding sooner
+skipped None others Q h = h
+skipped (Some k) (Ok u) Q h = tt
+skipped (Some k) (Err l) Q h = tt
 
 room_if : (count : ℕ) (b : Bool) → nat_lt count 10000 ≡ b
-    → IfOk {T = Unit {0}} (if b then Ok tt else Err BadValue) (λ u. count < 10000)
+    → IfOk (least_fault (fault_in_part {A = Unit {0}} (if b then Ok tt else Err BadValue) ∷ []))
+    (λ u. count < 10000)
+unfolding least_fault fault_in_part sooner
 room_if count true e = ltb-true count 10000 e
 room_if count false e = tt
+
+-- what holds if there is no fault of the parts holds of a damage of these
+with_parts : (u : Result (Unit {0}) _) (attempt packet : Result ℕ _) (harm : Result Harm _)
+    (keys room : Result (Unit {0}) _) (Q : Type 0)
+    → IfOk (least_fault (fault_in_part attempt ∷ fault_in_part packet ∷ fault_in_part harm
+    ∷ fault_in_part keys ∷ fault_in_part room ∷ [])) (λ t. Q)
+    → u ≡ least_fault (fault_in_part attempt ∷ fault_in_part packet ∷ fault_in_part harm
+    ∷ fault_in_part keys ∷ fault_in_part room ∷ [])
+    → IfOk (damage_with attempt packet harm keys room) (λ d. Q)
+unfolding damage_with
+with_parts (Err e) attempt packet harm keys room Q h same = rw (← same) tt
+with_parts (Ok t) (Err e) packet harm keys room Q h same = rw (← same) tt
+with_parts (Ok t) (Ok n) (Err e) harm keys room Q h same = rw (← same) tt
+with_parts (Ok t) (Ok n) (Ok p) (Err e) keys room Q h same = rw (← same) tt
+with_parts (Ok t) (Ok n) (Ok p) (Ok x) keys room Q h same = rw (← same) (rw (← same) at h)
 
 room_left : (attempt packet : Result ℕ _) (harm : Result Harm _) (keys : Result (Unit {0}) _)
     (count : ℕ) → IfOk (damage_with attempt packet harm keys (damage.damage_room count))
     (λ d. count < 10000)
-unfolding damage.damage_room damage_with
+unfolding damage.damage_room least_fault
 room_left attempt packet harm keys count =
-    followed (λ x. count < 10000) (λ d. count < 10000) (both attempt _) _
-    (second_known attempt _ (count < 10000) (second_known packet _ (count < 10000)
-    (second_known harm _ (count < 10000) (second_known keys _ (count < 10000)
-    (room_if count (nat_lt count 10000) refl))))) (λ x lt. lt)
+    let room = if nat_lt count 10000 then Ok tt else Err BadValue in
+    let last = least_fault (fault_in_part {A = Unit {0}} room ∷ []) in
+    let third = sooner (fault_in_part keys) last in
+    let second = sooner (fault_in_part harm) third in
+    let first = sooner (fault_in_part packet) second in
+    with_parts _ attempt packet harm keys room (count < 10000)
+    (skipped (fault_in_part attempt) first (count < 10000)
+    (skipped (fault_in_part packet) second (count < 10000)
+    (skipped (fault_in_part harm) third (count < 10000)
+    (skipped (fault_in_part keys) last (count < 10000)
+    (room_if count (nat_lt count 10000) refl))))) refl
 
 -- a damage that is read has room
 has_room : (last count : ℕ) (ms : Members) → IfOk (read_damage last count ms) (λ d. count < 10000)
