@@ -1,0 +1,3 @@
+//! Records, and whole courses over a simulated bus.
+mod course;
+mod records;
