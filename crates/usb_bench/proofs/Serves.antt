@@ -30,16 +30,17 @@ serves_more rounds first j new_judge old mid new count more last next served is 
     go (inr asked) = rw is (Serves.asked so asked)
 
 pub serves_all : (rounds : Option ℕ) (first j new_judge : Judge) (old mid new : Scene)
-    (count last : ℕ) (served : Option ℕ) → served ≡ None
+    (count number last : ℕ) (served : Option ℕ) → number ≡ count + 1 → served ≡ None
     → Serves rounds first old count last j mid → ServedNext rounds last j mid served new_judge new
-    → ServedAll rounds first old new_judge new
-serves_all rounds first j new_judge old mid new count last served none so over = record {
+    → ServedAll rounds first old number new_judge new
+serves_all rounds first j new_judge old mid new count number last served is none so over = record {
   count = count;
   last = last;
   mid_judge = j;
   mid = mid;
   serves = so;
   over = subst (λ s. ServedNext rounds last j mid s new_judge new) none over;
+  next = is;
 }
 
 pub serves_up_to : (rounds : Option ℕ) (first j : Judge) (old mid new : Scene)

@@ -57,6 +57,7 @@ attempt_asked Wait = None
 abbrev pub outcome_of : Came → Outcome
 outcome_of came.Taken = outcome.Ack
 outcome_of came.Nothing = outcome.Nothing
+outcome_of came.Listing = outcome.Nak
 outcome_of came.Other = outcome.Nak
 
 -- Remarks

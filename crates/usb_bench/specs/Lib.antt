@@ -3,6 +3,7 @@ pub mod Reports
 pub mod Received
 pub mod Attempts
 pub mod Placing
+pub mod Ending
 pub mod Serving
 pub mod Summaries
 -- the words of this crate, wherever one stands
@@ -23,8 +24,13 @@ pub use Placing.{AnyPlaced, DeedPlaced, IsDeedIn, IsOtherPlan, IsUnfollowed, IsU
 pub use Placing.{JudgePlaced, Placed, PlacedIn, QuestionPlaced, UnplacedIn}
 pub use Placing.{deed_of, told_at, told_beside, told_to, try_in}
 unfoldable pub use Placing.{told_from}
-pub use Serving.{AllJudged, AloneTaken, AskedOne, EndedOne, ServedNext, ToldOne}
+pub use Ending.{EndJudged, asks, asks_as, begun_with, counted_as, end_lines, has_device}
+pub use Ending.{is_listing, is_occupied, is_unasked, is_unbegun, noted, open_at, owed_at}
+pub use Ending.{requests_listing, root_numbers, unasked_at, unasked_in, with_end}
+unfoldable pub use Ending.{end_text, end_words}
+pub use Serving.{AllJudged, AloneTaken, AskedOne, EndUnsaid, EndedOne, JudgedAll, JudgesLines}
 pub use Serving.{IsLastLine, JudgesHost, LineJudged, NoReply, OneAnswered, OneJudged}
+pub use Serving.{ServedNext, ToldOne}
 pub use Serving.{PlacedAnswered, PlacedJudged, PlacedUnreplied}
 pub use Serving.{OpenTaken, RowJudged, RowStops, ServedAll, ServedUpTo, Serves, StopsFor, TakenIn}
 pub use Serving.{last_at, last_attempt, IsUnjudged}

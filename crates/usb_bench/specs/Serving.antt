@@ -1,6 +1,6 @@
 -- The host's lines, answered and judged, and why that ends.
 use Rattle.std.specs.Prelude.{◌≡◌, ◌⊎◌, ℕ, ◌+◌, ◌-◌, ◌^◌, ◌≤◌, List, [], Option, None, Some}
-use Rattle.std.specs.Prelude.{IsSome, Result, Ok, Err, min}
+use Rattle.std.specs.Prelude.{IsSome, Result, Ok, Err, false, min}
 use Rattle.usb_watch.specs.{FailsToFlush, Flushes, OutPipe}
 use Rattle.usb_wire.specs.{Question}
 use Rattle.usb_wire.specs.declared.question.Question.TheVariants.{Wait}
@@ -17,6 +17,7 @@ use Rattle.usb_bench.specs.declared.judge.Judge.{Judge}
 use Rattle.usb_bench.specs.declared.judge.Block.{Block}
 use Rattle.usb_bench.specs.declared.judge.Block.TheVariants as block
 use Rattle.usb_bench.specs.Attempts.{Foreseen, Judged, attempt_asked}
+use Rattle.usb_bench.specs.Ending.{EndJudged, begun_with, noted}
 use Rattle.usb_bench.specs.Received.{ReportLine}
 use Rattle.usb_bench.specs.Reports.{Taken, opened}
 use Rattle.usb_bench.specs.Placing.{IsUnplaced, Placed, told_to}
@@ -32,12 +33,14 @@ pub record IsUnjudged (sought : Option PlacesData) (j : Judge) : Type 0 where
   pub block : j.block ≡ block.Outside
   pub outs : j.outs ≡ []
   pub receipts : j.receipts.items ≡ []
+  pub has_asked : j.has_asked ≡ false
+  pub owes : j.owes ≡ false
 
 -- A line that reports something
 
 -- where no listing and no news are open
 abbrev pub AloneTaken : List ℕ → Option Block → Judge → Played → Judge → Played → Type 0
-AloneTaken line (Some b) j old new_judge new = (new_judge ≡ record j { block = b }) × (new ≡ old)
+AloneTaken line (Some b) j old new_judge new = (new_judge ≡ begun_with b j) × (new ≡ old)
 AloneTaken line None j old new_judge new = ReportLine line j old new_judge new
 
 -- where one is
@@ -57,7 +60,8 @@ LineJudged line j old new_judge new = TakenIn j.block line j old new_judge new
 -- A question
 
 -- one question, of a row its first attempt: judged before and behind, replied to and flushed; the
--- statuses that were told with the reply are seen as places are
+-- statuses that were told with the reply are seen as places are, and what the end is judged by is
+-- noted
 pub record PlacedJudged (last : ℕ) (q : Question) (j : Judge) (old : Played) (before : OutPipe)
     (reply : Replied) (new_judge : Judge) (new : Played) (now : OutPipe) : Type 0 where
   pub coming : Option Coming
@@ -68,7 +72,7 @@ pub record PlacedJudged (last : ℕ) (q : Question) (j : Judge) (old : Played) (
   pub foreseen : Foreseen last q j old coming seen_judge seen
   pub replies : Replies q seen reply replied
   pub judged : Judged coming reply.came seen_judge replied told_judge new
-  pub told : new_judge ≡ told_to seen new told_judge
+  pub told : new_judge ≡ noted q reply.came new.far.world (told_to seen new told_judge)
   pub gone : Flushes before reply.lines.items now
 
 -- the same, where this is left of the row
@@ -213,14 +217,16 @@ pub record EndedOne (j : Judge) (old : Scene) (new_judge : Judge) (new : Scene) 
   pub writer : new.writer ≡ old.writer
   pub judge : new_judge ≡ j
 
-pub record ServedAll (rounds : Option ℕ) (first : Judge) (old : Scene) (judge : Judge)
-    (new : Scene) : Type 0 where
+-- all lines were read, and the one of this number is awaited
+pub record ServedAll (rounds : Option ℕ) (first : Judge) (old : Scene) (number : ℕ)
+    (judge : Judge) (new : Scene) : Type 0 where
   pub count : ℕ
   pub last : ℕ
   pub mid_judge : Judge
   pub mid : Scene
   pub serves : Serves rounds first old count last mid_judge mid
   pub over : EndedOne mid_judge mid judge new
+  pub next : number ≡ count + 1
 
 pub record ServedUpTo (rounds : Option ℕ) (first : Judge) (old : Scene) (number : ℕ)
     (f : BenchFault) (new : Scene) : Type 0 where
@@ -232,10 +238,37 @@ pub record ServedUpTo (rounds : Option ℕ) (first : Judge) (old : Scene) (numbe
   pub next : number ≡ count + 1
   pub stops : StopsFor rounds last judge mid new f ⊎ IsLastLine mid number f new
 
+abbrev pub JudgesLines : Option ℕ → Judge → Scene → Result ℕ (ℕ × BenchFault) → Judge → Scene
+    → Type 0
+JudgesLines rounds first old (Ok number) judge new = ServedAll rounds first old number judge new
+JudgesLines rounds first old (Err end) judge new = ServedUpTo rounds first old end.0 end.1 new
+
+-- all lines were read, and then their end was judged
+pub record JudgedAll (rounds : Option ℕ) (first : Judge) (old : Scene) (judge : Judge)
+    (new : Scene) : Type 0 where
+  pub number : ℕ
+  pub last_judge : Judge
+  pub last : Scene
+  pub served : ServedAll rounds first old number last_judge last
+  pub ended : EndJudged last_judge last.played judge new.played
+  pub reader : new.reader ≡ last.reader
+  pub writer : new.writer ≡ last.writer
+
+-- all lines were read, and the judge says no more of their end
+pub record EndUnsaid (rounds : Option ℕ) (first : Judge) (old : Scene) (number : ℕ)
+    (f : BenchFault) (new : Scene) : Type 0 where
+  pub last_judge : Judge
+  pub last : Scene
+  pub served : ServedAll rounds first old number last_judge last
+  pub unsaid : IsUnsaid new.played f
+  pub reader : new.reader ≡ last.reader
+  pub writer : new.writer ≡ last.writer
+
 abbrev pub JudgesHost : Option ℕ → Judge → Scene → Result (Unit {0}) (ℕ × BenchFault)
     → Judge → Scene → Type 0
-JudgesHost rounds first old (Ok done) judge new = ServedAll rounds first old judge new
-JudgesHost rounds first old (Err end) judge new = ServedUpTo rounds first old end.0 end.1 new
+JudgesHost rounds first old (Ok done) judge new = JudgedAll rounds first old judge new
+JudgesHost rounds first old (Err end) judge new =
+    ServedUpTo rounds first old end.0 end.1 new ⊎ EndUnsaid rounds first old end.0 end.1 new
 
 -- of the private functions: the next line, and the last attempt behind it
 abbrev pub ServedNext : Option ℕ → ℕ → Judge → Scene → Option ℕ → Judge → Scene → Type 0

@@ -91,6 +91,6 @@ pub(crate) fn outcome_of(came: Came) -> Outcome
     match came {
         Came::Taken => Outcome::Ack,
         Came::Nothing => Outcome::Nothing,
-        Came::Other => Outcome::Nak,
+        Came::Listing | Came::Other => Outcome::Nak,
     }
 }

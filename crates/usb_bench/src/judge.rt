@@ -35,6 +35,10 @@ pub struct Judge {
     pub(crate) receipts: Vec<Receipt>,
     /// The places that are sought in what the host does, if the plan has some.
     pub(crate) places: Option<Places>,
+    /// Whether the host asked something while a device was plugged.
+    pub(crate) has_asked: bool,
+    /// Whether a listing was requested, and none has begun since.
+    pub(crate) owes: bool,
 }
 
 impl Judge {
@@ -49,6 +53,8 @@ impl Judge {
             outs: Outs::new(alloc),
             receipts: Vec::new(alloc),
             places,
+            has_asked: false,
+            owes: false,
         }
     }
 

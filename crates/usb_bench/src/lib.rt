@@ -9,11 +9,15 @@
 //! - Each listing is judged in the world as it is then (*ListingJudged*, `specs/Reports.antt`).
 //! - A remark on an attempt, or on received data, is written exactly if it holds (*BeforeJudged*,
 //!   *AfterJudged*, `specs/Attempts.antt`).
+//! - At the end of the input a listing or news that is open, a listing that is owed, and a host that
+//!   said no hello or asked nothing are wrong, and nothing else is (*EndJudged*,
+//!   `specs/Ending.antt`).
 #![tactic(auto)]
 
 mod asked;
 mod attempt;
 mod coming;
+mod ending;
 mod fault;
 mod judge;
 mod listing;
@@ -22,6 +26,7 @@ mod received;
 mod said;
 mod serving;
 
+pub use ending::judge_end;
 pub use fault::BenchFault;
 pub use judge::Judge;
-pub use serving::judge_host;
+pub use serving::{judge_host, judge_lines};

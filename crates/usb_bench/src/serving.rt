@@ -6,9 +6,10 @@ ghost use Rattle.usb_wire.specs.Questions.{IsQuestion};
 ghost use Rattle.usb_far.specs.FarEnd.{played_of};
 ghost use Rattle.usb_far.specs.Serving.{scene};
 ghost use Rattle.usb_bench.specs.Said.{IsUnsaid};
-ghost use Rattle.usb_bench.specs.Serving.{AllJudged, JudgesHost, LineJudged, NoReply, OneAnswered, PlacedAnswered, PlacedUnreplied, RowStops, ServedNext, StopsFor, last_at, last_attempt};
+ghost use Rattle.usb_bench.specs.Serving.{AllJudged, JudgesHost, JudgesLines, LineJudged, NoReply, OneAnswered, PlacedAnswered, PlacedUnreplied, RowStops, ServedNext, StopsFor, last_at, last_attempt};
 
 use crate::coming::Coming;
+use crate::ending::judge_end;
 use crate::fault::BenchFault;
 use crate::judge::{Block, Judge};
 use crate::listing::{opened, take_line};
@@ -21,11 +22,13 @@ use usb_watch::{Watched, put_lines};
 use usb_wire::Question;
 
 /// Answers the host's lines until its input ends, or until a fault, and judges the host from what is
-/// kept of it so far. With `rounds` it may make at most that number of attempts between two of its `wait`s.
+/// kept of it so far. With `rounds` it may make at most that number of attempts between two of its
+/// `wait`s. At the end of the input what stands open or is owed is judged, as `judge_end` does.
 ///
 /// # Errors
 ///
-/// The number of the line, from 1, and its fault. After it nothing is written.
+/// The number of the line, from 1, and its fault. After it nothing is written. Of the end of the
+/// input it is the number of the line that is awaited.
 ///
 /// - `Far`: that of usb_far's `serve`. So is a trace that fails.
 /// - `NoRest`: the host has made that number of attempts since its last `wait`, and asks for one more.
@@ -43,11 +46,38 @@ pub fn judge_host<T: Trace, R: Read, W: Write>(
         (scene R.remaining W.contents far.old reader.old writer.old) result judge.new
         (scene R.remaining W.contents far.new reader.new writer.new) }
 {
+    match judge_lines(alloc, judge, far, rounds, reader, writer) {
+        Ok(number) => match judge_end(alloc, judge, far) {
+            Ok(()) => Ok(()),
+            Err(fault) => Err((number, fault)),
+        },
+        Err(end) => Err(end),
+    }
+}
+
+/// The same, as far as lines are left to read: at the end of the input nothing is judged, and more
+/// lines may come. Returns the number of the line that is awaited.
+///
+/// # Errors
+///
+/// Those of `judge_host`.
+pub fn judge_lines<T: Trace, R: Read, W: Write>(
+    alloc: Global,
+    judge: &mut Judge,
+    far: &mut FarEnd<T>,
+    rounds: Option<u64>,
+    reader: &mut Watched<R>,
+    writer: &mut Watched<W>,
+) -> Result<u64, (u64, BenchFault)>
+    ensures { JudgesLines rounds judge.old
+        (scene R.remaining W.contents far.old reader.old writer.old) result judge.new
+        (scene R.remaining W.contents far.new reader.new writer.new) }
+{
     let mut last = last_attempt(far.bus().attempts(), rounds);
     'lines: for number in 1..u64::MAX {
         match judge.serve_next(alloc, far, rounds, last, reader, writer) {
             Ok(Some(next)) => last = next,
-            Ok(None) => return Ok(()),
+            Ok(None) => return Ok(number),
             Err(fault) => return Err((number, fault)),
         }
     }
@@ -124,7 +154,7 @@ impl Judge {
         match mem::replace(&mut self.block, Block::Outside) {
             Block::Outside => match opened(alloc, line) {
                 Some(block) => {
-                    self.block = block;
+                    self.begin(block);
                     Ok(())
                 }
                 None => self.take_report(alloc, far, line),
@@ -225,6 +255,7 @@ impl Judge {
             Ok(()) => self.see_told(far, &told),
             Err(fault) => return Err(fault),
         }
+        self.note(far.bus(), question, replied.came);
         match put_lines(writer, replied.lines.as_slice()) {
             Ok(()) => Ok(replied.rest),
             Err(_) => Err(BenchFault::Far(FarFault::Write)),

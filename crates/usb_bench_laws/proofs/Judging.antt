@@ -1,5 +1,6 @@
 -- A host that is judged, line after line, comes to the worlds of placed runs.
-use Rattle.std.proofs.Common.{◌≡◌, ◌∙◌, ap, refl, sym, subst, ℕ, true, List, [], Option, Some}
+use Rattle.std.proofs.Common.{◌≡◌, ◌∙◌, ap, refl, sym, subst, ℕ, true, List, []}
+use Rattle.std.proofs.Common.{Option, None, Some}
 use Rattle.std.proofs.Common.{option_map}
 use Rattle.usb_watch.specs.{OutPipe}
 use Rattle.usb_world.specs.{Step, World, damages_fit, opening}
@@ -9,8 +10,11 @@ use Rattle.usb_far.specs.{Far, Played, Replied, Scene, done}
 use Rattle.usb_places.specs.{PlacesData, plan_in}
 use Rattle.usb_bench_laws.specs.PlacedRuns.{begins}
 use Rattle.usb_bench.specs.declared.judge.Judge.{Judge}
-use Rattle.usb_bench.specs.{AllJudged, EndedOne, JudgePlaced, OneJudged, PlacedIn, PlacedJudged}
-use Rattle.usb_bench.specs.{RowJudged, ServedAll, Serves, told_from}
+use Rattle.usb_bench.specs.declared.ending.EndFault.{EndFault}
+use Rattle.usb_bench.specs.declared.ending.EndFault.TheVariants as fault
+use Rattle.usb_bench.specs.{AllJudged, EndJudged, EndedOne, JudgePlaced, JudgedAll, OneJudged}
+use Rattle.usb_bench.specs.{PlacedIn, PlacedJudged, RowJudged, Serves, open_at, owed_at, told_from}
+use Rattle.usb_bench.specs.{unasked_in, with_end}
 use Rattle.usb_bench_laws.proofs.Keeping.{foreseen_keeps, judged_keeps, told_places, told_world}
 use Rattle.usb_bench_laws.proofs.Questions.{NoneElse, Runs, moved, question_runs, told_runs}
 
@@ -137,6 +141,34 @@ same_end places j judge mid new over it =
     subst (λ (x : Judge). IsPlacedRun places x new.played.far.world) (sym over.judge)
     (subst (λ (w : World). IsPlacedRun places j w) (sym world) it)
 
+-- what is wrong at the end is said and counted, and changes no place
+same_places : (e : Option EndFault) (j : Judge) → (with_end e j).places ≡ j.places
+same_places None j = refl
+same_places (Some fault.NoHello) j = refl
+same_places (Some fault.NothingAsked) j = refl
+same_places (Some fault.OpenListing) j = refl
+same_places (Some fault.OpenNews) j = refl
+same_places (Some fault.NoListing) j = refl
+
+judged_end : (places : PlacesData) (j judge : Judge) (mid new : Played)
+    → EndJudged j mid judge new → IsPlacedRun places j mid.far.world
+    → IsPlacedRun places judge new.far.world
+judged_end places j judge mid new over it =
+    let there : IsPlacedRun places j new.far.world =
+    subst (λ (w : World). IsPlacedRun places j w)
+    (sym (ap (λ (f : Far). f.world) over.said.same)) it in
+    let first = with_end (open_at j.block) j in
+    let second = with_end (owed_at j.owes) first in
+    record {
+      places = there.places;
+      sought = ap (λ (x : Judge). x.places) over.judge
+          ∙ same_places (unasked_in j mid.far) second ∙ same_places (owed_at j.owes) first
+          ∙ same_places (open_at j.block) j ∙ there.sought;
+      steps = there.steps;
+      placed = there.placed;
+      plays = there.plays;
+    }
+
 -- of all lines so far (judged_runs_are_placed)
 abbrev pub LinesArePlaced : Type 0
 LinesArePlaced = (rounds : Option ℕ) (first : Judge) (places : PlacesData) (old : Scene)
@@ -148,7 +180,10 @@ LinesArePlaced = (rounds : Option ℕ) (first : Judge) (places : PlacesData) (ol
 pub hosts_are_placed : LinesArePlaced → (rounds : Option ℕ) (first : Judge)
     (places : PlacesData) (old : Scene) (judge : Judge) (new : Scene)
     → first.places ≡ Some places → old.played.far.world ≡ opening (plan_in places)
-    → ServedAll rounds first old judge new → IsPlacedRun places judge new.played.far.world
+    → JudgedAll rounds first old judge new → IsPlacedRun places judge new.played.far.world
 hosts_are_placed lines rounds first places old judge new sought opens all =
-    same_end places all.mid_judge judge all.mid new all.over
-    (lines rounds first places old all.count all.last all.mid_judge all.mid sought opens all.serves)
+    let served = all.served in
+    judged_end places all.last_judge judge all.last.played new.played all.ended
+    (same_end places served.mid_judge all.last_judge served.mid all.last served.over
+    (lines rounds first places old served.count served.last served.mid_judge served.mid sought
+    opens served.serves))

@@ -20,7 +20,7 @@ use Rattle.usb_bus.specs.{lines_between, next_due, step_lines, Attempts, TakesEv
 use Rattle.usb_watch.specs.{AppendsFront, Pipe, LineFault}
 use Rattle.usb_watch.specs.declared.line.LineFault.TheVariants as line
 use Rattle.usb_wire.specs.{said_line, kind_asked, Answer}
-use Rattle.usb_wire.specs.{RootsAndRows, Ack, Nak, Stall, Nothing, Data, Done}
+use Rattle.usb_wire.specs.{RootsAndRows, Ack, Nak, Stall, Nothing, Data, Done, Show, End}
 use Rattle.usb_wire.specs.{Said, Changed, Answered, Asked, DataPacket, Endpoint, Question}
 use Rattle.usb_wire.specs.declared.question.Asked.TheVariants as asked
 use Rattle.usb_wire.specs.declared.question.Question.TheVariants.{Hello, Setup, Out, In, Port}
@@ -439,10 +439,12 @@ pub record IsReplied (q : Question) (old new : Far) (lines : List ℕ) : Type 0 
   pub far : new ≡ far_after q old
   pub is : lines ≡ status_lines (kind_asked q) (far_done q old) ++ line_of (Answered answer)
 
--- what the answer to an attempt says of it
+-- what an answer says: of an attempt, or that a listing is requested
 abbrev pub came_of : Answer → Came
 came_of Ack = came.Taken
 came_of Nothing = came.Nothing
+came_of Show = came.Listing
+came_of End = came.Listing
 came_of _ = came.Other
 
 -- the reply was made, and the deed traced; of a row this is left; and so much data were answered

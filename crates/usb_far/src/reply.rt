@@ -23,18 +23,20 @@ pub struct Replied {
     pub lines: Reply,
     /// What is left of a row: its attempt moved a packet, and was not the last one.
     pub rest: Option<Question>,
-    /// What the answer says of an attempt.
+    /// What the answer says.
     pub came: Came,
 }
 
-/// What the answer to an attempt says.
+/// What an answer says, as far as a host is judged by it.
 #[derive(Clone, Copy, Debug, PartialEq, Eq)]
 pub enum Came {
-    /// `ACK`: the data were taken (8.4.5).
+    /// `ACK` to an attempt: the data were taken (8.4.5).
     Taken,
-    /// `none`: no good answer came.
+    /// `none` to an attempt: no good answer came.
     Nothing,
-    /// Another answer, or one to another question.
+    /// `show` or `end` to a `wait`: a listing is requested.
+    Listing,
+    /// Another answer.
     Other,
 }
 
@@ -91,13 +93,14 @@ impl<T: Trace> FarEnd<T> {
     }
 }
 
-/// What an answer says of an attempt.
+/// What an answer says.
 fn came_of(answer: &Answer) -> Came
     ensures { result ≡ came_of answer.now }
 {
     match answer {
         Answer::Ack => Came::Taken,
         Answer::Nothing => Came::Nothing,
+        Answer::Show | Answer::End => Came::Listing,
         _ => Came::Other,
     }
 }

@@ -3,7 +3,7 @@ use std::alloc::{AllocError, Global};
 use std::cell::RefCell;
 use std::io;
 use std::io::{Error, ErrorKind, Read, Write};
-use usb_bench::{Judge, judge_host};
+use usb_bench::{Judge, judge_end, judge_lines};
 use usb_far::FarEnd;
 use usb_live::{LiveEnd, live};
 use usb_places::Places;
@@ -32,7 +32,7 @@ impl Link {
     fn take(&mut self, lines: &[u8]) -> io::Result<()> {
         let mut reader = Watched::new(lines);
         let mut writer = Watched::new(Vec::new(self.alloc));
-        let judged = judge_host(
+        let judged = judge_lines(
             self.alloc,
             &mut self.judge,
             &mut self.far,
@@ -120,15 +120,17 @@ pub(crate) fn course_of(
         plan.wide_hubs(),
     );
     let Link {
+        mut far,
+        mut judge,
         told,
         asked,
-        judge,
         ..
     } = link.into_inner();
+    let is_judged = judge_end(alloc, &mut judge, &mut far).is_ok();
     Ok(Course {
         ended,
         told,
         asked,
-        is_right: judge.is_right(),
+        is_right: is_judged && judge.is_right(),
     })
 }

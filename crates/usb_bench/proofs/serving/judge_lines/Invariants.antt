@@ -1,7 +1,7 @@
 use Rattle.std.proofs.Common.{◌-◌}
 use Rattle.usb_far.specs.{scene}
 use Rattle.usb_bench.specs.{Serves}
-use Rattle.usb_bench.proofs.serving.judge_host.Given as goal
+use Rattle.usb_bench.proofs.serving.judge_lines.Given as goal
 
 -- the lines so far were answered and judged
 abbrev pub invariant-lines : goal.invariant-lines

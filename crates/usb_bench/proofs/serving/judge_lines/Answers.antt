@@ -2,7 +2,7 @@ use Rattle.std.proofs.Common.{inr, refl, arith, ap, ◌∙◌}
 use Rattle.usb_far.specs.{scene}
 use Rattle.usb_bench.specs.{last_attempt}
 use Rattle.usb_bench.proofs.Serves.{serves_all, serves_more, serves_none, serves_up_to}
-use Rattle.usb_bench.proofs.serving.judge_host.Goals as goal
+use Rattle.usb_bench.proofs.serving.judge_lines.Goals as goal
 
 pub lines-init : goal.lines-init
 lines-init g c = serves_none c.args.rounds c.args.judge.now
@@ -16,8 +16,8 @@ lines-preserved g c = serves_more _ _ _ _ _ _ _ _ _ _ _ _ (omega arith) c.in-Ok-
     c.lines.invariant c.in-Ok-Some.ensures.served
 
 pub returns-in-Ok-None : goal.returns-in-Ok-None
-returns-in-Ok-None g c = serves_all _ _ _ _ _ _ _ _ _ _ c.in-Ok-None.field-0-is c.lines.invariant
-    c.in-Ok-None.ensures.served
+returns-in-Ok-None g c = serves_all _ _ _ _ _ _ _ _ _ _ _ (omega arith) c.in-Ok-None.field-0-is
+    c.lines.invariant c.in-Ok-None.ensures.served
 
 pub returns-in-Err : goal.returns-in-Err
 returns-in-Err g c = serves_up_to _ _ _ _ _ _ _ _ _ _ (omega arith) c.lines.invariant
