@@ -102,8 +102,8 @@ unasked_in j f = unasked_at f.phase j.has_asked f.world
 unfoldable pub end_words : EndFault → List ℕ
 end_words fault.NoHello = codes "no hello"
 end_words fault.NothingAsked = codes "nothing asked"
-end_words fault.OpenListing = codes "open listing"
-end_words fault.OpenNews = codes "open news"
+end_words fault.OpenListing = codes "listing without end"
+end_words fault.OpenNews = codes "news without end"
 end_words fault.NoListing = codes "no listing"
 
 -- `wrong N end: WORDS`

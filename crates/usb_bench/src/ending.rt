@@ -223,8 +223,8 @@ fn end_words(fault: EndFault) -> &'static str
     match fault {
         EndFault::NoHello => "no hello",
         EndFault::NothingAsked => "nothing asked",
-        EndFault::OpenListing => "open listing",
-        EndFault::OpenNews => "open news",
+        EndFault::OpenListing => "listing without end",
+        EndFault::OpenNews => "news without end",
         EndFault::NoListing => "no listing",
     }
 }
