@@ -1,4 +1,5 @@
 pub mod Attempts
+pub mod Ends
 pub mod Listings
 pub mod Receiving
 pub mod Rows

@@ -27,7 +27,8 @@ returns-in-Ok-put_lines-clause-judged g c = record {
     foreseen = c.in-Ok.ensures.foreseen;
     replies = c.in-Ok-reply.ensures.replied;
     judged = c.in-Ok-settle.ensures.judged;
-    told = rw c.told-told.ensures at c.see_told.ensures;
+    told = rw (c.bus.ensures.world, rw c.told-told.ensures at c.see_told.ensures)
+        at c.note.ensures;
     gone = rw c.as_slice.ensures.value at c.in-Ok-put_lines.ensures;
   };
   left = refl;
