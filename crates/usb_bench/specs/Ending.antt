@@ -80,22 +80,26 @@ open_at block.News = Some fault.OpenNews
 abbrev pub owed_at : Bool → Option EndFault
 owed_at owes = if owes then Some fault.NoListing else None
 
--- an event is to come, and none came: the host made no attempt and no `wait`
-abbrev pub is_unbegun : World → Bool
-is_unbegun w = w.attempts == 0 && w.taken == 0 && nat_lt 0 (to_come w)
+-- an event or a place is to come
+abbrev pub has_more : Judge → World → Bool
+has_more j w = is_some j.places || nat_lt 0 (to_come w)
+
+-- and nothing has come: the host made no attempt and no `wait`
+abbrev pub is_unbegun : Judge → World → Bool
+is_unbegun j w = w.attempts == 0 && w.taken == 0 && has_more j w
 
 -- nothing was asked of what is plugged, or is to come
-abbrev pub is_unasked : Bool → World → Bool
-is_unasked has_asked w = is_unbegun w || (is_occupied w && not has_asked)
+abbrev pub is_unasked : Judge → World → Bool
+is_unasked j w = is_unbegun j w || (is_occupied w && not j.has_asked)
 
 -- the host said no hello, or asked nothing
-abbrev pub unasked_at : Phase → Bool → World → Option EndFault
-unasked_at New has_asked w = Some fault.NoHello
-unasked_at Asks has_asked w = if is_unasked has_asked w then Some fault.NothingAsked else None
-unasked_at Tells has_asked w = if is_unasked has_asked w then Some fault.NothingAsked else None
+abbrev pub unasked_at : Phase → Judge → World → Option EndFault
+unasked_at New j w = Some fault.NoHello
+unasked_at Asks j w = if is_unasked j w then Some fault.NothingAsked else None
+unasked_at Tells j w = if is_unasked j w then Some fault.NothingAsked else None
 
 abbrev pub unasked_in : Judge → Far → Option EndFault
-unasked_in j f = unasked_at f.phase j.has_asked f.world
+unasked_in j f = unasked_at f.phase j f.world
 
 -- What is said of it
 

@@ -24,7 +24,7 @@ pub use Placing.{AnyPlaced, DeedPlaced, IsDeedIn, IsOtherPlan, IsUnfollowed, IsU
 pub use Placing.{JudgePlaced, Placed, PlacedIn, QuestionPlaced, UnplacedIn}
 pub use Placing.{deed_of, told_at, told_beside, told_to, try_in}
 unfoldable pub use Placing.{told_from}
-pub use Ending.{EndJudged, asks, asks_as, begun_with, counted_as, end_lines, has_device}
+pub use Ending.{EndJudged, asks, asks_as, begun_with, counted_as, end_lines, has_device, has_more}
 pub use Ending.{is_listing, is_occupied, is_unasked, is_unbegun, noted, open_at, owed_at}
 pub use Ending.{requests_listing, root_numbers, unasked_at, unasked_in, with_end}
 unfoldable pub use Ending.{end_text, end_words}

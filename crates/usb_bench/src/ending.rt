@@ -2,7 +2,7 @@
 ghost use Rattle.std.specs.Prelude.{◌≡◌, ◌++◌, decimal, IfErr, IfOk, OnOk};
 ghost use Rattle.usb_sim.specs.Sim.{world_of};
 ghost use Rattle.usb_far.specs.FarEnd.{played_of};
-ghost use Rattle.usb_bench.specs.Ending.{EndJudged, asks, begun_with, counted_as, end_lines, end_text, end_words, has_device, is_listing, is_occupied, is_unasked, is_unbegun, noted, open_at, owed_at, requests_listing, unasked_at, with_end};
+ghost use Rattle.usb_bench.specs.Ending.{EndJudged, asks, begun_with, counted_as, end_lines, end_text, end_words, has_device, has_more, is_listing, is_occupied, is_unasked, is_unbegun, noted, open_at, owed_at, requests_listing, unasked_at, with_end};
 ghost use Rattle.usb_bench.specs.Said.{IsUnsaid, Says};
 
 use crate::fault::BenchFault;
@@ -49,7 +49,7 @@ pub fn judge_end<T: Trace>(
 {
     let open = open_at(&judge.block);
     let owed = owed_at(judge.owes);
-    let unasked = unasked_at(far.phase(), judge.has_asked, far.bus());
+    let unasked = unasked_at(far.phase(), judge, far.bus());
     judge.put_end(alloc, far, open)?;
     judge.put_end(alloc, far, owed)?;
     judge.put_end(alloc, far, unasked)?;
@@ -172,13 +172,13 @@ fn owed_at(owes: bool) -> Option<EndFault>
 }
 
 /// A host that said no hello, or that asked nothing.
-fn unasked_at<T: Trace>(phase: Phase, has_asked: bool, bus: &SimBus<T>) -> Option<EndFault>
-    ensures { result ≡ unasked_at phase has_asked (world_of bus.now) }
+fn unasked_at<T: Trace>(phase: Phase, judge: &Judge, bus: &SimBus<T>) -> Option<EndFault>
+    ensures { result ≡ unasked_at phase judge.now (world_of bus.now) }
 {
     match phase {
         Phase::New => Some(EndFault::NoHello),
         Phase::Asks | Phase::Tells => {
-            if is_unasked(has_asked, bus) {
+            if is_unasked(judge, bus) {
                 Some(EndFault::NothingAsked)
             } else {
                 None
@@ -188,17 +188,24 @@ fn unasked_at<T: Trace>(phase: Phase, has_asked: bool, bus: &SimBus<T>) -> Optio
 }
 
 /// Whether nothing was asked of what is plugged, or is to come.
-fn is_unasked<T: Trace>(has_asked: bool, bus: &SimBus<T>) -> bool
-    ensures { result ≡ is_unasked has_asked (world_of bus.now) }
+fn is_unasked<T: Trace>(judge: &Judge, bus: &SimBus<T>) -> bool
+    ensures { result ≡ is_unasked judge.now (world_of bus.now) }
 {
-    is_unbegun(bus) || (is_occupied(bus) && !has_asked)
+    is_unbegun(judge, bus) || (is_occupied(bus) && !judge.has_asked)
 }
 
-/// Whether an event is to come, and none came, nor was an attempt made.
-fn is_unbegun<T: Trace>(bus: &SimBus<T>) -> bool
-    ensures { result ≡ is_unbegun (world_of bus.now) }
+/// Whether an event or a place is to come, and nothing has come.
+fn is_unbegun<T: Trace>(judge: &Judge, bus: &SimBus<T>) -> bool
+    ensures { result ≡ is_unbegun judge.now (world_of bus.now) }
 {
-    bus.attempts() == 0 && bus.events_taken() == 0 && bus.events_left() > 0
+    bus.attempts() == 0 && bus.events_taken() == 0 && has_more(judge, bus)
+}
+
+/// Whether an event or a place is to come.
+fn has_more<T: Trace>(judge: &Judge, bus: &SimBus<T>) -> bool
+    ensures { result ≡ has_more judge.now (world_of bus.now) }
+{
+    judge.places.is_some() || bus.events_left() > 0
 }
 
 /// `wrong N end: WORDS`.
