@@ -19,8 +19,8 @@ pub end_judged : (j first second third : Judge) (a b c d : Played)
     → Says b (end_lines b.far.world.attempts owed) c
     → Says c (end_lines c.far.world.attempts unasked) d → first ≡ with_end opened j
     → second ≡ with_end owed first → third ≡ with_end unasked second → EndJudged j a third d
-end_judged j first second third a b c d opened owed unasked is_opened is_owed is_unasked one two three
-    counts_one counts_two counts_three =
+end_judged j first second third a b c d opened owed unasked is_opened is_owed is_unasked one two
+    three counts_one counts_two counts_three =
     let n = a.far.world.attempts in
     record {
       said = rw (sym is_opened, sym is_owed, sym is_unasked)
