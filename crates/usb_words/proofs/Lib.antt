@@ -1,1 +1,6 @@
+mod Arguments
+mod Commands
 mod Numbers
+mod Selections
+mod Subcommands
+mod Tables

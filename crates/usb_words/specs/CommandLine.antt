@@ -4,6 +4,7 @@ use Rattle.std.specs.Prelude.{None, true, false}
 use Rattle.std.specs.Str.Parse.{IsNumeral, digits_value, without_leading_plus}
 use Rattle.clap.specs.Walk.{Row, Rule, Text, all_of, first_of, one_of}
 use Rattle.clap.specs.Simple.{App, new_app, new_rule, with_rule, with_subcommand, subcommand_of}
+use Rattle.clap.specs.declared.builder.action.ArgAction.{ArgAction}
 use Rattle.clap.specs.declared.builder.action.ArgAction.TheVariants.{Append, Set, SetTrue}
 use Rattle.clap.specs.declared.builder.value_parser.ValueParser.TheVariants as parser
 use Rattle.usb_words.specs.declared.words.DeviceWords.{DeviceWords}
@@ -16,32 +17,50 @@ use Rattle.usb_words.specs.declared.words.Words.TheVariants.{Stdin, Packet, Chec
 use Rattle.usb_words.specs.declared.words.Words.TheVariants.{Explain, Page, Pcap, Device, Far, Live}
 use Rattle.usb_words.specs.Selecting.{NamesSelection}
 
+-- an argument that a subcommand wants by its place
+abbrev pub positional_rule : List ℕ → ArgAction → Rule
+positional_rule id action = record (new_rule id) {
+  required = true;
+  action = Some action;
+  value_names = 1;
+}
+
 -- the one text that a subcommand wants
 abbrev pub text_rule : Rule
-text_rule = record (new_rule (codes "text")) { required = true; action = Some Set; value_names = 1 }
+text_rule = positional_rule (codes "text") Set
 
 abbrev pub text_app : List ℕ → App
 text_app name = with_rule (new_app name) text_rule
 
+-- a flag
+abbrev pub flag_rule : List ℕ → Rule
+flag_rule name = record (new_rule name) { long = Some name; action = Some SetTrue }
+
+-- an option that takes one value, and its values where it is left out
+abbrev pub option_rule : List ℕ → List Text → Rule
+option_rule name defaults = record (new_rule name) {
+  long = Some name;
+  action = Some Set;
+  value_names = 1;
+  defaults = defaults;
+}
+
+-- the same of a number of a range
+abbrev pub number_rule : List ℕ → ℕ → ℕ → List Text → Rule
+number_rule name least most defaults = record (option_rule name defaults) {
+  parser = Some (parser.Unsigned least most);
+}
+
 -- the flag of `draw`
 abbrev pub ascii_rule : Rule
-ascii_rule = record (new_rule (codes "ascii")) {
-  long = Some (codes "ascii");
-  action =
-      Some SetTrue;
-}
+ascii_rule = flag_rule (codes "ascii")
 
 abbrev pub draw_app : App
 draw_app = with_rule (text_app (codes "draw")) ascii_rule
 
 -- what of a run `explain` prints, which is all where it is left out
 abbrev pub only_rule : Rule
-only_rule = record (new_rule (codes "only")) {
-  long = Some (codes "only");
-  action = Some Set;
-  value_names = 1;
-  defaults = codes "all" ∷ [];
-}
+only_rule = option_rule (codes "only") (codes "all" ∷ [])
 
 abbrev pub explain_app : App
 explain_app = with_rule (text_app (codes "explain")) only_rule
@@ -49,20 +68,10 @@ explain_app = with_rule (text_app (codes "explain")) only_rule
 -- the names and files that `device` wants in turn, and the number of ports, 1 to 7, which is 7
 -- where it is left out
 abbrev pub devices_rule : Rule
-devices_rule = record (new_rule (codes "devices")) {
-  required = true;
-  action = Some Append;
-  value_names = 1;
-}
+devices_rule = positional_rule (codes "devices") Append
 
 abbrev pub ports_rule : Rule
-ports_rule = record (new_rule (codes "ports")) {
-  long = Some (codes "ports");
-  action = Some Set;
-  value_names = 1;
-  parser = Some (parser.Unsigned 1 7);
-  defaults = codes "7" ∷ [];
-}
+ports_rule = number_rule (codes "ports") 1 7 (codes "7" ∷ [])
 
 abbrev pub device_app : App
 device_app = with_rule (with_rule (new_app (codes "device")) devices_rule) ports_rule
@@ -70,51 +79,26 @@ device_app = with_rule (with_rule (new_app (codes "device")) devices_rule) ports
 -- the most questions that `live` asks, 2 ^ 63 - 1 where it is left out
 abbrev pub limit_rule : Rule
 limit_rule =
-    record (new_rule (codes "limit")) {
-      long = Some (codes "limit");
-      action = Some Set;
-      value_names = 1;
-      parser = Some (parser.Unsigned 0 9223372036854775807);
-      defaults =
-          codes "9223372036854775807" ∷ [];
-    }
+    number_rule (codes "limit") 0 9223372036854775807 (codes "9223372036854775807" ∷ [])
 
 -- whether it takes hubs of 8 to 15 ports, and status endpoints of any number
 abbrev pub wide_rule : Rule
-wide_rule = record (new_rule (codes "wide-hubs")) {
-  long = Some (codes "wide-hubs");
-  action =
-      Some SetTrue;
-}
+wide_rule = flag_rule (codes "wide-hubs")
 
 abbrev pub live_app : App
 live_app = with_rule (with_rule (new_app (codes "live")) limit_rule) wide_rule
 
 -- whether `far` judges the host
 abbrev pub judge_rule : Rule
-judge_rule = record (new_rule (codes "judge")) {
-  long = Some (codes "judge");
-  action =
-      Some SetTrue;
-}
+judge_rule = flag_rule (codes "judge")
 
 -- the most attempts of the host, as many as a plan may allow, and the most without a wait; either
 -- may be left out
 abbrev pub attempts_rule : Rule
-attempts_rule = record (new_rule (codes "limit")) {
-  long = Some (codes "limit");
-  action = Some Set;
-  value_names = 1;
-  parser = Some (parser.Unsigned 0 100000000000000);
-}
+attempts_rule = number_rule (codes "limit") 0 100000000000000 []
 
 abbrev pub rounds_rule : Rule
-rounds_rule = record (new_rule (codes "rounds")) {
-  long = Some (codes "rounds");
-  action = Some Set;
-  value_names = 1;
-  parser = Some (parser.Unsigned 1 100000000000000);
-}
+rounds_rule = number_rule (codes "rounds") 1 100000000000000 []
 
 abbrev pub far_app : App
 far_app = with_rule (with_rule (with_rule (text_app (codes "far")) judge_rule) attempts_rule)
@@ -138,16 +122,20 @@ first_app = with_text (with_text (with_text plain_app (codes "packet")) (codes "
 abbrev pub run_app : App
 run_app = with_text (with_subcommand first_app draw_app.top) (codes "run")
 
-abbrev pub program_app : App
+unfoldable pub program_app : App
 program_app =
     with_subcommand (with_subcommand (with_subcommand
     (with_text (with_text (with_subcommand run_app explain_app.top) (codes "page"))
     (codes "pcap")) device_app.top) far_app.top) live_app.top
 
+-- the subcommand that clap reads from the words, with its matches
+unfoldable pub subcommand_read : List Text → Option (Text × List Row)
+subcommand_read words = subcommand_of program_app words
+
 -- clap reads this subcommand from the words, with this text
 pub record HasSubcommand (words : List Text) (name text : List ℕ) : Type 0 where
   pub rows : List Row
-  pub subcommand : subcommand_of program_app words ≡ Some (name, rows)
+  pub subcommand : subcommand_read words ≡ Some (name, rows)
   pub value : first_of (codes "text") rows ≡ Some text
 
 -- clap reads `draw` from the words, with this text, and the flag as it is told
@@ -167,7 +155,7 @@ pub record IsExplain (rows : List Row) (asked : ExplainWords) : Type 0 where
 -- clap reads `explain` from the words, with these
 pub record ReadsExplain (words : List Text) (asked : ExplainWords) : Type 0 where
   pub rows : List Row
-  pub subcommand : subcommand_of program_app words ≡ Some (codes "explain", rows)
+  pub subcommand : subcommand_read words ≡ Some (codes "explain", rows)
   pub explain : IsExplain rows asked
 
 -- a device's name and file, as its words
@@ -198,7 +186,7 @@ pub record IsDevice (rows : List Row) (asked : DeviceWords) : Type 0 where
 -- clap reads `device` from the words, with these
 pub record ReadsDevice (words : List Text) (asked : DeviceWords) : Type 0 where
   pub rows : List Row
-  pub subcommand : subcommand_of program_app words ≡ Some (codes "device", rows)
+  pub subcommand : subcommand_read words ≡ Some (codes "device", rows)
   pub device : IsDevice rows asked
 
 -- what clap reads as a number that may be left out
@@ -220,7 +208,7 @@ pub record IsFar (rows : List Row) (asked : FarWords) : Type 0 where
 -- clap reads `far` from the words, with these
 pub record ReadsFar (words : List Text) (asked : FarWords) : Type 0 where
   pub rows : List Row
-  pub subcommand : subcommand_of program_app words ≡ Some (codes "far", rows)
+  pub subcommand : subcommand_read words ≡ Some (codes "far", rows)
   pub far : IsFar rows asked
 
 -- what clap reads from the words of `live`: a numeral, and the flag as it is told
@@ -236,12 +224,12 @@ pub record IsLive (rows : List Row) (asked : LiveWords) : Type 0 where
 -- clap reads `live` from the words, with these
 pub record ReadsLive (words : List Text) (asked : LiveWords) : Type 0 where
   pub rows : List Row
-  pub subcommand : subcommand_of program_app words ≡ Some (codes "live", rows)
+  pub subcommand : subcommand_read words ≡ Some (codes "live", rows)
   pub live : IsLive rows asked
 
 -- what the words say, by the subcommand that clap reads from them and its text
 abbrev pub ReadsWords : List Text → Words → Type 0
-ReadsWords words Stdin = subcommand_of program_app words ≡ None
+ReadsWords words Stdin = subcommand_read words ≡ None
 ReadsWords words (Packet text) = HasSubcommand words (codes "packet") text.now
 ReadsWords words (Check text) = HasSubcommand words (codes "check") text.now
 ReadsWords words (Tree text) = HasSubcommand words (codes "tree") text.now

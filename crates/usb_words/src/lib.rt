@@ -7,6 +7,7 @@
 //! tested*: the texts of help, version and word faults.
 #![tactic(auto)]
 
+mod commands;
 mod selection;
 mod words;
 

@@ -1,18 +1,37 @@
 //! The words after the program's name.
-ghost use Rattle.std.specs.Prelude.{◌≡◌, IfOk, IfSome, List, map, true, false};
-ghost use Rattle.clap.specs.Simple.{app_of, subcommand_of, subcommand_rows_of, with_subcommand};
+ghost use Rattle.std.specs.Prelude.{◌≡◌, IfOk, IfSome, List, Some, map};
+ghost use Rattle.clap.specs.Simple.{app_of, subcommand_rows_of};
 ghost use Rattle.clap.specs.Matches.{found_of};
-ghost use Rattle.clap.specs.Walk.{Text, one_of, rows_of, rule_of};
-ghost use Rattle.usb_words.specs.CommandLine.{AreNamedFiles, GivesPorts, IsDevice, IsExplain, IsFar, IsLive, GivesNumber, ReadsWords, device_app, devices_rule, draw_app, explain_app, far_app, judge_rule, attempts_rule, rounds_rule, first_app, limit_rule, live_app, only_rule, plain_app, ports_rule, program_app, run_app, text_app, text_rule, wide_rule, with_text};
+ghost use Rattle.clap.specs.Walk.{Text, one_of, rows_of};
+ghost use Rattle.usb_words.specs.CommandLine.{AreNamedFiles, GivesNumber, GivesPorts, HasSubcommand, IsDevice, IsExplain, IsFar, IsLive, ReadsWords, plain_app, program_app, subcommand_read};
 
+use crate::commands::{COMMANDS, DEVICE, EXPLAIN, Row, command_of, with_commands};
 use crate::selection::{Selection, selection_of};
-use clap::builder::ValueParser;
 use clap::error::ErrorKind;
-use clap::{Arg, ArgAction, ArgMatches, Command, Error};
+use clap::{ArgMatches, Command, Error};
 use std::alloc::{AllocError, Global};
 
 /// The program's version.
 const VERSION: &str = "0.2.0";
+
+/// What the program's help says at its end.
+const AFTER_HELP: &str =
+    "With no command it does what `packet` does, with the digits on standard input.\n\n\
+     One packet: usbplan packet 2D0010\n\
+     What is wrong with a plan: usbplan check plan.toml\n\
+     Devices at the end of a run: usbplan tree plan.toml\n\
+     The same as trees, in plain letters: usbplan draw --ascii plan.toml\n\
+     All packets of a run: usbplan run plan.toml\n\
+     The same with requests in words: usbplan run plan.toml | usbplan explain -\n\
+     The same as a page for a browser: usbplan page plan.toml > plan.html\n\
+     The same for Wireshark: usbplan run plan.toml | usbplan pcap - > plan.pcap\n\
+     A device of Linux for a plan: usbplan device mouse \
+     /sys/bus/usb/devices/1-1 >> plan.toml\n\
+     What a host asks on standard input, answered: usbplan far plan.toml\n\
+     A host before such a far end: usbplan live < answers > questions\n\n\
+     Status: 0 done, 1 refused, 2 no such command, or help or version, 3 limit reached,\n\
+     4 memory, input or output failed.\n\n\
+     Plans are described in docs/PLANS.md, what is written in docs/OUTPUT.md.";
 
 /// What the words ask for.
 #[derive(Debug, Drop)]
@@ -115,14 +134,30 @@ pub enum WordFault {
 pub fn read_words<'a>(alloc: Global, words: &'a [&'a str]) -> Result<Words<'a>, WordFault>
     ensures { IfOk result (λ asked. ReadsWords (map (λ s. s.now) words.entry.now) asked) }
 {
-    let matches = match matches_of(alloc, words) {
-        Ok(matches) => matches,
-        Err(error) if error.kind() == ErrorKind::OutOfMemory => return Err(WordFault::Memory),
-        Err(error) => return Err(WordFault::Refused(error)),
-    };
-    match words_of(alloc, &matches) {
+    match matches_of(alloc, words) {
+        Ok(matches) => asked_of(alloc, &matches),
+        Err(error) => Err(fault_of(error)),
+    }
+}
+
+/// The fault of words that `clap` does not read.
+fn fault_of(error: Error) -> WordFault {
+    if error.kind() == ErrorKind::OutOfMemory {
+        WordFault::Memory
+    } else {
+        WordFault::Refused(error)
+    }
+}
+
+/// What the words ask for that `clap` reads.
+fn asked_of<'a>(alloc: Global, matches: &ArgMatches<'a>) -> Result<Words<'a>, WordFault>
+    ensures { IfOk result (λ asked. (words : List Text)
+        → subcommand_rows_of matches.now ≡ subcommand_read words
+        → ReadsWords words asked) }
+{
+    match words_of(alloc, matches) {
         Ok(Some(asked)) => Ok(asked),
-        Ok(None) => Err(refusal(alloc, &matches)),
+        Ok(None) => Err(refusal(alloc, matches)),
         Err(_) => Err(WordFault::Memory),
     }
 }
@@ -130,36 +165,44 @@ pub fn read_words<'a>(alloc: Global, words: &'a [&'a str]) -> Result<Words<'a>, 
 /// What the program's subcommand asks for, if it is one of the program's and has its texts.
 fn words_of<'a>(alloc: Global, matches: &ArgMatches<'a>) -> Result<Option<Words<'a>>, AllocError>
     ensures { IfOk result (λ found. IfSome found (λ asked. (words : List Text)
-        → subcommand_rows_of matches.now ≡ subcommand_of program_app words
+        → subcommand_rows_of matches.now ≡ subcommand_read words
         → ReadsWords words asked)) }
 {
     match matches.subcommand() {
+        None => Ok(Some(Words::Stdin)),
         Some(("device", found)) => Ok(device_words(alloc, found)?.map(Words::Device)),
-        _ => Ok(plain_words(matches)),
+        Some((name, found)) => Ok(command_words(name, found)),
     }
 }
 
-/// What the program's subcommand asks for, if it is one of the program's but `device` and has its text.
-fn plain_words<'a>(matches: &ArgMatches<'a>) -> Option<Words<'a>>
+/// What a subcommand but `device` asks for, if it is one of the program's and has its text.
+fn command_words<'a>(name: &str, found: &ArgMatches<'a>) -> Option<Words<'a>>
     ensures { IfSome result (λ asked. (words : List Text)
-        → subcommand_rows_of matches.now ≡ subcommand_of program_app words
+        → subcommand_read words ≡ Some (name.now, rows_of (found_of found.now))
         → ReadsWords words asked) }
 {
-    match matches.subcommand() {
-        None => Some(Words::Stdin),
-        Some(("packet", found)) => Some(Words::Packet(found.get_str("text")?)),
-        Some(("check", found)) => Some(Words::Check(found.get_str("text")?)),
-        Some(("tree", found)) => Some(Words::Tree(found.get_str("text")?)),
-        Some(("draw", found)) => {
-            Some(Words::Draw(found.get_flag("ascii"), found.get_str("text")?))
-        }
-        Some(("run", found)) => Some(Words::Run(found.get_str("text")?)),
-        Some(("explain", found)) => Some(Words::Explain(explain_words(found)?)),
-        Some(("page", found)) => Some(Words::Page(found.get_str("text")?)),
-        Some(("pcap", found)) => Some(Words::Pcap(found.get_str("text")?)),
-        Some(("far", found)) => Some(Words::Far(far_words(found)?)),
-        Some(("live", found)) => Some(Words::Live(live_words(found)?)),
-        Some(_) => None,
+    match name {
+        "draw" => Some(Words::Draw(found.get_flag("ascii"), found.get_str("text")?)),
+        "explain" => Some(Words::Explain(explain_words(found)?)),
+        "far" => Some(Words::Far(far_words(found)?)),
+        "live" => Some(Words::Live(live_words(found)?)),
+        _ => text_words(name, found.get_str("text")?),
+    }
+}
+
+/// What a subcommand asks for that has one text alone.
+fn text_words<'a>(name: &str, text: &'a str) -> Option<Words<'a>>
+    ensures { IfSome result (λ asked. (words : List Text)
+        → HasSubcommand words name.now text.now → ReadsWords words asked) }
+{
+    match name {
+        "packet" => Some(Words::Packet(text)),
+        "check" => Some(Words::Check(text)),
+        "tree" => Some(Words::Tree(text)),
+        "run" => Some(Words::Run(text)),
+        "page" => Some(Words::Page(text)),
+        "pcap" => Some(Words::Pcap(text)),
+        _ => None,
     }
 }
 
@@ -287,22 +330,34 @@ fn no_selection(alloc: Global, text: &str) -> Result<Error, AllocError> {
         "invalid value '{text}' for '--only <WHAT>': \
          it is a path as path:1.2, an address as address:5, setup, damage or all"
     )?;
-    let mut explain = explain_command(alloc)?.bin_name("usbplan explain")?;
-    explain.error(ErrorKind::ValueValidation, message.as_str())
+    let kind = ErrorKind::ValueValidation;
+    error_of(alloc, &EXPLAIN, "usbplan explain", kind, message.as_str())
 }
 
 /// The error of names and files in turn, of which the last name has no file.
 fn no_file(alloc: Global, words: &[&str]) -> Result<Error, AllocError> {
     let name = words.last().copied().unwrap_or("");
     let message = format!(in alloc; "'{name}' has no file: each device has a name and a file")?;
-    let mut device = device_command(alloc)?.bin_name("usbplan device")?;
-    device.error(ErrorKind::WrongNumberOfValues, message.as_str())
+    let kind = ErrorKind::WrongNumberOfValues;
+    error_of(alloc, &DEVICE, "usbplan device", kind, message.as_str())
+}
+
+/// The error of a command, which its usage calls by a name.
+fn error_of(
+    alloc: Global,
+    row: &Row,
+    name: &str,
+    kind: ErrorKind,
+    message: &str,
+) -> Result<Error, AllocError> {
+    let command = command_of(alloc, row)?;
+    command.bin_name(name)?.error(kind, message)
 }
 
 /// What the words say by the commands of the program. Err says what is wrong with them.
 fn matches_of<'a>(alloc: Global, words: &'a [&'a str]) -> Result<ArgMatches<'a>, Error>
     ensures { IfOk result (λ m. subcommand_rows_of m
-        ≡ subcommand_of program_app (map (λ s. s.now) words.entry.now)) }
+        ≡ subcommand_read (map (λ s. s.now) words.entry.now)) }
 {
     program(alloc)?.try_get_matches_from(words)
 }
@@ -311,73 +366,8 @@ fn matches_of<'a>(alloc: Global, words: &'a [&'a str]) -> Result<ArgMatches<'a>,
 fn program<'a>(alloc: Global) -> Result<Command<'a>, AllocError>
     ensures { IfOk result (λ c. app_of c ≡ program_app) }
 {
-    let with_run = run_commands(alloc)?;
-    let explain = explain_command(alloc)?;
-    let with_explain = with_command(with_run, explain)?;
-    let with_page = with_text_command(
-        alloc,
-        with_explain,
-        "page",
-        "Runs a plan, and writes a page of HTML that shows the run",
-        plan_file(alloc),
-    )?;
-    let with_pcap = with_text_command(
-        alloc,
-        with_page,
-        "pcap",
-        "Writes the packets of a run as a pcap file, for Wireshark",
-        run_file(alloc),
-    )?;
-    let device = device_command(alloc)?;
-    let with_device = with_command(with_pcap, device)?;
-    let far = far_command(alloc)?;
-    let with_far = with_command(with_device, far)?;
-    let live = live_command(alloc)?;
-    with_command(with_far, live)
-}
-
-/// The program with its commands up to `run`.
-fn run_commands<'a>(alloc: Global) -> Result<Command<'a>, AllocError>
-    ensures { IfOk result (λ c. app_of c ≡ run_app) }
-{
-    let first = first_commands(alloc)?;
-    let draw = draw_command(alloc)?;
-    let with_draw = with_command(first, draw)?;
-    with_text_command(
-        alloc,
-        with_draw,
-        "run",
-        "Runs a plan, and prints each plug, each attempt and the devices that the host found",
-        plan_file(alloc),
-    )
-}
-
-/// The program with its first three commands.
-fn first_commands<'a>(alloc: Global) -> Result<Command<'a>, AllocError>
-    ensures { IfOk result (λ c. app_of c ≡ first_app) }
-{
     let plain = plain_program(alloc)?;
-    let with_packet = with_text_command(
-        alloc,
-        plain,
-        "packet",
-        "Prints the packet that bytes spell, and the bytes",
-        text(alloc, "HEX", "The bytes, in hexadecimal digits"),
-    )?;
-    let with_check = with_text_command(
-        alloc,
-        with_packet,
-        "check",
-        "Tells what a plan holds, or what is wrong with it and where",
-        plan_file(alloc),
-    )?;
-    with_text_command(
-        alloc,
-        with_check,
-        "tree",
-        "Runs a plan, and prints the devices that the host found",
-        plan_file(alloc),
-    )
+    with_commands(alloc, plain, COMMANDS)
 }
 
 /// The program before its commands.
@@ -385,267 +375,9 @@ fn plain_program<'a>(alloc: Global) -> Result<Command<'a>, AllocError>
     ensures { IfOk result (λ c. app_of c ≡ plain_app) }
 {
     let named = Command::new(alloc, "usbplan").bin_name("usbplan")?;
-    Ok(
-        named
-            .no_binary_name(true)
-            .version(VERSION)
-            .about("Runs a USB host on a simulated bus, as a plan says, or prints one packet")
-            .after_help(
-                "With no command it does what `packet` does, with the digits on standard input.\n\n\
-                 One packet: usbplan packet 2D0010\n\
-                 What is wrong with a plan: usbplan check plan.toml\n\
-                 Devices at the end of a run: usbplan tree plan.toml\n\
-                 The same as trees, in plain letters: usbplan draw --ascii plan.toml\n\
-                 All packets of a run: usbplan run plan.toml\n\
-                 The same with requests in words: usbplan run plan.toml | usbplan explain -\n\
-                 The same as a page for a browser: usbplan page plan.toml > plan.html\n\
-                 The same for Wireshark: usbplan run plan.toml | usbplan pcap - > plan.pcap\n\
-                 A device of Linux for a plan: usbplan device mouse \
-                 /sys/bus/usb/devices/1-1 >> plan.toml\n\
-                 What a host asks on standard input, answered: usbplan far plan.toml\n\
-                 A host before such a far end: usbplan live < answers > questions\n\n\
-                 Status: 0 done, 1 refused, 2 no such command, or help or version, 3 limit reached,\n\
-                 4 memory, input or output failed.\n\n\
-                 Plans are described in docs/PLANS.md, what is written in docs/OUTPUT.md.",
-            ),
-    )
-}
-
-/// The program with one more command.
-fn with_command<'a>(program: Command<'a>, command: Command<'a>) -> Result<Command<'a>, AllocError>
-    requires { (app_of command).top.is_plain ≡ true }
-    ensures { IfOk result (λ c. app_of c
-        ≡ with_subcommand (app_of program.entry) (app_of command.entry).top) }
-{
-    let whole = program.subcommand(command)?;
-    Ok(whole)
-}
-
-/// The program with one more command, that wants one text.
-fn with_text_command<'a>(
-    alloc: Global,
-    program: Command<'a>,
-    name: &'a str,
-    purpose: &'a str,
-    text: Arg<'a>,
-) -> Result<Command<'a>, AllocError>
-    requires local { text.global ≡ false }
-    requires rule { rule_of text ≡ text_rule }
-    ensures { IfOk result (λ c. app_of c ≡ with_text (app_of program.entry) name.entry.now) }
-{
-    let command = command(alloc, name, purpose, text)?;
-    with_command(program, command)
-}
-
-/// A command that wants one text.
-fn command<'a>(
-    alloc: Global,
-    name: &'a str,
-    purpose: &'a str,
-    text: Arg<'a>,
-) -> Result<Command<'a>, AllocError>
-    requires local { text.global ≡ false }
-    requires rule { rule_of text ≡ text_rule }
-    ensures { IfOk result (λ c. app_of c ≡ text_app name.entry.now) }
-{
-    Command::new(alloc, name).about(purpose).arg(text)
-}
-
-/// The command that draws, with its flag.
-fn draw_command<'a>(alloc: Global) -> Result<Command<'a>, AllocError>
-    ensures { IfOk result (λ c. app_of c ≡ draw_app) }
-{
-    let plain = command(
-        alloc,
-        "draw",
-        "Runs a plan, and draws the devices that the host found as trees",
-        plan_file(alloc),
-    )?;
-    let ascii = Arg::new(alloc, "ascii")
-        .long("ascii")
-        .action(ArgAction::SetTrue)
-        .help("Draws in plain letters, of ASCII alone, in place of lines");
-    plain.arg(ascii)
-}
-
-/// The command that puts the requests of a run into words.
-fn explain_command<'a>(alloc: Global) -> Result<Command<'a>, AllocError>
-    ensures { IfOk result (λ c. app_of c ≡ explain_app) }
-{
-    let plain = command(
-        alloc,
-        "explain",
-        "Prints a run with its requests in words",
-        run_file(alloc),
-    )?;
-    plain.arg(only(alloc))
-}
-
-/// What of a run `explain` prints.
-fn only<'a>(alloc: Global) -> Arg<'a>
-    ensures local { result.global ≡ false }
-    ensures rule { rule_of result ≡ only_rule }
-{
-    Arg::new(alloc, "only")
-        .long("only")
-        .action(ArgAction::Set)
-        .value_name("WHAT")
-        .default_value("all")
-        .help("Prints only the attempts to path:1.2 or to address:5, those of setup or of damage")
-}
-
-/// The command that makes the entries of devices.
-fn device_command<'a>(alloc: Global) -> Result<Command<'a>, AllocError>
-    ensures { IfOk result (λ c. app_of c ≡ device_app) }
-{
-    let plain = Command::new(alloc, "device").about(
-        "Writes the `[[device]]` tables of a plan, from devices' descriptors in Linux",
-    );
-    let named = plain.arg(devices(alloc))?;
-    named.arg(ports(alloc))
-}
-
-/// The names and files of the devices whose entries `device` makes, in turn.
-fn devices<'a>(alloc: Global) -> Arg<'a>
-    ensures local { result.global ≡ false }
-    ensures rule { rule_of result ≡ devices_rule }
-{
-    Arg::new(alloc, "devices")
-        .required(true)
-        .action(ArgAction::Append)
-        .value_name("NAME FILE")
-        .help(
-            "The name that the plan gives a device, and its folder in sysfs, or its file `descriptors`; \
-             `-` is standard input",
-        )
-}
-
-/// How many ports each hub has whose entry `device` makes.
-fn ports<'a>(alloc: Global) -> Arg<'a>
-    ensures local { result.global ≡ false }
-    ensures rule { rule_of result ≡ ports_rule }
-{
-    Arg::new(alloc, "ports")
-        .long("ports")
-        .action(ArgAction::Set)
-        .value_name("N")
-        .value_parser(ValueParser::unsigned(1, 7))
-        .default_value("7")
-        .help("How many ports each has that is a hub: 1 to 7")
-}
-
-/// The command that plays a plan to a host.
-fn far_command<'a>(alloc: Global) -> Result<Command<'a>, AllocError>
-    ensures { IfOk result (λ c. app_of c ≡ far_app) }
-{
-    let plain = command(
-        alloc,
-        "far",
-        "Answers a host, line by line, as the devices of a plan would",
-        text(alloc, "FILE", "The plan's file"),
-    )?;
-    let judged = plain.arg(judge(alloc))?;
-    let limited = judged.arg(attempts(alloc))?;
-    limited.arg(rounds(alloc))
-}
-
-/// Whether `far` judges the host.
-fn judge<'a>(alloc: Global) -> Arg<'a>
-    ensures local { result.global ≡ false }
-    ensures rule { rule_of result ≡ judge_rule }
-{
-    Arg::new(alloc, "judge")
-        .long("judge")
-        .action(ArgAction::SetTrue)
-        .help("Judges each listing of the host, and what it does on the bus")
-}
-
-/// The most attempts of a host that `far` answers.
-fn attempts<'a>(alloc: Global) -> Arg<'a>
-    ensures local { result.global ≡ false }
-    ensures rule { rule_of result ≡ attempts_rule }
-{
-    Arg::new(alloc, "limit")
-        .long("limit")
-        .action(ArgAction::Set)
-        .value_name("N")
-        .value_parser(ValueParser::unsigned(0, 100000000000000))
-        .help("How many attempts the host may make at most, in place of the plan's limit")
-}
-
-/// The most attempts of a host without a `wait`.
-fn rounds<'a>(alloc: Global) -> Arg<'a>
-    ensures local { result.global ≡ false }
-    ensures rule { rule_of result ≡ rounds_rule }
-{
-    Arg::new(alloc, "rounds")
-        .long("rounds")
-        .action(ArgAction::Set)
-        .value_name("N")
-        .value_parser(ValueParser::unsigned(1, 100000000000000))
-        .help("How many attempts the host may make without a wait")
-}
-
-/// The command that is a host before a far end.
-fn live_command<'a>(alloc: Global) -> Result<Command<'a>, AllocError>
-    ensures { IfOk result (λ c. app_of c ≡ live_app) }
-{
-    let plain = Command::new(alloc, "live").about(
-        "Asks a far end on standard input and output, line by line, and tells it what the host found",
-    );
-    let limited = plain.arg(limit(alloc))?;
-    limited.arg(wide_hubs(alloc))
-}
-
-/// The most questions that `live` asks.
-fn limit<'a>(alloc: Global) -> Arg<'a>
-    ensures local { result.global ≡ false }
-    ensures rule { rule_of result ≡ limit_rule }
-{
-    Arg::new(alloc, "limit")
-        .long("limit")
-        .action(ArgAction::Set)
-        .value_name("N")
-        .value_parser(ValueParser::unsigned(0, 9223372036854775807))
-        .default_value("9223372036854775807")
-        .help("How many questions it asks at most")
-}
-
-/// Whether the host that `live` is takes wide hubs.
-fn wide_hubs<'a>(alloc: Global) -> Arg<'a>
-    ensures local { result.global ≡ false }
-    ensures rule { rule_of result ≡ wide_rule }
-{
-    Arg::new(alloc, "wide-hubs")
-        .long("wide-hubs")
-        .action(ArgAction::SetTrue)
-        .help("Takes hubs of up to 15 ports, and status endpoints of any number")
-}
-
-/// The file of a command that reads a plan.
-fn plan_file<'a>(alloc: Global) -> Arg<'a>
-    ensures local { result.global ≡ false }
-    ensures rule { rule_of result ≡ text_rule }
-{
-    text(alloc, "FILE", "The plan's file; `-` is standard input")
-}
-
-/// The file of a command that reads what `run` wrote.
-fn run_file<'a>(alloc: Global) -> Arg<'a>
-    ensures local { result.global ≡ false }
-    ensures rule { rule_of result ≡ text_rule }
-{
-    text(alloc, "FILE", "What `run` wrote; `-` is standard input")
-}
-
-/// The one text that a command wants, and what help says of it.
-fn text<'a>(alloc: Global, value: &'a str, purpose: &'a str) -> Arg<'a>
-    ensures local { result.global ≡ false }
-    ensures rule { rule_of result ≡ text_rule }
-{
-    Arg::new(alloc, "text")
-        .required(true)
-        .action(ArgAction::Set)
-        .value_name(value)
-        .help(purpose)
+    Ok(named
+        .no_binary_name(true)
+        .version(VERSION)
+        .about("Runs a USB host on a simulated bus, as a plan says, or prints one packet")
+        .after_help(AFTER_HELP))
 }

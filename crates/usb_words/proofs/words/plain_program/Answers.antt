@@ -1,16 +1,11 @@
-use Rattle.std.proofs.Common.{◌∙◌, ap, true}
-use Rattle.clap.specs.Simple.{App, app_of_fields}
+use Rattle.usb_words.proofs.Commands as command
 use Rattle.usb_words.proofs.words.plain_program.Goals as goal
-
-abbrev unnamed : App → App
-unnamed a = record a { top = record a.top { no_binary_name = true } }
-
-abbrev versioned : App → App
-versioned a = record a { top = record a.top { has_version = true } }
 
 pub returns : goal.returns
 returns c =
-    let named = ap app_of_fields c.in_ok-named.ensures.0 ∙ c.new.ensures.app in
-    let plain = ap app_of_fields c.no_binary_name.ensures ∙ ap unnamed named in
-    ap app_of_fields c.after_help.ensures ∙ ap app_of_fields c.about.ensures
-    ∙ ap app_of_fields c.version.ensures ∙ ap versioned plain
+    command.after_help c.about.result c.after_help.result _ c.after_help.ensures
+    (command.about c.version.result c.about.result _ c.about.ensures
+    (command.version c.no_binary_name.result c.version.result _ c.version.ensures
+    (command.no_binary_name c.in_ok-named.named c.no_binary_name.result c.no_binary_name.ensures
+    (command.bin_name c.new.result c.in_ok-named.named c.in_ok-named.ensures.0
+    c.new.ensures.app))))
