@@ -1,5 +1,5 @@
 -- What a command reads, setting by setting.
-use Rattle.std.proofs.Common.{◌≡◌, ◌∙◌, ap, ap₂, false, true, List, ℕ, Some, Result, Ok, Err, IfOk}
+use Rattle.std.proofs.Common.{◌≡◌, ◌∙◌, ap, ap₂, false, true, List, ℕ, Some}
 use Rattle.std.specs.Borrow.{Bor}
 use Rattle.clap.specs.Built.{AddsArg}
 use Rattle.clap.specs.Simple.{App, app_of, app_of_fields, with_rule}
@@ -39,10 +39,3 @@ version old new text set is = ap app_of_fields set
 pub added : {old new : Command} {a : Arg} {app : App} {rule : Rule} → AddsArg old a new
     → a.global ≡ false → app_of old ≡ app → rule_of a ≡ rule → app_of new ≡ with_rule app rule
 added adds local is reads = adds.shape local ∙ ap₂ with_rule is reads
-
--- the same of a result
-pub added_ok : {E : Type 0} (r : Result Command E) (old : Command) (a : Arg) {app : App}
-    {rule : Rule} → IfOk r (AddsArg old a) → a.global ≡ false → app_of old ≡ app
-    → rule_of a ≡ rule → IfOk r (λ new. app_of new ≡ with_rule app rule)
-added_ok (Ok new) old a adds local is reads = added adds local is reads
-added_ok (Err e) old a adds local is reads = tt

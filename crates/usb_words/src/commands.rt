@@ -220,8 +220,13 @@ pub(crate) fn with_commands<'a>(
 pub(crate) fn command_of<'a>(alloc: Global, row: &Row) -> Result<Command<'a>, AllocError>
     ensures { IfOk result (λ c. app_of c ≡ row_app row.now) }
 {
-    let mut command = Command::new(alloc, row.name).about(row.purpose);
-    'arguments: for argument in row.arguments {
+    let Row {
+        name,
+        purpose,
+        arguments,
+    } = *row;
+    let mut command = Command::new(alloc, name).about(purpose);
+    'arguments: for argument in arguments {
         command = command.arg(argument_of(alloc, argument))?;
     }
     Ok(command)

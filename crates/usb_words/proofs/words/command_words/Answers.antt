@@ -3,7 +3,7 @@ use Rattle.std.proofs.lemmas.Option.{IfSome_then}
 use Rattle.clap.specs.Matches.{found_of, one_text}
 use Rattle.clap.specs.Walk.{Row, Text, one_of, rows_of}
 use Rattle.clap.proofs.WalkLemmas.{first_value-rows, one_text-rows}
-use Rattle.usb_words.specs.{HasSubcommand, ReadsWords, subcommand_read}
+use Rattle.usb_words.specs.{subcommand_read}
 use Rattle.usb_words.proofs.words.command_words.Goals as goal
 
 -- what is read by a name is read by the words that it is
@@ -60,13 +60,7 @@ returns-in_ok-live_words-in-live c = λ words read.
 pub returns-in_ok-get_str-in_default : goal.returns-in_ok-get_str-in_default
 returns-in_ok-get_str-in_default c =
     let found = found_of c.args.found.now in
-    let name = c.args.name.now in
-    let text = c.in_ok-get_str-in_default.field-0.now in
-    IfSome_then c.text_words.result
-    {P = λ asked. (words : List Text) → HasSubcommand words name text → ReadsWords words asked}
-    {Q = λ asked. (words : List Text) → subcommand_read words ≡ Some (name, rows_of found)
-        → ReadsWords words asked}
-    c.text_words.ensures
+    IfSome_then c.text_words.result c.text_words.ensures
     (λ asked reads words read. reads words (record {
       rows = rows_of found;
       subcommand = read;

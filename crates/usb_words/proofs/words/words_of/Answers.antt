@@ -1,9 +1,7 @@
-use Rattle.std.proofs.Common.{◌≡◌, ◌∙◌, sym, List, Some}
+use Rattle.std.proofs.Common.{◌∙◌, sym}
 use Rattle.std.proofs.lemmas.Option.{IfSome_then}
 use Rattle.clap.specs.Matches.{found_of}
-use Rattle.clap.specs.Simple.{subcommand_rows_of}
-use Rattle.clap.specs.Walk.{Text, rows_of}
-use Rattle.usb_words.specs.{ReadsWords, subcommand_read}
+use Rattle.clap.specs.Walk.{rows_of}
 use Rattle.usb_words.proofs.Subcommands.{none_of, pair_of}
 use Rattle.usb_words.proofs.words.words_of.Goals as goal
 
@@ -14,11 +12,6 @@ pub returns-in-Some : goal.returns-in-Some
 returns-in-Some c =
     let m = c.args.matches.now in
     let arm = c.in-Some in
-    IfSome_then c.command_words.result
-    {P = λ asked. (words : List Text) → subcommand_read words
-        ≡ Some (arm.name.now, rows_of (found_of arm.found.now)) → ReadsWords words asked}
-    {Q = λ asked. (words : List Text) → subcommand_rows_of m ≡ subcommand_read words
-        → ReadsWords words asked}
-    c.command_words.ensures
+    IfSome_then c.command_words.result c.command_words.ensures
     (λ asked reads words read. reads words (sym read ∙ pair_of m arm.name.now
     (rows_of (found_of arm.found.now)) arm.ensures.name arm.ensures.rows))
