@@ -9,7 +9,7 @@ use crate::key::{DEVICE, ENDPOINT_KEYS, ENDPOINTS, NAME, PATH, PlanKey, REQUESTS
 use crate::marks::{Anchor, Layout};
 use crate::nearest::nearest;
 use crate::path_slip::{path_slip, push_path_slip};
-use crate::shown::{letters_of, push_number, push_shown};
+use crate::shown::{letters_of, push_all, push_between, push_number, push_shown};
 use crate::slip::{digit_slip, push_slip};
 use crate::span::{Span, key_span, slip_span, value_span};
 use crate::trouble::{Trouble, is_known};
@@ -134,6 +134,30 @@ pub(crate) fn span_of(
     }
 }
 
+/// Adds the name of an entry, if it has one.
+fn push_name(alloc: Global, out: &mut String, entry: &Entry<'_>) -> Result<(), AllocError> {
+    match entry.text(NAME) {
+        None => Ok(()),
+        Some(name) => push_between(alloc, out, " \"", name, "\""),
+    }
+}
+
+/// Adds the line on which an entry begins, if it has a head.
+fn push_line(
+    alloc: Global,
+    out: &mut String,
+    layout: &Layout<'_>,
+    place: Place,
+) -> Result<(), AllocError> {
+    match head_at(layout, place) {
+        None => Ok(()),
+        Some(anchor) => {
+            out.push_str(", line ")?;
+            push_number(alloc, out, layout.line(anchor.key) as u64)
+        }
+    }
+}
+
 /// Adds two blanks, the words for an entry, its name and its line:
 /// `  device 2 "keyboard", line 9: `.
 fn push_head(
@@ -143,25 +167,15 @@ fn push_head(
     entry: &Entry<'_>,
 ) -> Result<(), AllocError> {
     let words = entry.place().to_string(alloc)?;
-    out.push_str("  ")?;
-    out.push_str(words.as_str())?;
-    if let Some(name) = entry.text(NAME) {
-        out.push_str(" \"")?;
-        push_shown(alloc, out, name)?;
-        out.push_str("\"")?;
-    }
-    if let Some(anchor) = head_at(layout, entry.place()) {
-        out.push_str(", line ")?;
-        push_number(alloc, out, layout.line(anchor.key) as u64)?;
-    }
+    push_all(out, &["  ", words.as_str()])?;
+    push_name(alloc, out, entry)?;
+    push_line(alloc, out, layout, entry.place())?;
     out.push_str(": ")
 }
 
 /// Adds a name between backquotes.
 fn push_key(alloc: Global, out: &mut String, name: &str) -> Result<(), AllocError> {
-    out.push_str("`")?;
-    push_shown(alloc, out, name)?;
-    out.push_str("`")
+    push_between(alloc, out, "`", name, "`")
 }
 
 /// Adds the names of keys, with commas between them.
@@ -175,26 +189,26 @@ fn push_keys(alloc: Global, out: &mut String, keys: &[PlanKey]) -> Result<(), Al
     Ok(())
 }
 
+/// Adds a key with its value.
+fn push_wrong(
+    alloc: Global,
+    out: &mut String,
+    name: &str,
+    value: &Value,
+) -> Result<(), AllocError> {
+    let text = value.to_string(alloc)?;
+    push_between(alloc, out, "`", name, "` is ")?;
+    push_between(alloc, out, "", text.as_str(), "\n")
+}
+
 /// Adds what the trouble is, behind the head.
 fn push_trouble(alloc: Global, out: &mut String, trouble: Trouble<'_>) -> Result<(), AllocError> {
     match trouble {
-        Trouble::Missing(key) => {
-            out.push_str("no key ")?;
-            push_key(alloc, out, key.name)?;
-        }
-        Trouble::Unknown(name) => {
-            out.push_str("unknown key ")?;
-            push_key(alloc, out, name)?;
-        }
-        Trouble::Wrong(key, value) => {
-            let text = value.to_string(alloc)?;
-            push_key(alloc, out, key.name)?;
-            out.push_str(" is ")?;
-            push_shown(alloc, out, text.as_str())?;
-        }
-        Trouble::OneTooMany => out.push_str("one too many")?,
+        Trouble::Missing(key) => push_between(alloc, out, "no key `", key.name, "`\n"),
+        Trouble::Unknown(name) => push_between(alloc, out, "unknown key `", name, "`\n"),
+        Trouble::Wrong(key, value) => push_wrong(alloc, out, key.name, value),
+        Trouble::OneTooMany => out.push_str("one too many\n"),
     }
-    out.push_str("\n")
 }
 
 /// Adds a line on the first slip of a text that is to be digits, after words on its place.
@@ -208,8 +222,7 @@ fn push_digit_line(
     let Some(slip) = digit_slip(letters.as_slice()) else {
         return Ok(());
     };
-    out.push_str("  ")?;
-    out.push_str(place)?;
+    push_all(out, &["  ", place])?;
     push_slip(alloc, out, slip)?;
     out.push_str("\n")
 }
@@ -418,11 +431,9 @@ fn push_meant(
     let Some(name) = names.get(i) else {
         return Ok(());
     };
-    out.push_str("  did you mean ")?;
-    out.push_str(quote)?;
+    push_all(out, &["  did you mean ", quote])?;
     push_shown(alloc, out, *name)?;
-    out.push_str(quote)?;
-    out.push_str("?\n")
+    push_all(out, &[quote, "?\n"])
 }
 
 /// Adds what was meant by a value that is no word, or names no device.
@@ -471,11 +482,8 @@ fn push_misspelled(
     key: &str,
     name: &str,
 ) -> Result<(), AllocError> {
-    out.push_str("  unknown key ")?;
-    push_key(alloc, out, name)?;
-    out.push_str(": did you mean ")?;
-    push_key(alloc, out, key)?;
-    out.push_str("?\n")
+    push_between(alloc, out, "  unknown key `", name, "`: did you mean `")?;
+    push_between(alloc, out, "", key, "`?\n")
 }
 
 /// Adds all that is told behind the head.

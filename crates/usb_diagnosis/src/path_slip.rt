@@ -7,7 +7,7 @@ ghost use Rattle.usb_diagnosis.specs.PathSlip.{IsAt, IsPathSlip, path_in};
 ghost use Rattle.usb_plan.specs.Path.{has_numbers_of};
 
 use crate::entry::{Entry, text_at};
-use crate::shown::{push_number, push_shown};
+use crate::shown::{push_all, push_between, push_number};
 use std::alloc::{AllocError, Global};
 use toml::{Table, Value};
 use usb_plan::most_ports;
@@ -200,9 +200,7 @@ fn push_no_path(alloc: Global, out: &mut String, wide: bool, text: &str) -> Resu
     let Some(path) = meant_path(alloc, wide, text)? else {
         return Ok(());
     };
-    out.push_str(": did you mean \"")?;
-    push_path(out, &path)?;
-    out.push_str("\"?")
+    push_all(out, &[": did you mean \"", path.text().as_str(), "\"?"])
 }
 
 /// Adds what is plugged at a path.
@@ -212,11 +210,8 @@ fn push_plugged(
     path: &PortPath,
     name: &str,
 ) -> Result<(), AllocError> {
-    out.push_str("\"")?;
-    push_shown(alloc, out, name)?;
-    out.push_str("\", which is plugged at ")?;
-    push_path(out, path)?;
-    out.push_str(", ")
+    push_between(alloc, out, "\"", name, "\", which is plugged at ")?;
+    push_all(out, &[path.text().as_str(), ", "])
 }
 
 /// Adds the number of root ports.

@@ -10,6 +10,14 @@ use usb_watch::ends_line;
 /// How many characters of a text are shown.
 const MOST_SHOWN: usize = 60;
 
+/// Adds pieces, one after the other.
+pub(crate) fn push_all(out: &mut String, pieces: &[&str]) -> Result<(), AllocError> {
+    for piece in pieces {
+        out.push_str(*piece)?;
+    }
+    Ok(())
+}
+
 /// Adds a number in decimal digits.
 pub(crate) fn push_number(alloc: Global, out: &mut String, number: u64) -> Result<(), AllocError>
     ensures { OnOk result (string_bytes out.new ≡ string_bytes out.old ++ decimal number) }
@@ -88,4 +96,17 @@ pub(crate) fn push_shown(alloc: Global, out: &mut String, text: &str) -> Result<
 {
     let letters = letters_of(alloc, text)?;
     push_front(alloc, out, letters.as_slice())
+}
+
+/// Adds the first 60 characters of a text, and three dots where there are more, between words.
+pub(crate) fn push_between(
+    alloc: Global,
+    out: &mut String,
+    before: &str,
+    text: &str,
+    after: &str,
+) -> Result<(), AllocError> {
+    out.push_str(before)?;
+    push_shown(alloc, out, text)?;
+    out.push_str(after)
 }

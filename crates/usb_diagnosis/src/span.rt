@@ -2,7 +2,7 @@
 
 use crate::marks::{Anchor, Layout};
 use crate::place::Spot;
-use crate::shown::{letters_of, push_number};
+use crate::shown::{letters_of, push_all};
 use std::alloc::{AllocError, Global};
 use usb_watch::ends_line;
 
@@ -216,6 +216,20 @@ fn push_window(out: &mut String, letters: &[char], from: usize) -> Result<(), Al
     out.push_str("\n")
 }
 
+/// Adds a line of marks: this many, after blanks for a number and for the characters before them.
+fn push_marks(
+    out: &mut String,
+    digits: usize,
+    before: usize,
+    width: usize,
+) -> Result<(), AllocError> {
+    push_times(out, " ", digits)?;
+    out.push_str(" | ")?;
+    push_times(out, " ", before)?;
+    push_times(out, "^", width)?;
+    out.push_str("\n")
+}
+
 /// Adds a line of a text, after its number, and marks below the characters from a column on.
 pub(crate) fn push_excerpt(
     alloc: Global,
@@ -234,14 +248,10 @@ pub(crate) fn push_excerpt(
     let before = column.saturating_sub(1);
     let from = first_shown(letters.len(), before);
     let number = line.to_string(alloc)?;
-    out.push_str(number.as_str())?;
-    out.push_str(" | ")?;
+    push_all(out, &[number.as_str(), " | "])?;
     push_window(out, letters.as_slice(), from)?;
-    push_times(out, " ", number.len())?;
-    out.push_str(" | ")?;
-    push_times(out, " ", before.saturating_sub(from))?;
-    push_times(out, " ", if from > 0 { 3 } else { 0 })?;
-    let most = MOST_COLUMNS.saturating_sub(before.saturating_sub(from));
-    push_times(out, "^", width.min(most).max(1))?;
-    out.push_str("\n")
+    let skipped = before.saturating_sub(from);
+    let dots = if from > 0 { 3 } else { 0 };
+    let marks = width.min(MOST_COLUMNS.saturating_sub(skipped)).max(1);
+    push_marks(out, number.len(), skipped.saturating_add(dots), marks)
 }

@@ -10,7 +10,7 @@ use std::alloc::AllocError;
 
 /// What is wrong with an entry, in the order in which faults are reported. If memory was refused,
 /// nothing else is.
-#[derive(Clone, Copy, PartialEq, Eq, PartialOrd, Ord)]
+#[derive(Clone, Copy)]
 pub(crate) enum EntryFault {
     Memory,
     OnlyFar,
@@ -24,7 +24,26 @@ pub(crate) enum EntryFault {
 }
 
 impl EntryFault {
-    ghost use Rattle.usb_plan.specs.EntryFault.{at};
+    ghost use Rattle.usb_plan.specs.EntryFault.{at, least, rank};
+
+    /// Its number in the order of faults.
+    fn rank(self) -> u8
+        ensures { result ≡ rank self }
+    {
+        self as u8
+    }
+
+    /// This fault, or another one that is before it in that order.
+    #[tactic(auto, unfolding(crate::specs::EntryFault::least))]
+    fn or_sooner(self, other: EntryFault) -> EntryFault
+        ensures { result ≡ least self other }
+    {
+        if self.rank() <= other.rank() {
+            self
+        } else {
+            other
+        }
+    }
 
     /// The same fault with its place.
     #[tactic(auto, unfolding(crate::specs::EntryFault::at))]
@@ -67,7 +86,7 @@ impl From<FromHexError> for EntryFault {
 }
 
 /// Both values, or the fault of the two that is first in order.
-#[tactic(auto, unfolding(crate::specs::EntryFault::both, crate::specs::EntryFault::least))]
+#[tactic(auto, unfolding(crate::specs::EntryFault::both))]
 pub(crate) fn both<A: Drop, B: Drop>(
     one: Result<A, EntryFault>,
     two: Result<B, EntryFault>,
@@ -78,7 +97,7 @@ pub(crate) fn both<A: Drop, B: Drop>(
         (Ok(one), Ok(two)) => Ok((one, two)),
         (Ok(_), Err(fault)) => Err(fault),
         (Err(fault), Ok(_)) => Err(fault),
-        (Err(fault), Err(other)) => Err(fault.min(other)),
+        (Err(fault), Err(other)) => Err(fault.or_sooner(other)),
     }
 }
 

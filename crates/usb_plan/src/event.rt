@@ -1,6 +1,7 @@
 //! The `event` entries of the document.
 
 ghost use Rattle.std.specs.Prelude.{◌≡◌, ◌≤◌, IfOk, option_map, map, Ok, [], true, length};
+ghost use Rattle.std.specs.Result.{result_map_both};
 ghost use Rattle.usb_plan.specs.declared.fault.PlanFault.TheVariants.{Memory as NoMemory};
 ghost use Rattle.toml.specs.View.{view, table_view};
 ghost use Rattle.usb_world.specs.Plans.{events_fit};
@@ -94,6 +95,31 @@ fn event_in(
     event_given(alloc, verb, scene, count, &members)
 }
 
+/// Adds the events that the values describe, or returns the first fault. Nothing is plugged before them.
+fn push_events(
+    alloc: Global,
+    scene: &mut Scene<'_>,
+    done: &mut Events,
+    values: &[Value],
+) -> Result<(), PlanFault>
+    requires new { done.now ≡ [] }
+    requires bare { scene.now.plugged ≡ [] }
+    ensures value { EqualUnless NoMemory (result_map_both (λ u. done.new) (λ k. k) result)
+        (events_from scene.old.roots scene.old.wide scene.old.devices scene.old.ports 1 []
+        (map view values.now)) }
+    ensures fit { IfOk result (λ u.
+        events_fit scene.old.roots scene.old.devices [] done.new ≡ true) }
+{
+    for (i, value) in values.iter().enumerate() {
+        let count = done.as_slice().len();
+        let read = event_in(alloc, scene, count, value.as_table());
+        let event = entry_at(Place::Event(i + 1), read)?;
+        scene.apply(&event.action)?;
+        done.push(event)?;
+    }
+    Ok(())
+}
+
 /// The events that the values describe, or the first fault. The tables are those of the devices.
 pub(crate) fn events_of(
     alloc: Global,
@@ -110,12 +136,6 @@ pub(crate) fn events_of(
     let mut done = Events::new(alloc);
     let ports = all_said(alloc, tables)?;
     let mut scene = Scene::new(alloc, roots, wide, devices, ports);
-    for (i, value) in values.iter().enumerate() {
-        let count = done.as_slice().len();
-        let read = event_in(alloc, &scene, count, value.as_table());
-        let event = entry_at(Place::Event(i + 1), read)?;
-        scene.apply(&event.action)?;
-        done.push(event)?;
-    }
+    push_events(alloc, &mut scene, &mut done, values)?;
     Ok(done)
 }
