@@ -84,7 +84,7 @@ read_line() {
     escaped=${rest//\\/\\\\}'\n'
   elif [ -z "$rest" ]; then
     escaped='\n'
-  elif [[ "$1" == ['<@']"${1:0:1} "* ]]; then
+  elif [[ "$1" == "${1:0:1}${1:0:1} "* ]]; then
     show_name "${rest:2}"
     [[ -f "${rest:2}" && -r "${rest:2}" ]] || refuse_row "the file '$shown' cannot be read"
     read_escaped "${rest:2}"

@@ -21,7 +21,7 @@ unfoldable pub use Report.{fault_text, first_line, plan_lines, remark_head, rema
 unfoldable pub use Report.{remark_lines}
 pub use Checking.{BeginsAt, ListsIn, TellsFault, TellsPlan, TellsVerdict, WritesVerdict}
 pub use Listing.{AreBlocks, BeginsWith, IsBlock, IsLed, ListsFaults, cut_line}
-pub use Trouble.{IsTroubleOf, IsTroubleWithin}
+pub use Trouble.{IsTroubleOf, IsTroubleWithin, inner_keys}
 pub use Slip.{slip_at}
 unfoldable pub use Slip.{counted_words, digit_slip, letter_words, slip_words}
 pub use PathSlip.{IsAt, IsPathSlip, IsPortOf, SpellsPath, path_in, path_within}

@@ -1,5 +1,5 @@
 -- What of an entry makes its fault.
-use Rattle.std.specs.Prelude.{◌≡◌, ⊤, Some, None, false}
+use Rattle.std.specs.Prelude.{◌≡◌, ⊤, ℕ, List, Some, None, false}
 use Rattle.std.specs.List.{list_any}
 use Rattle.std.specs.Str.{bytes_eq}
 use Rattle.toml.specs.Data.{Members, get_member}
@@ -8,7 +8,9 @@ use Rattle.usb_diagnosis.specs.declared.trouble.Trouble.{Trouble}
 use Rattle.usb_diagnosis.specs.declared.trouble.Trouble.TheVariants.{Missing, Unknown, Wrong}
 use Rattle.usb_diagnosis.specs.declared.trouble.Trouble.TheVariants.{OneTooMany}
 use Rattle.usb_plan.specs.declared.fault.Place.{Place}
-use Rattle.usb_plan.specs.{endpoint_keys}
+use Rattle.usb_diagnosis.specs.declared.within.Inner.{Inner}
+use Rattle.usb_diagnosis.specs.declared.within.Inner.TheVariants.{Endpoint, Request}
+use Rattle.usb_plan.specs.{endpoint_keys, request_keys}
 use Rattle.usb_diagnosis.specs.Entry.{entry_keys}
 use Rattle.usb_diagnosis.specs.Key.{key_name}
 
@@ -21,9 +23,15 @@ IsTroubleOf place entry (Unknown name) = list_any (bytes_eq name.now) (entry_key
 IsTroubleOf place entry (Wrong key value) = get_member (key_name key) entry ≡ Some (view value.now)
 IsTroubleOf place entry OneTooMany = ⊤
 
--- the same of a table of `endpoint`
-abbrev pub IsTroubleWithin : Members → Trouble → Type 0
-IsTroubleWithin table (Missing key) = get_member (key_name key) table ≡ None
-IsTroubleWithin table (Unknown name) = list_any (bytes_eq name.now) endpoint_keys ≡ false
-IsTroubleWithin table (Wrong key value) = get_member (key_name key) table ≡ Some (view value.now)
-IsTroubleWithin table OneTooMany = ⊤
+-- the keys of a table within a device
+abbrev pub inner_keys : Inner → List (List ℕ)
+inner_keys Endpoint = endpoint_keys
+inner_keys Request = request_keys
+
+-- the same of such a table
+abbrev pub IsTroubleWithin : Inner → Members → Trouble → Type 0
+IsTroubleWithin inner table (Missing key) = get_member (key_name key) table ≡ None
+IsTroubleWithin inner table (Unknown name) = list_any (bytes_eq name.now) (inner_keys inner) ≡ false
+IsTroubleWithin inner table (Wrong key value) =
+    get_member (key_name key) table ≡ Some (view value.now)
+IsTroubleWithin inner table OneTooMany = ⊤

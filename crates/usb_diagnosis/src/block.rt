@@ -6,13 +6,13 @@ ghost use Rattle.usb_diagnosis.specs.Place.{IsSpotIn};
 ghost use Rattle.usb_diagnosis.specs.Report.{first_line};
 
 use crate::details::{span_of, trouble_lines};
-use crate::endpoints::trouble_within;
 use crate::entry::Entry;
 use crate::marks::Layout;
 use crate::place::Spot;
 use crate::report::first_line;
 use crate::span::{Span, push_excerpt};
 use crate::trouble::Trouble;
+use crate::within::trouble_within;
 use std::alloc::{AllocError, Global};
 use usb_plan::PlanFault;
 

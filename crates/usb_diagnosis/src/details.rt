@@ -2,10 +2,9 @@
 //! what was meant.
 
 use crate::allowed::push_allowed_at;
-use crate::endpoints::Within;
 use crate::entry::{Entry, array_of, text_at};
 use crate::flaw::{are_hex_digits, is_word};
-use crate::key::{DEVICE, ENDPOINT_KEYS, ENDPOINTS, NAME, PATH, PlanKey, REQUESTS};
+use crate::key::{DEVICE, NAME, PATH, PlanKey};
 use crate::marks::{Anchor, Layout};
 use crate::nearest::nearest;
 use crate::path_slip::{path_slip, push_path_slip};
@@ -13,6 +12,7 @@ use crate::shown::{letters_of, push_all, push_between, push_number, push_shown};
 use crate::slip::{digit_slip, push_slip};
 use crate::span::{Span, key_span, slip_span, value_span};
 use crate::trouble::{Trouble, is_known};
+use crate::within::{Inner, Within};
 use std::alloc::{AllocError, Global};
 use toml::{Table, Value};
 use usb_plan::{MOST_DAMAGES, MOST_DEVICES, MOST_EVENTS, Place, PlanFault};
@@ -35,9 +35,8 @@ fn key_at(layout: &Layout<'_>, place: Place, key: &str) -> Option<Anchor> {
 }
 
 /// What is marked of a value that is to be digits, or to have them.
-fn marked_digits(layout: &Layout<'_>, anchor: Anchor, key: PlanKey, value: &Value) -> Span {
+fn marked_digits(layout: &Layout<'_>, anchor: Anchor, value: &Value) -> Span {
     match value.as_array() {
-        Some(_) if key == REQUESTS => value_span(layout, anchor),
         None => slip_span(layout, anchor, 0),
         Some(values) => match first_undigital(values.as_slice()) {
             None => value_span(layout, anchor),
@@ -49,9 +48,7 @@ fn marked_digits(layout: &Layout<'_>, anchor: Anchor, key: PlanKey, value: &Valu
 /// What is marked of a key with its value.
 fn marked(layout: &Layout<'_>, anchor: Anchor, trouble: Trouble<'_>, fault: PlanFault) -> Span {
     match (trouble, fault) {
-        (Trouble::Wrong(key, value), PlanFault::BadHex(_)) => {
-            marked_digits(layout, anchor, key, value)
-        }
+        (Trouble::Wrong(_, value), PlanFault::BadHex(_)) => marked_digits(layout, anchor, value),
         (_, PlanFault::OnlyFar(_)) => key_span(layout, anchor),
         (Trouble::Wrong(_, _), _) => value_span(layout, anchor),
         _ => key_span(layout, anchor),
@@ -73,7 +70,7 @@ fn span_within(
     };
     let (array, number) = array_of(place)?;
     let table = within.index.saturating_add(1);
-    let anchor = layout.within_at(array, number, ENDPOINTS.name, table, inner)?;
+    let anchor = layout.within_at(array, number, within.inner.name(), table, inner)?;
     Some(marked(layout, anchor, within.trouble, fault))
 }
 
@@ -227,18 +224,10 @@ fn push_digit_line(
     out.push_str("\n")
 }
 
-/// The text of an array that is to be digits: a text itself, or what a request answers.
-fn digits_in(value: &Value) -> Option<&str> {
-    match value.as_table() {
-        None => value.as_str(),
-        Some(request) => text_at(request, "answer"),
-    }
-}
-
 /// The first text that is no digits, and its index.
 fn first_undigital<'a>(values: &'a [Value]) -> Option<(usize, &'a str)> {
     for (index, value) in values.iter().enumerate() {
-        if let Some(text) = digits_in(value) {
+        if let Some(text) = value.as_str() {
             if !are_hex_digits(text) {
                 return Some((index, text));
             }
@@ -263,8 +252,7 @@ fn push_digits(
     let Some((index, text)) = first_undigital(values.as_slice()) else {
         return Ok(());
     };
-    let part = if key == REQUESTS { ".answer" } else { "" };
-    let place = format!(in alloc; "{}[{index}]{part}, ", key.name)?;
+    let place = format!(in alloc; "{}[{index}], ", key.name)?;
     push_digit_line(alloc, out, place.as_str(), text)
 }
 
@@ -412,6 +400,7 @@ fn device_names<'a>(alloc: Global, devices: &'a [Value]) -> Result<Vec<&'a str>,
 /// The first text of a value that is none of the words: its own, or one of its array.
 fn first_other<'a>(value: &'a Value, words: &[&str]) -> Option<&'a str> {
     match value.as_array() {
+        None if is_word(value, words) => None,
         None => value.as_str(),
         Some(values) => values.iter().find(|value| !is_word(value, words))?.as_str(),
     }
@@ -502,8 +491,8 @@ fn push_told(
 }
 
 /// Adds which of the tables within an entry it is: `endpoint[1], `.
-fn push_index(out: &mut String, index: usize) -> Result<(), AllocError> {
-    write!(out, "{}[{index}], ", ENDPOINTS.name)
+fn push_index(out: &mut String, inner: Inner, index: usize) -> Result<(), AllocError> {
+    write!(out, "{}[{index}], ", inner.name())
 }
 
 /// The lines behind the first one on an entry's trouble.
@@ -527,10 +516,10 @@ pub(crate) fn trouble_lines<'a>(
             trouble,
         },
         Some(within) => {
-            push_index(&mut lines, within.index)?;
+            push_index(&mut lines, within.inner, within.index)?;
             Told {
                 table: within.table,
-                keys: &ENDPOINT_KEYS,
+                keys: within.inner.keys(),
                 trouble: within.trouble,
             }
         }

@@ -196,7 +196,7 @@ impl<'a> Entry<'a> {
 
     /// Whether `setup` is that of a request that writes bytes: bit 7 of its first byte is clear, and
     /// wLength, its last two, is not 0 (9.3).
-    fn writes_bytes(&self) -> bool {
+    pub(crate) fn writes_bytes(&self) -> bool {
         match self.text(SETUP) {
             None => false,
             Some(digits) => {

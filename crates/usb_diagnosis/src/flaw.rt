@@ -75,28 +75,6 @@ fn whole_hex_flaw(value: &Value, count: usize) -> Option<Flaw> {
     }
 }
 
-/// Whether the bytes that a request gives are no digits.
-fn gives_no_digits(request: &Value) -> bool {
-    match request.as_table() {
-        None => false,
-        Some(table) => match table.get("answer") {
-            None => false,
-            Some(value) => hex_flaw(value, usize::MAX) == Some(Flaw::Digits),
-        },
-    }
-}
-
-/// How a value fails to be at most so many tables, each with digits of the bytes that it gives.
-fn requests_flaw(value: &Value, most: usize) -> Option<Flaw> {
-    let Some(requests) = value.as_array() else {
-        return Some(Flaw::Value);
-    };
-    if requests.len() > most || !are_tables(value) {
-        return Some(Flaw::Value);
-    }
-    flaw_if(requests.iter().any(|it| gives_no_digits(it)), Flaw::Digits)
-}
-
 /// How an array fails to be so many texts of digits at most. A flaw of value comes before one of
 /// digits.
 fn hexes_flaw(value: &Value, count: usize, most: usize) -> Option<Flaw> {
@@ -124,7 +102,7 @@ pub(crate) fn flaw_if(failed: bool, flaw: Flaw) -> Option<Flaw> {
     if failed { Some(flaw) } else { None }
 }
 
-/// How a value fails what stands at the key, whatever else the entry has; of `endpoint` the tables alone.
+/// How a value fails what stands at the key, whatever else the entry has; of `endpoint` and `request` the tables alone.
 pub(crate) fn flaw_of(key: PlanKey, value: &Value) -> Option<Flaw> {
     let fits = match key.kind {
         Kind::Number(low, high) | Kind::NumberAs(low, high, _) => is_number_in(value, low, high),
@@ -132,13 +110,12 @@ pub(crate) fn flaw_of(key: PlanKey, value: &Value) -> Option<Flaw> {
         Kind::Text(_) => value.as_str().is_some(),
         Kind::Word(words) => is_word(value, words),
         Kind::Words(words) => are_words(value, words),
-        Kind::Tables | Kind::Endpoints(_) => are_tables(value),
+        Kind::Tables | Kind::Endpoints(_) | Kind::Requests(_) => are_tables(value),
         Kind::Place(_) => false,
         Kind::Address => is_number_in(value, OUT.0, OUT.1) || is_number_in(value, IN.0, IN.1),
         Kind::AnyHex => return hex_flaw(value, usize::MAX),
         Kind::Hex(most) => return hex_flaw(value, most),
         Kind::WholeHex(count) => return whole_hex_flaw(value, count),
-        Kind::Requests(most) => return requests_flaw(value, most),
         Kind::Hexes(count, most) => return hexes_flaw(value, count, most),
     };
     flaw_if(!fits, Flaw::Value)

@@ -163,6 +163,28 @@ pub(crate) const PACKET_TEXTS: PlanKey =
 
 const ENDPOINT_NAKS: PlanKey = row!("naks": Number(0, MOST_ENDPOINT_NAKS));
 
+// Those of a table of `request`.
+pub(crate) const TYPE: PlanKey =
+    row!("type": Number(0, 255), also "of a class or a vendor, or 129 beside request = 6",
+        such as "0x21");
+
+pub(crate) const CODE: PlanKey = row!("request": Number(0, 255), such as "9");
+
+const VALUE: PlanKey = row!("value": Number(0, 65535));
+
+const INDEX: PlanKey = row!("index": Number(0, 65535));
+
+pub(crate) const LENGTH: PlanKey = row!("length": Number(0, 65535), also "of a write");
+
+pub(crate) const ANSWER: PlanKey =
+    row!("answer": Hex(65535), also "of a read without `kept` and `refuse`", such as "\"00\"");
+
+pub(crate) const KEPT: PlanKey =
+    row!("kept": Flag, also "true only of a read without `answer` and `refuse`");
+
+pub(crate) const REFUSE: PlanKey =
+    row!("refuse": Word(&["data", "status"]), also "\"status\" of a write alone");
+
 // Those of an event. What `endpoint` allows goes by `do`.
 pub(crate) const DO: PlanKey = row!("do": Word(&[
     "plug", "unplug", "show", "send", "receive", "clear", "interrupt", "control", "interface",
@@ -240,6 +262,11 @@ pub(crate) static ENDPOINT_KEYS: [PlanKey; 5] = [
     PACKET_TEXTS,
     HALT_AFTER,
     ENDPOINT_NAKS,
+];
+
+/// The keys of a table of `request`.
+pub(crate) static REQUEST_KEYS: [PlanKey; 8] = [
+    TYPE, CODE, VALUE, INDEX, LENGTH, ANSWER, KEPT, REFUSE,
 ];
 
 /// The keys of a damage.

@@ -28,9 +28,11 @@ mod others;
 mod path_slip;
 mod place;
 mod report;
+mod requests;
 mod shown;
 mod slip;
 mod span;
 mod trouble;
+mod within;
 
 pub use checking::{CheckFault, Checked, Verdict, check, check_text};

@@ -285,6 +285,21 @@ fn expects_key(expected: bool, depth: usize, byte: u8) -> bool {
     }
 }
 
+/// Whether a value of an array can begin with the byte.
+fn begins_value(byte: u8) -> bool {
+    !matches!(byte, 0 | b' ' | b'\t' | b'\r' | b'\n' | b'#' | b',' | b']')
+}
+
+/// Whether a value of the array is next after the byte, from whether one was next before it. The
+/// bracket that is open then is that of the array.
+fn expects_value(expected: bool, depth: usize, byte: u8) -> bool {
+    match byte {
+        b'[' | b',' => depth == 1,
+        b' ' | b'\t' | b'\r' | b'\n' => expected,
+        _ => false,
+    }
+}
+
 /// Adds a mark of an entry of an array, or of a key in it.
 fn push_inline(
     alloc: Global,
@@ -326,9 +341,15 @@ fn push_entries(
     let mut rest = value;
     let mut depth = 0usize;
     let mut expected = false;
+    let mut awaited = false;
     'steps: for _ in 0..value.len() {
         let byte = first(rest);
         let at = total.saturating_sub(rest.len());
+        if awaited && begins_value(byte) {
+            let anchor = Anchor { key: at, value: at };
+            push_inline(alloc, marks, anchor, array, None)?;
+            awaited = false;
+        }
         if expected && begins_key(byte) {
             let (key, after) = dotted_key(alloc, rest)?;
             let value = value_at(total, after);
@@ -345,12 +366,9 @@ fn push_entries(
         } else if byte == 0 || byte >= 128 {
             return Ok(());
         } else {
-            if depth == 1 && byte == b'{' {
-                let anchor = Anchor { key: at, value: at };
-                push_inline(alloc, marks, anchor, array, None)?;
-            }
             depth = depth_after(depth, byte);
             expected = expects_key(expected, depth, byte);
+            awaited = expects_value(awaited, depth, byte);
             rest = skip(rest, 1);
         }
     }

@@ -21,8 +21,8 @@ use crate::marks::Layout;
 use crate::nearest::nearest;
 use crate::path_slip::is_no_path;
 use crate::trouble::{
-    Trouble, flaw_at, has_other_class, has_taken_name, is_known, is_named, last_attempt, number_at,
-    wrong_at,
+    Trouble, flaw_at, has_other_bytes, has_other_class, has_taken_name, is_known, is_named,
+    last_attempt, number_at, wrong_at,
 };
 use std::alloc::{AllocError, Global};
 use toml::{Table, Value};
@@ -146,6 +146,7 @@ fn is_wrong_beside(entry: &Entry<'_>, key: PlanKey) -> bool {
         PORTS | WIDE_PORTS => entry.text(SPEED) == Some("low") || has_other_class(entry),
         ATTEMPT => number_at(Some(entry.table()), "attempt") <= last_attempt(entry),
         BIT => matches!(entry.text(HOW), Some("lose") | Some("pre")),
+        BYTES => entry.text(DO) == Some("control") && has_setup(entry) && has_other_bytes(entry),
         _ => false,
     }
 }

@@ -9,13 +9,13 @@ ghost use Rattle.usb_diagnosis.specs.Entry.{entry_keys};
 ghost use Rattle.usb_diagnosis.specs.Key.{key_name};
 ghost use Rattle.usb_diagnosis.specs.Trouble.{IsTroubleOf};
 
-use crate::endpoints::endpoints_flaw;
 use crate::entry::{Entry, text_at};
 use crate::flaw::{Flaw, are_hex_digits, flaw_of};
 use crate::key::{
-    ATTEMPT, BIT, BYTES, DESCRIPTOR, DEVICE, DO, HUB_DESCRIPTOR, Kind, NAME, PATH, PlanKey,
-    REQUESTS, SPEED, WHEN,
+    ATTEMPT, BIT, BYTES, DESCRIPTOR, DEVICE, DO, HUB_DESCRIPTOR, Kind, NAME, PATH, PlanKey, SETUP,
+    SPEED, WHEN,
 };
+use crate::within::{Inner, tables_flaw};
 use toml::{Table, Value};
 use usb_plan::{Place, PlanFault};
 
@@ -35,7 +35,8 @@ pub(crate) enum Trouble<'a> {
 /// How the value at a key of the entry fails what is allowed there.
 pub(crate) fn flaw_at(key: PlanKey, value: &Value) -> Option<Flaw> {
     match key.kind {
-        Kind::Endpoints(most) => endpoints_flaw(value, most),
+        Kind::Endpoints(most) => tables_flaw(Inner::Endpoint, value, most),
+        Kind::Requests(most) => tables_flaw(Inner::Request, value, most),
         _ => flaw_of(key, value),
     }
 }
@@ -193,6 +194,27 @@ fn damage_trouble<'a>(entry: &Entry<'a>) -> Option<Trouble<'a>>
     None
 }
 
+/// The wLength of good setup data, 0 of other ones (9.3).
+fn length_of(entry: &Entry<'_>) -> usize {
+    let Some(digits) = entry.text(SETUP) else {
+        return 0;
+    };
+    let mut setup = [0u8; 8];
+    match hex::decode_to_slice(digits.as_bytes(), &mut setup) {
+        Ok(()) => usize::from(u16::from_le_bytes([setup[6], setup[7]])),
+        Err(_) => 0,
+    }
+}
+
+/// Whether an event has bytes that its request does not take: not wLength of them, or some where it
+/// reads or has none.
+pub(crate) fn has_other_bytes(entry: &Entry<'_>) -> bool {
+    match entry.text(BYTES) {
+        None => false,
+        Some(digits) => !entry.writes_bytes() || digits.len() / 2 != length_of(entry),
+    }
+}
+
 /// What is wrong with an event whose keys each have a value that they allow by themselves: the bytes
 /// of a request are not those that its setup data want.
 fn event_trouble<'a>(entry: &Entry<'a>) -> Option<Trouble<'a>>
@@ -216,27 +238,6 @@ fn trouble_beside_others<'a>(entry: &Entry<'a>) -> Option<Trouble<'a>>
     }
 }
 
-/// What is wrong with a hub's descriptor, which has another number of ports, or with a request of
-/// the device's own.
-fn inner_trouble<'a>(entry: &Entry<'a>) -> Option<Trouble<'a>>
-    ensures { IfSome result (IsTroubleOf entry.now.place (table_view entry.now.table.now)) }
-{
-    match wrong_at(entry, HUB_DESCRIPTOR) {
-        None => wrong_at(entry, REQUESTS),
-        trouble => trouble,
-    }
-}
-
-/// The key whose value has a table that lacks a key.
-fn missing_within<'a>(entry: &Entry<'a>) -> Option<Trouble<'a>>
-    ensures { IfSome result (IsTroubleOf entry.now.place (table_view entry.now.table.now)) }
-{
-    match flawed(entry, Flaw::Key) {
-        None => wrong_at(entry, REQUESTS),
-        trouble => trouble,
-    }
-}
-
 /// Why an entry has a bad value.
 fn bad_value<'a>(entry: &Entry<'a>) -> Option<Trouble<'a>>
     ensures { IfSome result (IsTroubleOf entry.now.place (table_view entry.now.table.now)) }
@@ -253,7 +254,7 @@ fn bad_value<'a>(entry: &Entry<'a>) -> Option<Trouble<'a>>
     if entry.is_one_too_many() {
         return Some(Trouble::OneTooMany);
     }
-    inner_trouble(entry)
+    wrong_at(entry, HUB_DESCRIPTOR)
 }
 
 /// What of the entry makes the fault that is told of it.
@@ -263,7 +264,7 @@ pub(crate) fn trouble_of<'a>(entry: &Entry<'a>, fault: PlanFault) -> Option<Trou
     match fault {
         PlanFault::OnlyFar(_) => wrong_at(entry, WHEN),
         PlanFault::MissingKey(_) => match missing_key(entry) {
-            None => missing_within(entry),
+            None => flawed(entry, Flaw::Key),
             Some(key) => Some(Trouble::Missing(key)),
         },
         PlanFault::BadValue(_) => bad_value(entry),

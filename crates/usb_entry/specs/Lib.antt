@@ -9,9 +9,9 @@ pub use EntryData.{IsDescriptor, IsEntry, IsText, NextFault}
 pub use Notes.{IsProductRead, IsSpeedRead, IsSpeedText}
 pub use Speed.{configs_fit, fits_low_speed, has_low_speed, item_fits, items_fit}
 unfoldable pub use Speed.{is_taken_low}
-pub use Text.{basic_string, char_text, direction_word, entry_codes, first_config_codes, is_misfit}
-pub use Text.{is_self_powered, item_line, misfit_text, power_line, product_text, transfer_word}
-pub use Text.{word_digits}
+pub use Text.{basic_string, char_text, direction_word, entry_codes, first_config_codes, has_ports}
+pub use Text.{is_misfit, is_self_powered, item_line, misfit_text, power_line, product_text}
+pub use Text.{transfer_word, word_digits}
 unfoldable pub use Text.{comment_text, configuration_lines, descriptor_line, endpoint_line}
 unfoldable pub use Text.{entry_text, head_line, identity_lines, interface_line, key_text}
 unfoldable pub use Text.{maker_text, name_line}

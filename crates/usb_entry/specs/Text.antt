@@ -3,10 +3,10 @@ use Rattle.std.specs.Prelude.{ℕ, ◌+◌, ◌*◌, ◌%◌, ◌==◌, ◌||◌
 use Rattle.std.specs.Prelude.{[], ◌∷◌, ◌++◌, codes, decimal, encode_utf8, flat_map, if◌then◌else◌}
 use Rattle.std.specs.Prelude.{slice_index, Option, Some, None}
 use Rattle.std.specs.Borrow.{Bor}
-use Rattle.std.specs.Char.{is_control}
 use Rattle.std.specs.Str.{chars}
 use Rattle.hex.specs.Hex.{encode_lower, encode_upper}
 use Rattle.usb_request.specs.{HUB_CLASS}
+use Rattle.usb_watch.specs.{ends_line, escaped}
 use Rattle.usb_descriptor.specs.declared.item.Item.{Item}
 use Rattle.usb_descriptor.specs.{Interface, Endpoint, Other, TransferType, Control, Isochronous}
 use Rattle.usb_descriptor.specs.{Bulk, Interrupt, is_bulk_size, packet_size, configuration_value}
@@ -19,12 +19,13 @@ use Rattle.usb_entry.specs.declared.notes.Notes.{Notes}
 use Rattle.usb_entry.specs.EntryData.{EntryData}
 use Rattle.usb_entry.specs.Speed.{is_taken_low}
 
--- a character of a basic string of TOML 1.0: a quotation mark and a backslash behind a backslash, a
--- control character as
--- \u and its number, any other as it is
+-- a character of a basic string of TOML 1.0: a quotation mark and a backslash behind a backslash,
+-- one that may end a line as \u and its number, any other as it is
 abbrev pub char_text : ℕ → List ℕ
-char_text c = if c == 34 || c == 92 then 92 ∷ c ∷ [] else if is_control c then codes "\\u00" ++
-    encode_upper (c ∷ []) else encode_utf8 c
+char_text c =
+    if c == 34 || c == 92 then 92 ∷ c ∷ []
+    else if ends_line c then escaped c
+    else encode_utf8 c
 
 -- a text as a basic string
 abbrev pub basic_string : List ℕ → List ℕ
@@ -138,10 +139,16 @@ configuration_lines config =
     ++ codes " mA\n" ++ flat_map item_line (items_of config) ++ codes "  \"" ++ encode_upper config
     ++ codes "\",\n"
 
+-- its class is that of hubs, and no device of low speed is one (11.1)
+abbrev pub has_ports : Option LinuxSpeed → List ℕ → Bool
+has_ports (Some Low) device = false
+has_ports (Some Full) device = device_class device == HUB_CLASS
+has_ports None device = device_class device == HUB_CLASS
+
 -- a hub has a number of ports
-unfoldable pub ports_line : List ℕ → ℕ → List ℕ
-ports_line device ports =
-    if device_class device == HUB_CLASS
+unfoldable pub ports_line : Option LinuxSpeed → List ℕ → ℕ → List ℕ
+ports_line speed device ports =
+    if has_ports speed device
     then key_text (codes "ports") ++ decimal ports ++
     codes " # how many it has is not in these descriptors\n"
     else []
@@ -165,4 +172,4 @@ entry_text name ports notes e =
     identity_lines name notes e ++ codes "configs = [\n"
     ++ flat_map configuration_lines e.configs ++
     codes "]\n"
-    ++ ports_line e.device ports ++ power_line (is_self_powered e.configs)
+    ++ ports_line notes.speed e.device ports ++ power_line (is_self_powered e.configs)

@@ -1,25 +1,34 @@
 //! The name of an entry.
 ghost use Rattle.std.specs.Prelude.{◌≡◌, ◌++◌, flat_map, IfOk, OnOk};
-ghost use Rattle.std.specs.Char.{is_control};
 ghost use Rattle.std.specs.Str.{chars};
+ghost use Rattle.usb_watch.specs.Shown.{escaped};
 ghost use Rattle.usb_entry.specs.Text.{basic_string, char_text, name_line};
 
 use crate::piece::{push_digits, push_key, push_text};
 use std::alloc::{AllocError, Global};
+use usb_watch::ends_line;
 
-/// Adds a character of a TOML string. Quotes, backslashes and control characters are escaped.
+/// Adds a character of a TOML string. Quotes, backslashes and what may end a line are escaped.
 fn push_char(alloc: Global, out: &mut Vec<u8>, letter: char) -> Result<(), AllocError>
     ensures { OnOk result (out.new.items ≡ out.old.items ++ char_text letter) }
 {
     if letter == '"' || letter == '\\' {
         return out.extend_from_slice(&[b'\\', letter as u8]);
     }
-    if letter.is_control() {
-        push_text(out, "\\u00")?;
-        return push_digits(alloc, out, &[letter as u8]);
+    if ends_line(letter) {
+        return push_escaped(alloc, out, letter as u16);
     }
     let mut buffer = [0; 4];
     out.extend_from_slice(letter.encode_utf8(&mut buffer).as_bytes())
+}
+
+/// Adds a number as `\u` and four digits.
+fn push_escaped(alloc: Global, out: &mut Vec<u8>, number: u16) -> Result<(), AllocError>
+    ensures { OnOk result (out.new.items ≡ out.old.items ++ escaped number) }
+{
+    push_text(out, "\\u")?;
+    push_digits(alloc, out, &[(number / 256) as u8])?;
+    push_digits(alloc, out, &[(number % 256) as u8])
 }
 
 /// Adds the characters of a TOML string, without the quotes around them.

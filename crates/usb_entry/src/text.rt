@@ -1,7 +1,7 @@
 //! The table of a device, and its lines.
 ghost use Rattle.std.specs.Prelude.{◌≡◌, ◌++◌, flat_map, IfOk, OnOk};
 ghost use Rattle.usb_entry.specs.Speed.{is_taken_low};
-ghost use Rattle.usb_entry.specs.Text.{configuration_lines, descriptor_line, entry_codes, entry_text, first_config_codes, head_line, identity_lines, maker_text, is_self_powered, ports_line, power_line, product_text, speed_line, known_speed_line};
+ghost use Rattle.usb_entry.specs.Text.{configuration_lines, descriptor_line, entry_codes, entry_text, first_config_codes, has_ports, head_line, identity_lines, maker_text, is_self_powered, ports_line, power_line, product_text, speed_line, known_speed_line};
 
 use crate::entry::{Configuration, Entry};
 use crate::item::push_items;
@@ -167,17 +167,30 @@ fn push_configs(
     Ok(())
 }
 
+/// Whether a device is a hub: its class is that of hubs, and Linux does not have it at low speed,
+/// which no hub has (section 11.1).
+fn has_ports(speed: Option<LinuxSpeed>, entry: &Entry<'_>) -> bool
+    ensures { result ≡ has_ports speed entry.now.device }
+{
+    match speed {
+        Some(LinuxSpeed::Low) => false,
+        Some(LinuxSpeed::Full) | None => entry.device().view().class() == HUB_CLASS,
+    }
+}
+
 /// Adds how many ports a hub has.
 #[tactic(auto, unfolding(crate::specs::Text::ports_line))]
 fn push_ports(
     alloc: Global,
     out: &mut Vec<u8>,
+    speed: Option<LinuxSpeed>,
     entry: &Entry<'_>,
     ports: u8,
 ) -> Result<(), AllocError>
-    ensures { OnOk result (out.new.items ≡ out.old.items ++ ports_line entry.now.device ports) }
+    ensures { OnOk result
+        (out.new.items ≡ out.old.items ++ ports_line speed entry.now.device ports) }
 {
-    if entry.device().view().class() != HUB_CLASS {
+    if !has_ports(speed, entry) {
         return Ok(());
     }
     push_key(out, "ports")?;
@@ -229,7 +242,7 @@ fn push_identity(
 ///
 /// The descriptors do not have the speed. If the notes do not have it, it is `low` for a device that is no hub and
 /// whose packets have at most 8 bytes, on control and interrupt endpoints alone. Nor do the descriptors have the number
-/// of ports of a hub: a plan takes 1 to 7, and with `wide_hubs` 1 to 15.
+/// of ports of a hub: a plan takes 1 to 7, and with `wide_hubs` 1 to 15. A device of low speed is not a hub (11.1).
 ///
 /// # Errors
 ///
@@ -249,7 +262,7 @@ pub fn entry_text(
     push_text(&mut text, "configs = [\n")?;
     push_configs(alloc, &mut text, entry.configs())?;
     push_text(&mut text, "]\n")?;
-    push_ports(alloc, &mut text, entry, ports)?;
+    push_ports(alloc, &mut text, notes.speed, entry, ports)?;
     push_text(&mut text, power_line(is_self_powered(entry.configs())))?;
     Ok(text)
 }

@@ -1,6 +1,14 @@
 //! A first program over the library: a world with one device in it, a host that finds the device,
-//! and bytes to it and from it.
+//! and bytes to it and from it. Then the same host over a bus of one's own.
+//!
+//! # What is proved
+//!
+//! `CountedBus` meets `trait Bus` around any bus, with that one's world and trace. It counts each
+//! attempt that was made by its answer (`counts_behind`).
 #![tactic(auto)]
+
+mod counted;
+mod own_bus;
 
 ghost use Rattle.std.specs.Prelude.{◌≡◌, true, None, OnOk};
 
@@ -29,12 +37,14 @@ path = "1"
 device = "stick"
 "#;
 
-/// Enumerates one device of a plan, and prints what it is.
+/// Enumerates one device of a plan, and prints what it is. Then it counts what goes over a bus.
 fn main(rt: HostRuntime) -> Result<()> {
     let mut bus = SimBus::untraced(rt.alloc(), &read_plan(rt.alloc(), WORLD)?)?;
     // The first event of the plan: the device is plugged.
     bus.apply_next_event()?;
-    visit(&rt, &mut Host::new(rt.alloc(), bus))
+    visit(&rt, &mut Host::new(rt.alloc(), bus))?;
+    // The same host over a bus of one's own.
+    own_bus::show(&rt)
 }
 
 /// Lets the host find the device, and meets it.

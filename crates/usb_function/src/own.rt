@@ -918,9 +918,8 @@ impl FunctionState {
 
     /// The status stage of a request that does not read.
     fn give_status(&mut self, room: &mut ArrayVec<u8, 64>) -> Option<AnswerPid>
-        ensures {
-            (answer_with result room.new, self.new) ≡ gives self.old by.Control Toggle.One []
-        }
+        ensures { (answer_with result room.new, self.new)
+            ≡ gives self.old by.Control Toggle.One [] }
     {
         fill(room, &[]);
         self.give_data(InEndpoint::Control, Toggle::One)

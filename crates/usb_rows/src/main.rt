@@ -1,7 +1,7 @@
 //! Plays the rows of `data/` where that takes code: each plan by a host over two pipes and by a
-//! driver of records, its run explained, listings that are judged, and plans with places. Prints a
-//! line for each row that is not as expected, and both numbers. `usbplan test` compares the texts
-//! of `tree` and `run`.
+//! driver of records, its run explained, listings that are judged, plans with places, and calls.
+//! Prints a line for each row that is not as expected, and both numbers. `usbplan test` compares
+//! the texts of `tree` and `run`.
 #![tactic(auto)]
 
 mod driven;
@@ -15,6 +15,7 @@ use judged::judgements_of;
 use live::course_of;
 use std::rt::Files;
 use std::{fs, io, str};
+use usb_calls::{Tally, play_calls};
 use usb_explain::{Only, explain};
 use usb_places::Places;
 use usb_serve::plan_of;
@@ -34,30 +35,18 @@ const PLACED: &str = "placed.txt";
 /// is judged of it, after a tab each.
 const MUTATED: &str = "mutated.tsv";
 
+/// A line for each file of rows of calls.
+const CALLS: &str = "calls.txt";
+
 /// The most events of a plan that is driven: each question is made on a copy of the host.
 const MOST_EVENTS: usize = 100;
-
-/// How many rows there were, and how many of them differed.
-#[derive(Drop)]
-struct Tally {
-    rows: u64,
-    differ: u64,
-}
-
-impl Tally {
-    fn count(&mut self, as_wanted: bool) {
-        self.rows = self.rows.saturating_add(1);
-        if !as_wanted {
-            self.differ = self.differ.saturating_add(1);
-        }
-    }
-}
 
 fn main(rt: HostRuntime) -> io::Result<()> {
     let mut tally = Tally { rows: 0, differ: 0 };
     serve_plans(&rt, &mut tally)?;
     judge_listings(&rt, &mut tally)?;
     play_places(&rt, &mut tally)?;
+    play_files(&rt, &mut tally)?;
     println!(rt; "{} rows, {} differ", tally.rows, tally.differ)
 }
 
@@ -86,6 +75,14 @@ fn play_places<R: Files + Print + AllocGlobal>(rt: &R, tally: &mut Tally) -> io:
     'names: for name in names.lines() {
         let as_wanted = is_placed(rt, name)?;
         tally.count(as_wanted);
+    }
+    Ok(())
+}
+
+fn play_files<R: Files + Print + AllocGlobal>(rt: &R, tally: &mut Tally) -> io::Result<()> {
+    let names = fs::read_to_string(rt, CALLS)?;
+    'names: for name in names.lines() {
+        play_calls(rt, name, tally)?;
     }
     Ok(())
 }

@@ -4,3 +4,4 @@ pub mod Places
 pub mod Found
 pub mod Once
 pub mod Amends
+pub mod Digits

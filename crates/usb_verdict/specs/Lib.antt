@@ -5,7 +5,8 @@ pub mod Growth
 pub mod Reports
 pub mod Texts
 -- the words of this crate, wherever one stands
-pub use Lines.{Line, bytes_in, is_digit, number_in, result_map, said, speed_named, with_digit}
+pub use Lines.{Line, are_digit_pairs, bytes_in, is_digit, number_in, result_map, said, speed_named}
+pub use Lines.{with_digit}
 unfoldable pub use Lines.{config_said, cut_space, hub_said, line_says, number_from, three_words}
 pub use Ways.{is_enabled, reach_from, reach_through}
 pub use Once.{ListsOnce}

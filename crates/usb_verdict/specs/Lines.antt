@@ -1,10 +1,11 @@
 -- What a line of a listing says.
-use Rattle.std.specs.Prelude.{ℕ, ◌+◌, ◌-◌, ◌*◌, ◌==◌, ◌&&◌, nat_le, Bool, true, false, List, []}
-use Rattle.std.specs.Prelude.{◌∷◌}
+use Rattle.std.specs.Prelude.{ℕ, ◌+◌, ◌-◌, ◌*◌, ◌%◌, ◌==◌, ◌&&◌, nat_le, nat_lt, Bool, true}
+use Rattle.std.specs.Prelude.{false, List, [], ◌∷◌, length}
 use Rattle.std.specs.Prelude.{codes, if◌then◌else◌, Option, None, Some, Result, Ok, Err, option_map}
+use Rattle.std.specs.List.{list_all}
 use Rattle.std.specs.Result.{result_ok}
 use Rattle.std.specs.Str.{bytes_eq}
-use Rattle.hex.specs.Hex.{decode_of}
+use Rattle.hex.specs.Hex.{decode_of, is_hex_digit}
 use Rattle.usb_port.specs.{path_of}
 use Rattle.usb_verdict.specs.declared.fault.ListingFault.{ListingFault}
 use Rattle.usb_verdict.specs.declared.fault.ListingFault.TheVariants.{BadNumber, BadPath, BadSpeed}
@@ -67,6 +68,11 @@ abbrev pub bytes_in : List ℕ → Option (List ℕ)
 bytes_in [] = None
 bytes_in (c ∷ word) = if bytes_eq (c ∷ word) (codes "-") then Some []
     else result_ok (decode_of (c ∷ word))
+
+-- pairs of digits of either case, at least one
+abbrev pub are_digit_pairs : List ℕ → Bool
+are_digit_pairs word =
+    nat_lt 0 (length word) && (length word % 2 == 0) && list_all is_hex_digit word
 
 -- whether a word is that of low speed
 abbrev pub speed_named : List ℕ → Option Bool

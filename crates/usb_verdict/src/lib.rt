@@ -4,7 +4,8 @@
 //! # What is proved
 //!
 //! - `ReportedListing::take` has the ports that the lines name (*line_joined*,
-//!   `specs/Reports.antt`). A line that says nothing has its fault, and changes nothing.
+//!   `specs/Reports.antt`). A line that says nothing has its fault, whatever memory there is, and
+//!   changes nothing.
 //! - `verdict` returns what is wrong with a listing in the world as it is now, and nothing exactly
 //!   if the listing is right in it (*Judges*, `usb_judge`).
 //! - Each line is the one that its definition has (`specs/Texts.antt`).
@@ -17,7 +18,8 @@
 //!
 //! - `read_listing_line` returns what a line says (*line_says*, `specs/Lines.antt`), and the fault
 //!   of any other line. It takes no memory.
-//! - `read_bytes` returns the bytes that a word spells (*bytes_in*).
+//! - `read_bytes` returns the bytes that a word spells (*bytes_in*), and refuses any other word,
+//!   whatever memory there is.
 #![tactic(auto)]
 
 mod bytes;

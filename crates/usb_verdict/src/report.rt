@@ -1,9 +1,11 @@
 //! A listing as a host reports it, line by line.
-ghost use Rattle.std.specs.Prelude.{◌≡◌, ◌++◌, ◌∷◌, ◌⊎◌, [], map, IfErr, Ok, Err, OnErr, OnOk};
+ghost use Rattle.std.specs.Prelude.{◌≡◌, ◌≢◌, ◌++◌, ◌∷◌, ◌⊎◌, [], map, IfErr, Ok, Err, OnErr, OnOk};
+ghost use Rattle.usb_verdict.specs.declared.fault.ListingFault.{ListingFault as Fault};
 ghost use Rattle.usb_verdict.specs.declared.fault.ListingFault.TheVariants.{Memory};
-ghost use Rattle.usb_verdict.specs.Lines.{said};
-ghost use Rattle.usb_verdict.specs.Reports.{accepted, amended, amended_port, detail_said, device_said, joined, line_joined, port_said, with_detail};
+ghost use Rattle.usb_verdict.specs.Lines.{chosen, said};
+ghost use Rattle.usb_verdict.specs.Reports.{DetailSaid, accepted, amended, amended_port, detail_said, device_said, joined, line_joined, port_said, with_detail};
 
+use crate::bytes::spells_bytes;
 use crate::{ListingFault, ListingLine, read_bytes, read_listing_line};
 use std::alloc::Global;
 use std::marker::Model;
@@ -56,17 +58,21 @@ impl ReportedListing {
     ///
     /// # Errors
     ///
-    /// `Memory` if memory was refused, else the first of these that applies. The ports are as before.
+    /// The first of these that applies. The ports are as before.
     ///
     /// - That of [`read_listing_line`], if the line says nothing.
     /// - `BadHex`: in the place of bytes are none.
     /// - `NoDevice`: a configuration or a number of ports is not that of the last port, or a device
     ///   was refused there.
+    /// - `Memory`: memory was refused.
     pub fn take(&mut self, alloc: Global, line: &str) -> Result<(), ListingFault>
         ensures taken { OnOk result
             (line_joined line.now (map port_said self.old) ≡ Ok (map port_said self.new)) }
         ensures fault { IfErr result (λ fault.
             (fault ≡ Memory) ⊎ (line_joined line.now (map port_said self.old) ≡ Err fault)) }
+        // A line with a fault has it, whatever memory there is.
+        ensures refused { (fault : Fault) → line_joined line.now (map port_said self.old)
+            ≡ Err fault → result ≡ Err fault }
         ensures kept { OnErr result (self.new ≡ self.old) }
     {
         match read_listing_line(line) {
@@ -81,6 +87,8 @@ impl ReportedListing {
             (joined (said line.entry) (map port_said self.old) ≡ Ok (map port_said self.new)) }
         ensures fault { IfErr result (λ fault.
             (fault ≡ Memory) ⊎ (joined (said line.entry) (map port_said self.old) ≡ Err fault)) }
+        ensures refused { (fault : Fault) → joined (said line.entry) (map port_said self.old)
+            ≡ Err fault → result ≡ Err fault }
         ensures kept { OnErr result (self.new ≡ self.old) }
     {
         match line {
@@ -97,13 +105,28 @@ impl ReportedListing {
                 path,
                 claim: Claim::Refused,
             }),
-            ListingLine::Chosen(path, configuration) => match read_bytes(alloc, configuration) {
-                Ok(bytes) => self.amend(&path, Detail::Configuration(bytes)),
-                Err(fault) => Err(fault),
-            },
+            ListingLine::Chosen(path, configuration) => self.choose(alloc, &path, configuration),
             ListingLine::Hub(path, ports) => self.amend(&path, Detail::Ports(ports)),
             ListingLine::Other(_) => Ok(()),
         }
+    }
+
+    /// Adds the configuration that was chosen for the device at a path. Memory is needed last.
+    fn choose(&mut self, alloc: Global, path: &PortPath, digits: &str) -> Result<(), ListingFault>
+        ensures taken { OnOk result (joined (chosen path.now digits.now) (map port_said self.old)
+            ≡ Ok (map port_said self.new)) }
+        ensures fault { IfErr result (λ fault. (fault ≡ Memory)
+            ⊎ (joined (chosen path.now digits.now) (map port_said self.old) ≡ Err fault)) }
+        ensures refused { (fault : Fault) → joined (chosen path.now digits.now)
+            (map port_said self.old) ≡ Err fault → result ≡ Err fault }
+        ensures kept { OnErr result (self.new ≡ self.old) }
+    {
+        if !spells_bytes(digits) {
+            return Err(ListingFault::BadHex);
+        }
+        see_last(self.ports.as_slice(), path)?;
+        let bytes = read_bytes(alloc, digits)?;
+        self.amend(path, Detail::Configuration(bytes))
     }
 
     /// Adds a port.
@@ -132,6 +155,33 @@ impl ReportedListing {
             Some(port) => amend_port(port, path, detail),
             None => Err(ListingFault::NoDevice),
         }
+    }
+}
+
+/// Whether the last port is that of a device at this path, so that a detail can be added to it.
+#[tactic(auto, using(crate::proofs::Amends::refused_get, crate::proofs::Amends::kept_get, crate::proofs::Amends::none_get))]
+fn see_last(ports: &[ListedPort], path: &PortPath) -> Result<(), ListingFault>
+    ensures there { OnOk result ((detail : DetailSaid) (fault : Fault)
+        → amended path.now detail (map port_said ports.now) ≢ Err fault) }
+    ensures fault { IfErr result (λ fault. (detail : DetailSaid)
+        → amended path.now detail (map port_said ports.now) ≡ Err fault) }
+{
+    match ports.last() {
+        Some(port) => see_port(port, path),
+        None => Err(ListingFault::NoDevice),
+    }
+}
+
+/// Whether a port is that of a device at this path.
+fn see_port(port: &ListedPort, path: &PortPath) -> Result<(), ListingFault>
+    ensures there { OnOk result ((detail : DetailSaid) (fault : Fault)
+        → amended_port path.now detail (port_said port.now) ≢ Err fault) }
+    ensures fault { IfErr result (λ fault. (detail : DetailSaid)
+        → amended_port path.now detail (port_said port.now) ≡ Err fault) }
+{
+    match &port.claim {
+        Claim::Device(_) if port.path == *path => Ok(()),
+        _ => Err(ListingFault::NoDevice),
     }
 }
 

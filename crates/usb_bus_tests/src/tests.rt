@@ -1,6 +1,0 @@
-//! One module a crate.
-mod bus;
-mod devices;
-mod pipe;
-mod traces;
-mod transaction;

@@ -1,0 +1,227 @@
+//! Which table within a device makes its fault, and which key of that table.
+
+ghost use Rattle.std.specs.Prelude.{◌≡◌, IfSome, false, map, option_map};
+ghost use Rattle.std.specs.List.{list_any};
+ghost use Rattle.std.specs.Str.{bytes_eq};
+ghost use Rattle.toml.specs.Data.{get_member};
+ghost use Rattle.toml.specs.View.{view, table_view};
+ghost use Rattle.usb_diagnosis.specs.Key.{key_name};
+ghost use Rattle.usb_diagnosis.specs.Trouble.{IsTroubleWithin, inner_keys};
+
+use crate::endpoints::{endpoint_missing, endpoint_trouble};
+use crate::entry::value_at;
+use crate::flaw::{Flaw, are_tables, flaw_of};
+use crate::key::{ENDPOINT_KEYS, ENDPOINTS, Kind, PlanKey, REQUEST_KEYS, REQUESTS};
+use crate::requests::{request_missing, request_trouble};
+use crate::trouble::{Trouble, is_known};
+use toml::{Table, Value};
+use usb_plan::PlanFault;
+
+/// What a table within a device is.
+#[derive(Clone, Copy, PartialEq, Eq)]
+pub(crate) enum Inner {
+    /// A table of `endpoint`.
+    Endpoint,
+    /// A table of `request`.
+    Request,
+}
+
+impl Inner {
+    /// The keys that have a meaning in such a table.
+    pub(crate) fn keys(self) -> &'static [PlanKey]
+        ensures { map key_name result.now ≡ inner_keys self }
+    {
+        match self {
+            Inner::Endpoint => &ENDPOINT_KEYS,
+            Inner::Request => &REQUEST_KEYS,
+        }
+    }
+
+    /// The name of the device's key at which such tables are.
+    pub(crate) fn name(self) -> &'static str {
+        match self {
+            Inner::Endpoint => ENDPOINTS.name,
+            Inner::Request => REQUESTS.name,
+        }
+    }
+}
+
+/// A table within a device, and what of it makes the fault.
+#[derive(Clone, Copy)]
+pub(crate) struct Within<'a> {
+    pub(crate) inner: Inner,
+    /// Which of the tables it is, counted from 0.
+    pub(crate) index: usize,
+    pub(crate) table: &'a Table,
+    pub(crate) trouble: Trouble<'a>,
+}
+
+/// The value at a key of a table.
+pub(crate) fn value_of<'a>(table: &'a Table, key: PlanKey) -> Option<&'a Value>
+    ensures { option_map (λ v. view v.now) result
+        ≡ get_member (key_name key) (table_view table.now) }
+{
+    value_at(table, key.name)
+}
+
+/// The first key whose value has the flaw by itself.
+fn flawed<'a>(inner: Inner, table: &'a Table, flaw: Flaw) -> Option<Trouble<'a>>
+    ensures { IfSome result (IsTroubleWithin inner (table_view table.now)) }
+{
+    for key in inner.keys() {
+        if let Some(value) = value_of(table, *key) {
+            if flaw_of(*key, value) == Some(flaw) {
+                return Some(Trouble::Wrong(*key, value));
+            }
+        }
+    }
+    None
+}
+
+/// The first key that has no meaning in a table.
+fn unknown_key<'a>(inner: Inner, table: &'a Table) -> Option<&'a str>
+    ensures { IfSome result (λ name. list_any (bytes_eq name.now) (inner_keys inner) ≡ false) }
+{
+    let keys = inner.keys();
+    for name in table.keys() {
+        if !is_known(keys, name.as_str()) {
+            return Some(name.as_str());
+        }
+    }
+    None
+}
+
+/// The key that a table lacks.
+fn missing_key(inner: Inner, table: &Table) -> Option<PlanKey>
+    ensures { IfSome result (λ key. get_member (key_name key) (table_view table.now) ≡ None) }
+{
+    match inner {
+        Inner::Endpoint => endpoint_missing(table),
+        Inner::Request => request_missing(table),
+    }
+}
+
+/// The value that is wrong of a table whose keys each have a value that they allow by themselves,
+/// beside the tables before it.
+fn wrong_beside<'a>(
+    inner: Inner,
+    table: &'a Table,
+    earlier: &[Value],
+) -> Option<(PlanKey, &'a Value)>
+    ensures { IfSome result (λ wrong.
+        get_member (key_name wrong.0) (table_view table.now) ≡ Some (view wrong.1.now)) }
+{
+    match inner {
+        Inner::Endpoint => endpoint_trouble(table, earlier),
+        Inner::Request => request_trouble(table),
+    }
+}
+
+/// Why a table has a bad value, beside the tables before it.
+fn bad_value<'a>(inner: Inner, table: &'a Table, earlier: &[Value]) -> Option<Trouble<'a>>
+    ensures { IfSome result (IsTroubleWithin inner (table_view table.now)) }
+{
+    if let Some(trouble) = flawed(inner, table, Flaw::Value) {
+        return Some(trouble);
+    }
+    if let Some(name) = unknown_key(inner, table) {
+        return Some(Trouble::Unknown(name));
+    }
+    let (key, value) = wrong_beside(inner, table, earlier)?;
+    Some(Trouble::Wrong(key, value))
+}
+
+/// The key that a table lacks, as its trouble.
+fn lacking<'a>(inner: Inner, table: &'a Table) -> Option<Trouble<'a>>
+    ensures { IfSome result (IsTroubleWithin inner (table_view table.now)) }
+{
+    let key = missing_key(inner, table)?;
+    Some(Trouble::Missing(key))
+}
+
+/// What of a table has the flaw.
+fn trouble_in<'a>(
+    inner: Inner,
+    table: &'a Table,
+    earlier: &[Value],
+    flaw: Flaw,
+) -> Option<Trouble<'a>>
+    ensures { IfSome result (IsTroubleWithin inner (table_view table.now)) }
+{
+    match flaw {
+        Flaw::Key => lacking(inner, table),
+        Flaw::Value => bad_value(inner, table, earlier),
+        Flaw::Digits => flawed(inner, table, Flaw::Digits),
+    }
+}
+
+/// The first of the tables that has the flaw.
+fn first_within<'a>(inner: Inner, values: &'a [Value], flaw: Flaw) -> Option<Within<'a>>
+    ensures { IfSome result (λ w. IsTroubleWithin w.inner (table_view w.table.now) w.trouble) }
+{
+    for (index, value) in values.iter().enumerate() {
+        if let Some(table) = value.as_table() {
+            if let Some(trouble) = trouble_in(inner, table, &values[..index], flaw) {
+                return Some(Within {
+                    inner,
+                    index,
+                    table,
+                    trouble,
+                });
+            }
+        }
+    }
+    None
+}
+
+/// The tables of an array of at most so many.
+fn tables_in<'a>(value: &'a Value, most: usize) -> Option<&'a [Value]> {
+    let values = value.as_array()?.as_slice();
+    if values.len() <= most && are_tables(value) {
+        Some(values)
+    } else {
+        None
+    }
+}
+
+/// How a value fails to be at most so many tables of a kind. Of several flaws the first is told, in
+/// the order of faults.
+pub(crate) fn tables_flaw(inner: Inner, value: &Value, most: usize) -> Option<Flaw> {
+    let Some(values) = tables_in(value, most) else {
+        return Some(Flaw::Value);
+    };
+    [Flaw::Key, Flaw::Value, Flaw::Digits]
+        .iter()
+        .copied()
+        .find(|flaw| first_within(inner, values, *flaw).is_some())
+}
+
+/// What the tables at a key are, and how many there may be.
+fn inner_of(key: PlanKey) -> Option<(Inner, usize)> {
+    match key.kind {
+        Kind::Endpoints(most) => Some((Inner::Endpoint, most)),
+        Kind::Requests(most) => Some((Inner::Request, most)),
+        _ => None,
+    }
+}
+
+/// The flaw that makes a fault.
+fn flaw_behind(fault: PlanFault) -> Option<Flaw> {
+    match fault {
+        PlanFault::MissingKey(_) => Some(Flaw::Key),
+        PlanFault::BadValue(_) => Some(Flaw::Value),
+        PlanFault::BadHex(_) => Some(Flaw::Digits),
+        _ => None,
+    }
+}
+
+/// The table within the value in trouble that makes the fault.
+pub(crate) fn trouble_within<'a>(trouble: Trouble<'a>, fault: PlanFault) -> Option<Within<'a>>
+    ensures { IfSome result (λ w. IsTroubleWithin w.inner (table_view w.table.now) w.trouble) }
+{
+    let Trouble::Wrong(key, value) = trouble else {
+        return None;
+    };
+    let (inner, most) = inner_of(key)?;
+    first_within(inner, tables_in(value, most)?, flaw_behind(fault)?)
+}

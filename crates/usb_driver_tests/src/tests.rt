@@ -1,3 +1,0 @@
-//! Records, and whole courses over a simulated bus.
-mod course;
-mod records;
