@@ -5,14 +5,14 @@ ghost use Rattle.usb_diagnosis.specs.Listing.{BeginsWith, IsLed};
 ghost use Rattle.usb_diagnosis.specs.Place.{IsSpotIn};
 ghost use Rattle.usb_diagnosis.specs.Report.{first_line};
 
-use crate::details::{span_of, trouble_lines};
+use crate::details::{push_trouble_lines, span_of};
 use crate::entry::Entry;
 use crate::marks::Layout;
 use crate::place::Spot;
 use crate::report::first_line;
 use crate::span::{Span, push_excerpt};
 use crate::trouble::Trouble;
-use crate::within::trouble_within;
+use crate::within::{Within, trouble_within};
 use std::alloc::{AllocError, Global};
 use usb_plan::PlanFault;
 
@@ -43,6 +43,11 @@ fn width_of(span: Option<Span>) -> usize {
     }
 }
 
+/// The table within the entry that makes the fault.
+fn within_of<'a>(trouble: Option<Trouble<'a>>, fault: PlanFault) -> Option<Within<'a>> {
+    trouble_within(trouble?, fault)
+}
+
 /// The lines on a fault of an entry, and on what of it makes that.
 pub(crate) fn block_on<'a>(
     alloc: Global,
@@ -55,13 +60,12 @@ pub(crate) fn block_on<'a>(
     ensures { IfOk result (λ lines.
         BeginsWith file.now layout.now.text.now fault (string_bytes lines)) }
 {
-    let within = trouble.and_then(|trouble| trouble_within(trouble, fault));
+    let within = within_of(trouble, fault);
     let span = span_of(alloc, layout, entry, trouble, within.as_ref(), fault)?;
     let spot = spot_of(layout, span);
     let first = first_line(alloc, file, spot, fault)?;
     let mut rest = String::new(alloc);
     push_excerpt(alloc, &mut rest, layout.text(), spot, width_of(span))?;
-    let words = trouble_lines(alloc, layout, entry, trouble, within.as_ref(), fault)?;
-    rest.push_str(words.as_str())?;
+    push_trouble_lines(alloc, &mut rest, layout, entry, trouble, within.as_ref(), fault)?;
     joined(first, rest.as_str())
 }

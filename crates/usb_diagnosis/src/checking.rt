@@ -17,6 +17,7 @@ use crate::marks::Layout;
 use crate::others::{Subject, listed};
 use crate::place::{Spot, spot_behind};
 use crate::report::{first_line, place_of, plan_report};
+use crate::shown::push_all;
 use crate::span::push_excerpt;
 use crate::trouble::{Trouble, trouble_of};
 use std::alloc::{AllocError, Global};
@@ -95,8 +96,7 @@ fn garbled(
     let first = first_line(alloc, file, spot, fault)?;
     let mut rest = String::new(alloc);
     push_excerpt(alloc, &mut rest, text, spot, 1)?;
-    let words = format!(in alloc; "  {why}\n")?;
-    rest.push_str(words.as_str())?;
+    push_all(&mut rest, &["  ", why, "\n"])?;
     joined(first, rest.as_str())
 }
 

@@ -1,10 +1,10 @@
 //! The lines on an entry after the first one: which key, what stands there, what is allowed, and
 //! what was meant.
 
-use crate::allowed::push_allowed_at;
+use crate::allowed::{push_allowed_at, push_count};
 use crate::entry::{Entry, array_of, text_at};
 use crate::flaw::{are_hex_digits, is_word};
-use crate::key::{DEVICE, NAME, PATH, PlanKey};
+use crate::key::{Kind, PlanKey};
 use crate::marks::{Anchor, Layout};
 use crate::nearest::nearest;
 use crate::path_slip::{path_slip, push_path_slip};
@@ -63,11 +63,7 @@ fn span_within(
     fault: PlanFault,
 ) -> Option<Span> {
     let within = within?;
-    let inner = match within.trouble {
-        Trouble::Unknown(key) => key,
-        Trouble::Wrong(key, _) => key.name,
-        Trouble::Missing(_) | Trouble::OneTooMany => "",
-    };
+    let inner = within.trouble.name().unwrap_or("");
     let (array, number) = array_of(place)?;
     let table = within.index.saturating_add(1);
     let anchor = layout.within_at(array, number, within.inner.name(), table, inner)?;
@@ -82,12 +78,7 @@ fn span_at_key(
     fault: PlanFault,
 ) -> Option<Span> {
     let trouble = trouble?;
-    let key = match trouble {
-        Trouble::Unknown(key) => key,
-        Trouble::Wrong(key, _) => key.name,
-        Trouble::Missing(_) | Trouble::OneTooMany => return None,
-    };
-    let anchor = key_at(layout, place, key)?;
+    let anchor = key_at(layout, place, trouble.name()?)?;
     Some(marked(layout, anchor, trouble, fault))
 }
 
@@ -133,7 +124,7 @@ pub(crate) fn span_of(
 
 /// Adds the name of an entry, if it has one.
 fn push_name(alloc: Global, out: &mut String, entry: &Entry<'_>) -> Result<(), AllocError> {
-    match entry.text(NAME) {
+    match entry.text("name") {
         None => Ok(()),
         Some(name) => push_between(alloc, out, " \"", name, "\""),
     }
@@ -292,9 +283,9 @@ fn push_slip_line(
 
 /// Adds what is allowed at a key, as far as the fault asks for it.
 fn push_allowed_for(out: &mut String, key: PlanKey, fault: PlanFault) -> Result<(), AllocError> {
-    match (key, fault) {
-        (PATH, PlanFault::PortTaken(_)) => out.push_str("a port where nothing is plugged"),
-        (PATH, PlanFault::PortEmpty(_)) => out.push_str("a port where something is plugged"),
+    match (key.name, fault) {
+        ("path", PlanFault::PortTaken(_)) => out.push_str("a port where nothing is plugged"),
+        ("path", PlanFault::PortEmpty(_)) => out.push_str("a port where something is plugged"),
         _ => push_allowed_at(out, key),
     }
 }
@@ -303,9 +294,9 @@ fn push_allowed_for(out: &mut String, key: PlanKey, fault: PlanFault) -> Result<
 fn push_room(out: &mut String, place: Place) -> Result<(), AllocError> {
     match place {
         Place::Top => out.push_str("no other"),
-        Place::Device(_) => write!(out, "at most {MOST_DEVICES} devices"),
-        Place::Event(_) => write!(out, "at most {MOST_EVENTS} events"),
-        Place::Damage(_) => write!(out, "at most {MOST_DAMAGES} damages"),
+        Place::Device(_) => push_count(out, "at most ", MOST_DEVICES, " devices"),
+        Place::Event(_) => push_count(out, "at most ", MOST_EVENTS, " events"),
+        Place::Damage(_) => push_count(out, "at most ", MOST_DAMAGES, " damages"),
     }
 }
 
@@ -342,7 +333,7 @@ fn push_example(out: &mut String, trouble: Trouble<'_>) -> Result<(), AllocError
     };
     match key.example {
         None => Ok(()),
-        Some(value) => write!(out, "  such as: {} = {value}\n", key.name),
+        Some(value) => push_all(out, &["  such as: ", key.name, " = ", value, "\n"]),
     }
 }
 
@@ -436,7 +427,7 @@ fn push_meant_value(
     let Some(word) = first_other(value, key.words()) else {
         return Ok(());
     };
-    if key == DEVICE {
+    if key.name == "device" && matches!(key.kind, Kind::Text(_)) {
         let names = device_names(alloc, devices)?;
         return push_meant(alloc, out, word, names.as_slice(), "\"");
     }
@@ -495,20 +486,20 @@ fn push_index(out: &mut String, inner: Inner, index: usize) -> Result<(), AllocE
     write!(out, "{}[{index}], ", inner.name())
 }
 
-/// The lines behind the first one on an entry's trouble.
-pub(crate) fn trouble_lines<'a>(
+/// Adds the lines behind the first one on an entry's trouble.
+pub(crate) fn push_trouble_lines<'a>(
     alloc: Global,
+    out: &mut String,
     layout: &Layout<'_>,
     entry: &Entry<'a>,
     trouble: Option<Trouble<'a>>,
     within: Option<&Within<'a>>,
     fault: PlanFault,
-) -> Result<String, AllocError> {
-    let mut lines = String::new(alloc);
+) -> Result<(), AllocError> {
     let Some(trouble) = trouble else {
-        return Ok(lines);
+        return Ok(());
     };
-    push_head(alloc, &mut lines, layout, entry)?;
+    push_head(alloc, out, layout, entry)?;
     let told = match within {
         None => Told {
             table: entry.table(),
@@ -516,7 +507,7 @@ pub(crate) fn trouble_lines<'a>(
             trouble,
         },
         Some(within) => {
-            push_index(&mut lines, within.inner, within.index)?;
+            push_index(out, within.inner, within.index)?;
             Told {
                 table: within.table,
                 keys: within.inner.keys(),
@@ -524,6 +515,5 @@ pub(crate) fn trouble_lines<'a>(
             }
         }
     };
-    push_told(alloc, &mut lines, entry, &told, fault)?;
-    Ok(lines)
+    push_told(alloc, out, entry, &told, fault)
 }

@@ -5,7 +5,9 @@ ghost use Rattle.toml.specs.Data.{get_member};
 ghost use Rattle.toml.specs.View.{view, table_view};
 ghost use Rattle.usb_diagnosis.specs.Key.{key_name};
 
+use crate::entry::value_at;
 use crate::key::{ADDRESS, ENDPOINT_SOURCE, PACKET_TEXTS, PlanKey};
+use crate::trouble::number_at;
 use crate::within::value_of;
 use toml::{Table, Value};
 
@@ -37,10 +39,7 @@ pub(crate) fn endpoint_missing(table: &Table) -> Option<PlanKey>
 
 /// The number at `address`, 0 with none.
 fn address_of(table: &Table) -> i64 {
-    match value_of(table, ADDRESS) {
-        None => 0,
-        Some(value) => value.as_integer().unwrap_or(0),
-    }
+    number_at(Some(table), "address")
 }
 
 /// Whether a value is a table with this number at `address`; without a number there it counts as 0.
@@ -68,7 +67,7 @@ fn data_trouble<'a>(table: &'a Table) -> Option<(PlanKey, &'a Value)>
         }
         return wrong_at(table, PACKET_TEXTS);
     }
-    match value_of(table, ENDPOINT_SOURCE) {
+    match value_at(table, "source") {
         None => None,
         Some(_) => wrong_at(table, PACKET_TEXTS),
     }

@@ -8,8 +8,7 @@ ghost use Rattle.usb_plan.specs.Plan.{values_at};
 ghost use Rattle.usb_diagnosis.specs.Key.{key_name};
 
 use crate::key::{
-    BIT, BYTES, DAMAGE_KEYS, DEVICE_KEYS, DO, HOW, PORTS, PlanKey, SETUP, TOP_KEYS,
-    WIDE_DEVICE_KEYS, WIDE_PORTS, keys_with,
+    DAMAGE_KEYS, DEVICE_KEYS, PORTS, PlanKey, TOP_KEYS, WIDE_DEVICE_KEYS, WIDE_PORTS, keys_with,
 };
 use toml::{Table, Value};
 use usb_plan::{MOST_DAMAGES, MOST_DEVICES, MOST_EVENTS, Place};
@@ -190,14 +189,14 @@ impl<'a> Entry<'a> {
     }
 
     /// The text at a key, where it is one.
-    pub(crate) fn text(&self, key: PlanKey) -> Option<&'a str> {
-        text_at(self.table, key.name)
+    pub(crate) fn text(&self, key: &str) -> Option<&'a str> {
+        text_at(self.table, key)
     }
 
     /// Whether `setup` is that of a request that writes bytes: bit 7 of its first byte is clear, and
     /// wLength, its last two, is not 0 (9.3).
     pub(crate) fn writes_bytes(&self) -> bool {
-        match self.text(SETUP) {
+        match self.text("setup") {
             None => false,
             Some(digits) => {
                 let writes = matches!(digits.as_bytes().first(), Some(b'0'..=b'7'));
@@ -208,9 +207,9 @@ impl<'a> Entry<'a> {
 
     /// Whether the entry has to have the key.
     pub(crate) fn needs(&self, key: PlanKey) -> bool {
-        match key {
-            BIT => self.text(HOW) == Some("flip"),
-            BYTES if self.text(DO) == Some("control") => self.writes_bytes(),
+        match key.name {
+            "bit" => self.text("how") == Some("flip"),
+            "bytes" if self.text("do") == Some("control") => self.writes_bytes(),
             _ => key.example.is_some(),
         }
     }

@@ -11,7 +11,7 @@ use usb_plan::{
 };
 
 /// What stands at a key.
-#[derive(Clone, Copy, PartialEq, Eq)]
+#[derive(Clone, Copy)]
 pub(crate) enum Kind {
     /// A number in this range.
     Number(u64, u64),
@@ -45,8 +45,8 @@ pub(crate) enum Kind {
     Place(&'static str),
 }
 
-/// A key of a plan. No two rows are equal, so `==` tells keys apart.
-#[derive(Clone, Copy, PartialEq, Eq)]
+/// A key of a plan. Those of one entry have different names.
+#[derive(Clone, Copy)]
 pub(crate) struct PlanKey {
     /// The key as a plan spells it.
     pub(crate) name: &'static str,
@@ -112,9 +112,9 @@ pub(crate) const NAME: PlanKey =
     row!("name": Text("a text that is not empty and names no earlier device"),
         such as "\"keyboard\"");
 
-pub(crate) const SPEED: PlanKey = row!("speed": Word(&["full", "low"]), such as "\"low\"");
+const SPEED: PlanKey = row!("speed": Word(&["full", "low"]), such as "\"low\"");
 
-pub(crate) const DESCRIPTOR: PlanKey =
+const DESCRIPTOR: PlanKey =
     row!("descriptor": Hex(255), such as "\"120100020000000834127856000100000001\"");
 
 const CONFIGS: PlanKey =
@@ -148,9 +148,9 @@ const SOURCE: PlanKey = row!("source": Hex(65535));
 
 const HALT_AFTER: PlanKey = row!("halt_after": Number(1, MOST_BEFORE_HALT));
 
-pub(crate) const ENDPOINTS: PlanKey = row!("endpoint": Endpoints(MOST_ENDPOINTS));
+const ENDPOINTS: PlanKey = row!("endpoint": Endpoints(MOST_ENDPOINTS));
 
-pub(crate) const REQUESTS: PlanKey = row!("request": Requests(MOST_REQUESTS));
+const REQUESTS: PlanKey = row!("request": Requests(MOST_REQUESTS));
 
 // Those of a table of `endpoint`, with `halt_after`.
 pub(crate) const ADDRESS: PlanKey =
@@ -226,7 +226,7 @@ pub(crate) const ATTEMPT: PlanKey = row!("attempt": NumberAs(
 
 const PACKET: PlanKey = row!("packet": NumberAs(1, LAST_PACKET, "1, 2 or 3"), such as "1");
 
-pub(crate) const HOW: PlanKey = row!("how": Word(&["lose", "pre", "flip"]), such as "\"lose\"");
+const HOW: PlanKey = row!("how": Word(&["lose", "pre", "flip"]), such as "\"lose\"");
 
 pub(crate) const BIT: PlanKey =
     row!("bit": Number(0, LAST_BIT), also "beside how = \"flip\" alone", such as "0");

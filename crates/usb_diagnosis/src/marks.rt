@@ -191,6 +191,23 @@ fn opening_of(start: &str) -> (Opening, &str)
     }
 }
 
+/// The text behind the front of a value: behind a text, a comment or one byte. None where the value
+/// ends, if this many brackets are open.
+fn after_part(alloc: Global, start: &str, depth: usize) -> Result<Option<&str>, ParseError>
+    ensures { IfOk result (λ part. IfSome part (λ rest. length rest.now ≤ length start.now)) }
+{
+    let byte = first(start);
+    if starts_string(start) {
+        Ok(Some(quoted(alloc, start)?.1))
+    } else if byte == b'#' && depth > 0 {
+        Ok(Some(skip_blank(start, true)))
+    } else if byte == 0 || byte >= 128 || depth == 0 && (byte == b'\n' || byte == b'#') {
+        Ok(None)
+    } else {
+        Ok(Some(skip(start, 1)))
+    }
+}
+
 /// The text behind a comment, an end of a line or a closing bracket that ends a statement.
 fn after_value(alloc: Global, start: &str) -> Result<&str, ParseError>
     ensures { IfOk result (λ rest. length rest.now ≤ length start.now) }
@@ -199,18 +216,11 @@ fn after_value(alloc: Global, start: &str) -> Result<&str, ParseError>
     let mut depth = 0usize;
     'steps: for _ in 0..start.len() {
         let byte = first(rest);
-        if starts_string(rest) {
-            rest = quoted(alloc, rest)?.1;
-        } else if depth == 0 && (byte == b'\n' || byte == b'#') {
-            return Ok(rest);
-        } else if byte == b'#' {
-            rest = skip_blank(rest, true);
-        } else if byte == 0 || byte >= 128 {
-            return Ok(rest);
-        } else {
-            depth = depth_after(depth, byte);
-            rest = skip(rest, 1);
+        match after_part(alloc, rest, depth)? {
+            None => return Ok(rest),
+            Some(after) => rest = after,
         }
+        depth = depth_after(depth, byte);
     }
     Ok(rest)
 }
@@ -280,7 +290,7 @@ fn begins_key(byte: u8) -> bool {
 fn expects_key(expected: bool, depth: usize, byte: u8) -> bool {
     match byte {
         b'{' | b',' => depth == 2,
-        b' ' | b'\t' | b'\r' | b'\n' => expected,
+        b' ' | b'\t' | b'\r' | b'\n' | b'#' => expected,
         _ => false,
     }
 }
@@ -295,9 +305,24 @@ fn begins_value(byte: u8) -> bool {
 fn expects_value(expected: bool, depth: usize, byte: u8) -> bool {
     match byte {
         b'[' | b',' => depth == 1,
-        b' ' | b'\t' | b'\r' | b'\n' => expected,
+        b' ' | b'\t' | b'\r' | b'\n' | b'#' => expected,
         _ => false,
     }
+}
+
+/// Adds a mark.
+fn push_mark(
+    marks: &mut Vec<Mark>,
+    anchor: Anchor,
+    begins: bool,
+    path: Vec<String>,
+) -> Result<(), AllocError> {
+    marks.push(Mark {
+        anchor,
+        begins,
+        path,
+    })?;
+    Ok(())
 }
 
 /// Adds a mark of an entry of an array, or of a key in it.
@@ -313,13 +338,7 @@ fn push_inline(
     if let Some(key) = key {
         push_part(alloc, &mut path, key)?;
     }
-    let begins = key.is_none();
-    marks.push(Mark {
-        anchor,
-        begins,
-        path,
-    })?;
-    Ok(())
+    push_mark(marks, anchor, key.is_none(), path)
 }
 
 /// The first name of a key.
@@ -328,6 +347,25 @@ fn first_name(key: &Key) -> &str {
         None => key.last.as_str(),
         Some(first) => first.as_str(),
     }
+}
+
+/// Adds the mark of the key at the front of a text, in an entry of an array. Returns the text after it.
+fn push_inline_key<'a>(
+    alloc: Global,
+    marks: &mut Vec<Mark>,
+    total: usize,
+    array: &str,
+    start: &'a str,
+) -> Result<&'a str, ParseError>
+    ensures { IfOk result (λ rest. length rest.now ≤ length start.entry.now) }
+{
+    let (key, after) = dotted_key(alloc, start)?;
+    let anchor = Anchor {
+        key: total.saturating_sub(start.len()),
+        value: value_at(total, after),
+    };
+    push_inline(alloc, marks, anchor, array, Some(first_name(&key)))?;
+    Ok(after)
 }
 
 /// Adds the marks of the entries within the value of a key at the top, up to what is no value.
@@ -351,25 +389,16 @@ fn push_entries(
             awaited = false;
         }
         if expected && begins_key(byte) {
-            let (key, after) = dotted_key(alloc, rest)?;
-            let value = value_at(total, after);
-            let anchor = Anchor { key: at, value };
-            push_inline(alloc, marks, anchor, array, Some(first_name(&key)))?;
-            rest = after;
+            rest = push_inline_key(alloc, marks, total, array, rest)?;
             expected = false;
-        } else if starts_string(rest) {
-            rest = quoted(alloc, rest)?.1;
-        } else if depth == 0 && (byte == b'\n' || byte == b'#') {
-            return Ok(());
-        } else if byte == b'#' {
-            rest = skip_blank(rest, true);
-        } else if byte == 0 || byte >= 128 {
-            return Ok(());
         } else {
+            match after_part(alloc, rest, depth)? {
+                None => return Ok(()),
+                Some(after) => rest = after,
+            }
             depth = depth_after(depth, byte);
             expected = expects_key(expected, depth, byte);
             awaited = expects_value(awaited, depth, byte);
-            rest = skip(rest, 1);
         }
     }
     Ok(())
@@ -401,22 +430,18 @@ fn push_statement<'a>(
 ) -> Result<&'a str, ParseError> {
     let (statement, after_key) = read_statement(alloc, start)?;
     let path = path_of(alloc, table.as_slice(), &statement)?;
-    if statement.opening != Opening::Pair {
-        *table = path.clone()?;
-    }
-    let at_top = path.len() == 1;
     let key = total.saturating_sub(start.len());
-    let value = match statement.opening {
-        Opening::Pair => value_at(total, after_key),
-        Opening::Table | Opening::Entry => key,
-    };
-    marks.push(Mark {
-        anchor: Anchor { key, value },
-        begins: statement.opening == Opening::Entry,
-        path,
-    })?;
-    if statement.opening == Opening::Pair && at_top {
-        push_entries(alloc, marks, total, statement.key.last.as_str(), after_key)?;
+    if statement.opening == Opening::Pair {
+        let at_top = path.len() == 1;
+        let value = value_at(total, after_key);
+        push_mark(marks, Anchor { key, value }, false, path)?;
+        if at_top {
+            push_entries(alloc, marks, total, statement.key.last.as_str(), after_key)?;
+        }
+    } else {
+        *table = path.clone()?;
+        let begins = statement.opening == Opening::Entry;
+        push_mark(marks, Anchor { key, value: key }, begins, path)?;
     }
     after_value(alloc, after_key)
 }

@@ -11,12 +11,9 @@ ghost use Rattle.usb_diagnosis.specs.Report.{place_of};
 ghost use Rattle.usb_diagnosis.specs.Trouble.{IsTroubleOf};
 
 use crate::block::block_on;
-use crate::entry::{Entry, values_at};
+use crate::entry::{Entry, value_at, values_at};
 use crate::flaw::Flaw;
-use crate::key::{
-    ATTEMPT, BIT, BYTES, DEVICE, DO, HOW, HUB_DESCRIPTOR, NAME, PATH, PORTS, PlanKey, SETUP, SPEED,
-    WHEN, WIDE_PORTS,
-};
+use crate::key::{DO, PlanKey, SETUP, WHEN};
 use crate::marks::Layout;
 use crate::nearest::nearest;
 use crate::path_slip::is_no_path;
@@ -85,12 +82,12 @@ fn array_name(array: Array) -> &'static str {
     }
 }
 
-/// Whether two troubles are of the same key.
+/// Whether two troubles of an entry are of the same key.
 fn is_same(one: Trouble<'_>, other: Trouble<'_>) -> bool {
     match (one, other) {
-        (Trouble::Missing(key), Trouble::Missing(same)) => key == same,
+        (Trouble::Missing(key), Trouble::Missing(same)) => key.name == same.name,
         (Trouble::Unknown(name), Trouble::Unknown(same)) => name == same,
-        (Trouble::Wrong(key, _), Trouble::Wrong(same, _)) => key == same,
+        (Trouble::Wrong(key, _), Trouble::Wrong(same, _)) => key.name == same.name,
         (Trouble::OneTooMany, Trouble::OneTooMany) => true,
         _ => false,
     }
@@ -106,7 +103,7 @@ fn is_first(subject: &Subject<'_>, place: Place, trouble: Trouble<'_>) -> bool {
 
 /// Whether `setup` is good enough to say whether `bytes` is needed.
 fn has_setup(entry: &Entry<'_>) -> bool {
-    match entry.value(SETUP) {
+    match value_at(entry.table(), "setup") {
         None => false,
         Some(value) => flaw_at(SETUP, value).is_none(),
     }
@@ -114,9 +111,9 @@ fn has_setup(entry: &Entry<'_>) -> bool {
 
 /// Whether an entry that lacks the key has a fault for that: `when` stands in place of `attempt`.
 fn lacks(entry: &Entry<'_>, key: PlanKey) -> bool {
-    match (key, entry.text(DO)) {
-        (BYTES, Some("control")) => has_setup(entry) && entry.needs(key),
-        (ATTEMPT, _) => entry.value(WHEN).is_none(),
+    match (key.name, entry.text("do")) {
+        ("bytes", Some("control")) => has_setup(entry) && entry.needs(key),
+        ("attempt", _) => value_at(entry.table(), "when").is_none(),
         _ => entry.needs(key),
     }
 }
@@ -140,13 +137,13 @@ fn is_bad_path(entry: &Entry<'_>, value: &Value) -> bool {
 /// Whether a value that its key allows by itself is wrong beside the others of the entry, or beside
 /// those of other entries.
 fn is_wrong_beside(entry: &Entry<'_>, key: PlanKey) -> bool {
-    match key {
-        NAME => has_taken_name(entry),
-        HUB_DESCRIPTOR => entry.value(entry.ports_key()).is_none(),
-        PORTS | WIDE_PORTS => entry.text(SPEED) == Some("low") || has_other_class(entry),
-        ATTEMPT => number_at(Some(entry.table()), "attempt") <= last_attempt(entry),
-        BIT => matches!(entry.text(HOW), Some("lose") | Some("pre")),
-        BYTES => entry.text(DO) == Some("control") && has_setup(entry) && has_other_bytes(entry),
+    match key.name {
+        "name" => has_taken_name(entry),
+        "hub_descriptor" => value_at(entry.table(), "ports").is_none(),
+        "ports" => entry.text("speed") == Some("low") || has_other_class(entry),
+        "attempt" => number_at(Some(entry.table()), "attempt") <= last_attempt(entry),
+        "bit" => matches!(entry.text("how"), Some("lose") | Some("pre")),
+        "bytes" => entry.text("do") == Some("control") && has_setup(entry) && has_other_bytes(entry),
         _ => false,
     }
 }
@@ -155,10 +152,11 @@ fn is_wrong_beside(entry: &Entry<'_>, key: PlanKey) -> bool {
 fn fault_beside(entry: &Entry<'_>, key: PlanKey, value: &Value) -> Option<PlanFault>
     ensures { IfSome result (λ fault. place_of fault ≡ Some entry.now.place) }
 {
-    match key {
-        DEVICE if is_unknown_device(entry, value) => Some(PlanFault::UnknownDevice(entry.place())),
-        PATH if is_bad_path(entry, value) => Some(PlanFault::BadPath(entry.place())),
-        _ if is_wrong_beside(entry, key) => Some(PlanFault::BadValue(entry.place())),
+    let place = entry.place();
+    match key.name {
+        "device" if is_unknown_device(entry, value) => Some(PlanFault::UnknownDevice(place)),
+        "path" if is_bad_path(entry, value) => Some(PlanFault::BadPath(place)),
+        _ if is_wrong_beside(entry, key) => Some(PlanFault::BadValue(place)),
         _ => None,
     }
 }
@@ -199,7 +197,7 @@ fn found_at<'a>(entry: &Entry<'a>, key: PlanKey) -> Option<Found<'a>>
 /// Whether the keys of an entry are known: those of an event are if its `do` is a word.
 fn has_known_keys(entry: &Entry<'_>) -> bool {
     match entry.place() {
-        Place::Event(_) => match entry.value(DO) {
+        Place::Event(_) => match value_at(entry.table(), "do") {
             None => false,
             Some(value) => flaw_at(DO, value).is_none(),
         },
@@ -312,7 +310,7 @@ fn push_far<'a>(
 
 /// Whether the key is `when`, where that has a fault of its own.
 fn is_when(entry: &Entry<'_>, name: &str) -> bool {
-    name == WHEN.name && takes_when(entry)
+    name == "when" && takes_when(entry)
 }
 
 /// Whether the name is near to that of a key that the entry lacks.

@@ -6,35 +6,27 @@ ghost use Rattle.toml.specs.View.{view, table_view};
 ghost use Rattle.usb_diagnosis.specs.Key.{key_name};
 
 use crate::endpoints::{missing_at, wrong_at};
-use crate::entry::text_at;
+use crate::entry::{text_at, value_at};
 use crate::key::{ANSWER, CODE, KEPT, LENGTH, PlanKey, REFUSE, TYPE};
-use crate::within::value_of;
+use crate::trouble::number_at;
 use toml::{Table, Value};
-
-/// The number at a key, 0 with none.
-fn number_of(table: &Table, key: PlanKey) -> i64 {
-    match value_of(table, key) {
-        None => 0,
-        Some(value) => value.as_integer().unwrap_or(0),
-    }
-}
 
 /// Whether the request reads: bit 7 of its type is set (9.3.1).
 fn reads(table: &Table) -> bool {
-    (128..=255).contains(&number_of(table, TYPE))
+    (128..=255).contains(&number_at(Some(table), "type"))
 }
 
 /// Whether the device may have the request for itself: one of a class or a vendor, or GET_DESCRIPTOR of
 /// an interface (9.3.1, 9.4.3).
 fn is_own(table: &Table) -> bool {
-    let kind = number_of(table, TYPE) / 32 % 4;
-    let is_of_interface = number_of(table, TYPE) == 0x81 && number_of(table, CODE) == 6;
-    kind == 1 || kind == 2 || is_of_interface
+    let request_type = number_at(Some(table), "type");
+    let kind = request_type / 32 % 4;
+    kind == 1 || kind == 2 || request_type == 0x81 && number_at(Some(table), "request") == 6
 }
 
 /// Whether the device keeps what control writes bring, and gives that; None if `kept` is no flag.
 fn kept_of(table: &Table) -> Option<bool> {
-    match value_of(table, KEPT) {
+    match value_at(table, "kept") {
         None => Some(false),
         Some(value) => value.as_bool(),
     }
@@ -42,12 +34,12 @@ fn kept_of(table: &Table) -> Option<bool> {
 
 /// Whether the request may give something: it reads, and is not refused.
 fn may_give(table: &Table) -> bool {
-    reads(table) && value_of(table, REFUSE).is_none()
+    reads(table) && value_at(table, "refuse").is_none()
 }
 
 /// Whether the request has to have an answer: nothing else is given, and `length` is not wrong there.
 fn needs_answer(table: &Table) -> bool {
-    may_give(table) && kept_of(table) == Some(false) && value_of(table, LENGTH).is_none()
+    may_give(table) && kept_of(table) == Some(false) && value_at(table, "length").is_none()
 }
 
 /// The key that a table lacks. A read that is not refused has to have something to give.
@@ -70,10 +62,10 @@ pub(crate) fn request_missing(table: &Table) -> Option<PlanKey>
 /// A key that the table may not have, if it is there. A request that reads has no `length`, and is not
 /// refused at its end. Only one that reads and is not refused gives something: bytes, or what is kept.
 fn misplaced(table: &Table) -> Option<PlanKey> {
-    if reads(table) && value_of(table, LENGTH).is_some() {
+    if reads(table) && value_at(table, "length").is_some() {
         return Some(LENGTH);
     }
-    if reads(table) && text_at(table, REFUSE.name) == Some("status") {
+    if reads(table) && text_at(table, "refuse") == Some("status") {
         return Some(REFUSE);
     }
     match (kept_of(table) == Some(true), may_give(table)) {

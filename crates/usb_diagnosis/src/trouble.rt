@@ -12,8 +12,7 @@ ghost use Rattle.usb_diagnosis.specs.Trouble.{IsTroubleOf};
 use crate::entry::{Entry, text_at};
 use crate::flaw::{Flaw, are_hex_digits, flaw_of};
 use crate::key::{
-    ATTEMPT, BIT, BYTES, DESCRIPTOR, DEVICE, DO, HUB_DESCRIPTOR, Kind, NAME, PATH, PlanKey, SETUP,
-    SPEED, WHEN,
+    ATTEMPT, BIT, BYTES, DEVICE, HUB_DESCRIPTOR, Kind, NAME, PATH, PlanKey, WHEN,
 };
 use crate::within::{Inner, tables_flaw};
 use toml::{Table, Value};
@@ -30,6 +29,17 @@ pub(crate) enum Trouble<'a> {
     Wrong(PlanKey, &'a Value),
     /// The entry is one more than a plan may have.
     OneTooMany,
+}
+
+impl<'a> Trouble<'a> {
+    /// The name of the key that is there, if one is.
+    pub(crate) fn name(self) -> Option<&'a str> {
+        match self {
+            Trouble::Unknown(name) => Some(name),
+            Trouble::Wrong(key, _) => Some(key.name),
+            Trouble::Missing(_) | Trouble::OneTooMany => None,
+        }
+    }
 }
 
 /// How the value at a key of the entry fails what is allowed there.
@@ -131,7 +141,7 @@ fn has_hub_class(digits: &str) -> bool {
 
 /// Whether the device's descriptor can be read, and has another class than that of hubs.
 pub(crate) fn has_other_class(entry: &Entry<'_>) -> bool {
-    match entry.text(DESCRIPTOR) {
+    match entry.text("descriptor") {
         None => false,
         Some(digits) => are_hex_digits(digits) && !has_hub_class(digits),
     }
@@ -139,7 +149,7 @@ pub(crate) fn has_other_class(entry: &Entry<'_>) -> bool {
 
 /// Whether the entry's name is empty or one of an earlier device.
 pub(crate) fn has_taken_name(entry: &Entry<'_>) -> bool {
-    match entry.text(NAME) {
+    match entry.text("name") {
         None => false,
         Some(name) => is_taken_name(entry, name),
     }
@@ -156,7 +166,7 @@ fn device_trouble<'a>(entry: &Entry<'a>) -> Option<Trouble<'a>>
     if entry.value(ports).is_none() {
         return wrong_at(entry, HUB_DESCRIPTOR);
     }
-    if entry.text(SPEED) == Some("low") || has_other_class(entry) {
+    if entry.text("speed") == Some("low") || has_other_class(entry) {
         return wrong_at(entry, ports);
     }
     None
@@ -196,7 +206,7 @@ fn damage_trouble<'a>(entry: &Entry<'a>) -> Option<Trouble<'a>>
 
 /// The wLength of good setup data, 0 of other ones (9.3).
 fn length_of(entry: &Entry<'_>) -> usize {
-    let Some(digits) = entry.text(SETUP) else {
+    let Some(digits) = entry.text("setup") else {
         return 0;
     };
     let mut setup = [0u8; 8];
@@ -209,7 +219,7 @@ fn length_of(entry: &Entry<'_>) -> usize {
 /// Whether an event has bytes that its request does not take: not wLength of them, or some where it
 /// reads or has none.
 pub(crate) fn has_other_bytes(entry: &Entry<'_>) -> bool {
-    match entry.text(BYTES) {
+    match entry.text("bytes") {
         None => false,
         Some(digits) => !entry.writes_bytes() || digits.len() / 2 != length_of(entry),
     }
@@ -220,7 +230,7 @@ pub(crate) fn has_other_bytes(entry: &Entry<'_>) -> bool {
 fn event_trouble<'a>(entry: &Entry<'a>) -> Option<Trouble<'a>>
     ensures { IfSome result (IsTroubleOf entry.now.place (table_view entry.now.table.now)) }
 {
-    if entry.text(DO) == Some("control") && !entry.is_one_too_many() {
+    if entry.text("do") == Some("control") && !entry.is_one_too_many() {
         return wrong_at(entry, BYTES);
     }
     None

@@ -11,7 +11,7 @@ ghost use Rattle.usb_diagnosis.specs.Trouble.{IsTroubleWithin, inner_keys};
 use crate::endpoints::{endpoint_missing, endpoint_trouble};
 use crate::entry::value_at;
 use crate::flaw::{Flaw, are_tables, flaw_of};
-use crate::key::{ENDPOINT_KEYS, ENDPOINTS, Kind, PlanKey, REQUEST_KEYS, REQUESTS};
+use crate::key::{ENDPOINT_KEYS, Kind, PlanKey, REQUEST_KEYS};
 use crate::requests::{request_missing, request_trouble};
 use crate::trouble::{Trouble, is_known};
 use toml::{Table, Value};
@@ -40,8 +40,8 @@ impl Inner {
     /// The name of the device's key at which such tables are.
     pub(crate) fn name(self) -> &'static str {
         match self {
-            Inner::Endpoint => ENDPOINTS.name,
-            Inner::Request => REQUESTS.name,
+            Inner::Endpoint => "endpoint",
+            Inner::Request => "request",
         }
     }
 }
