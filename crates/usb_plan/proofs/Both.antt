@@ -1,5 +1,5 @@
 -- Two parts of an entry.
-use Rattle.std.proofs.Common.{◌≡◌, Result, Ok, Err, IsErrAnd, ap, sym, ◌∙◌}
+use Rattle.std.proofs.Common.{◌≡◌, Result, Ok, Err, IfErr, IsErrAnd, ap, subst, sym, ◌∙◌}
 use Rattle.usb_plan.specs.declared.entry_fault.EntryFault.{EntryFault}
 use Rattle.usb_plan.specs.{both}
 
@@ -24,3 +24,9 @@ pub handed_on : {A E : Type 0} (r total : Result A E) (why : E) → IsErrAnd r (
     → total ≡ Err why → r ≡ total
 handed_on (Ok x) total why same is = absurd same
 handed_on (Err e) total why same is = ap Err same ∙ sym is
+
+-- what holds of an error that `?` hands on
+pub error_handed : {A E : Type 0} (r : Result A E) (P : E → Type 0) (why : E)
+    → IsErrAnd r (λ e. e ≡ why) → P why → IfErr r P
+error_handed (Ok x) P why same p = tt
+error_handed (Err e) P why same p = subst P (sym same) p

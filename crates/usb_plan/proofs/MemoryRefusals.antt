@@ -196,8 +196,9 @@ pub device_unless : (identity i : Result Identity EntryFault)
 unfolding device_with
 device_unless identity i texts c quirks bulk b tables t keys room identity_is texts_is bulk_is
     tables_is =
-    then_unless _ _ _ (both_unless identity i _ _ identity_is (both_unless texts c _ _ texts_is
-    (second_unless quirks _ _ (both_unless bulk b _ _ bulk_is (first_unless tables t _ tables_is)))))
+    then_unless _ _ _ (both_unless identity i _ _ identity_is
+    (both_unless texts c _ _ texts_is (second_unless quirks _ _
+    (both_unless bulk b _ _ bulk_is (first_unless tables t _ tables_is)))))
 
 items-memory : {A : Type 0} (item : Result A EntryFault)
     → with_item {A = A} (Err Memory) item ≡ Err Memory

@@ -22,8 +22,8 @@ use Rattle.usb_plan.specs.{device_in, has_numbers_of, read_path, free_path, take
 use Rattle.usb_plan.specs.{action_of}
 use Rattle.usb_plan.specs.{EventValues, event_values, device_index_at, bytes_at, packets_at}
 use Rattle.usb_plan.specs.{plug_of, unplug_of, send_of, receive_of, clear_of, control_of, look_of}
-use Rattle.usb_plan.specs.{asked, control, request_at, after_at, event_room, interrupt_of, any_endpoint}
-use Rattle.usb_plan.specs.{out_endpoint, in_endpoint, in_endpoint_at}
+use Rattle.usb_plan.specs.{asked, control, request_at, after_at, event_room, interrupt_of}
+use Rattle.usb_plan.specs.{any_endpoint, out_endpoint, in_endpoint, in_endpoint_at}
 use Rattle.usb_plan.specs.{send_with, receive_with, clear_with, interface_of, byte_at}
 use Rattle.usb_plan.specs.{show_of}
 use Rattle.usb_plan.specs.declared.action.Request.{Request}

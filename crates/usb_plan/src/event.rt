@@ -1,7 +1,6 @@
 //! The `event` entries of the document.
 
-ghost use Rattle.std.specs.Prelude.{◌≡◌, ◌≤◌, IfOk, option_map, map, Ok, [], true, length};
-ghost use Rattle.std.specs.Result.{result_map_both};
+ghost use Rattle.std.specs.Prelude.{◌≡◌, ◌≢◌, ◌≤◌, IfErr, IfOk, option_map, map, Err, Ok, [], true, length};
 ghost use Rattle.usb_plan.specs.declared.fault.PlanFault.TheVariants.{Memory as NoMemory};
 ghost use Rattle.toml.specs.View.{view, table_view};
 ghost use Rattle.usb_world.specs.Plans.{events_fit};
@@ -104,10 +103,11 @@ fn push_events(
 ) -> Result<(), PlanFault>
     requires new { done.now ≡ [] }
     requires bare { scene.now.plugged ≡ [] }
-    ensures value { EqualUnless NoMemory (result_map_both (λ u. done.new) (λ k. k) result)
-        (events_from scene.old.roots scene.old.wide scene.old.devices scene.old.ports 1 []
-        (map view values.now)) }
-    ensures fit { IfOk result (λ u.
+    ensures events { IfOk result (λ _. events_from scene.old.roots scene.old.wide scene.old.devices
+        scene.old.ports 1 [] (map view values.now) ≡ Ok done.new) }
+    ensures fault { IfErr result (λ e. e ≢ NoMemory → events_from scene.old.roots scene.old.wide
+        scene.old.devices scene.old.ports 1 [] (map view values.now) ≡ Err e) }
+    ensures fit { IfOk result (λ _.
         events_fit scene.old.roots scene.old.devices [] done.new ≡ true) }
 {
     for (i, value) in values.iter().enumerate() {
