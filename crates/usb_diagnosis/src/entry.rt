@@ -1,15 +1,13 @@
 //! The entry of a plan's document in which a fault stands.
 
-ghost use Rattle.std.specs.Prelude.{◌≡◌, codes, map, option_map, IfSome};
+ghost use Rattle.std.specs.Prelude.{◌≡◌, map, option_map, IfSome};
 ghost use Rattle.toml.specs.Data.{get_member};
 ghost use Rattle.toml.specs.View.{view, table_view};
 ghost use Rattle.usb_diagnosis.specs.Entry.{IsEntry, array_place, entry_keys, table_numbered, value_flag, value_text, wide_in};
 ghost use Rattle.usb_plan.specs.Plan.{values_at};
 ghost use Rattle.usb_diagnosis.specs.Key.{key_name};
 
-use crate::key::{
-    DAMAGE_KEYS, DEVICE_KEYS, PORTS, PlanKey, TOP_KEYS, WIDE_DEVICE_KEYS, WIDE_PORTS, keys_with,
-};
+use crate::key::{DAMAGE_KEYS, DEVICE_KEYS, PlanKey, TOP_KEYS, WIDE_DEVICE_KEYS, keys_with};
 use toml::{Table, Value};
 use usb_plan::{MOST_DAMAGES, MOST_DEVICES, MOST_EVENTS, Place};
 
@@ -157,13 +155,6 @@ impl<'a> Entry<'a> {
         ensures { result ≡ wide_in (table_view self.now.document.now) }
     {
         flag_at(self.document, "wide_hubs")
-    }
-
-    /// The key for the number of a hub's ports.
-    pub(crate) fn ports_key(&self) -> PlanKey
-        ensures { key_name result ≡ codes "ports" }
-    {
-        if self.wide_hubs() { WIDE_PORTS } else { PORTS }
     }
 
     /// The keys that have a meaning in the entry.

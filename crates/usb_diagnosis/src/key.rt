@@ -108,7 +108,7 @@ const EVENTS: PlanKey = row!("event": Tables);
 const DAMAGES: PlanKey = row!("damage": Tables);
 
 // Those of a device. `ports` has another range in a plan with wide hubs.
-pub(crate) const NAME: PlanKey =
+const NAME: PlanKey =
     row!("name": Text("a text that is not empty and names no earlier device"),
         such as "\"keyboard\"");
 
@@ -124,12 +124,12 @@ const STRINGS: PlanKey = row!("strings": Hexes(256, 255));
 
 const OF_HUBS: &str = "at full speed, where the descriptor's fifth byte is 09";
 
-pub(crate) const PORTS: PlanKey = row!("ports": Number(1, MOST_PORTS as u64), also OF_HUBS);
+const PORTS: PlanKey = row!("ports": Number(1, MOST_PORTS as u64), also OF_HUBS);
 
-pub(crate) const WIDE_PORTS: PlanKey =
+const WIDE_PORTS: PlanKey =
     row!("ports": Number(1, MOST_WIDE_PORTS as u64), also OF_HUBS);
 
-pub(crate) const HUB_DESCRIPTOR: PlanKey =
+const HUB_DESCRIPTOR: PlanKey =
     row!("hub_descriptor": Hex(255), also "of a hub with as many `ports`");
 
 const SELF_POWERED: PlanKey = row!("self_powered": Flag);
@@ -153,36 +153,36 @@ const ENDPOINTS: PlanKey = row!("endpoint": Endpoints(MOST_ENDPOINTS));
 const REQUESTS: PlanKey = row!("request": Requests(MOST_REQUESTS));
 
 // Those of a table of `endpoint`, with `halt_after`.
-pub(crate) const ADDRESS: PlanKey =
+const ADDRESS: PlanKey =
     row!("address": Address, also "not that of an earlier table", such as "0x81");
 
-pub(crate) const ENDPOINT_SOURCE: PlanKey = row!("source": Hex(65535), also "at an IN endpoint");
+const ENDPOINT_SOURCE: PlanKey = row!("source": Hex(65535), also "at an IN endpoint");
 
-pub(crate) const PACKET_TEXTS: PlanKey =
+const PACKET_TEXTS: PlanKey =
     row!("packets": Hexes(1000, 64), also "at an IN endpoint without `source`");
 
 const ENDPOINT_NAKS: PlanKey = row!("naks": Number(0, MOST_ENDPOINT_NAKS));
 
 // Those of a table of `request`.
-pub(crate) const TYPE: PlanKey =
+const TYPE: PlanKey =
     row!("type": Number(0, 255), also "of a class or a vendor, or 129 beside request = 6",
         such as "0x21");
 
-pub(crate) const CODE: PlanKey = row!("request": Number(0, 255), such as "9");
+const CODE: PlanKey = row!("request": Number(0, 255), such as "9");
 
 const VALUE: PlanKey = row!("value": Number(0, 65535));
 
 const INDEX: PlanKey = row!("index": Number(0, 65535));
 
-pub(crate) const LENGTH: PlanKey = row!("length": Number(0, 65535), also "of a write");
+const LENGTH: PlanKey = row!("length": Number(0, 65535), also "of a write");
 
-pub(crate) const ANSWER: PlanKey =
+const ANSWER: PlanKey =
     row!("answer": Hex(65535), also "of a read without `kept` and `refuse`", such as "\"00\"");
 
-pub(crate) const KEPT: PlanKey =
+const KEPT: PlanKey =
     row!("kept": Flag, also "true only of a read without `answer` and `refuse`");
 
-pub(crate) const REFUSE: PlanKey =
+const REFUSE: PlanKey =
     row!("refuse": Word(&["data", "status"]), also "\"status\" of a write alone");
 
 // Those of an event. What `endpoint` allows goes by `do`.
@@ -193,13 +193,13 @@ pub(crate) const DO: PlanKey = row!("do": Word(&[
 
 const AFTER: PlanKey = row!("after": Number(0, LONGEST_WAIT));
 
-pub(crate) const PATH: PlanKey =
+const PATH: PlanKey =
     row!("path": Text("the numbers of ports from a root port on, joined by dots"), such as "\"1\"");
 
-pub(crate) const DEVICE: PlanKey =
+const DEVICE: PlanKey =
     row!("device": Text("the name of a device of the plan"), such as "\"keyboard\"");
 
-pub(crate) const BYTES: PlanKey = row!("bytes": AnyHex, such as "\"0102\"");
+const BYTES: PlanKey = row!("bytes": AnyHex, such as "\"0102\"");
 
 const PACKETS: PlanKey = row!("packets": Number(0, MOST_PACKETS), such as "1");
 
@@ -220,7 +220,7 @@ const SETTING: PlanKey = row!("setting": Number(0, 255), such as "1");
 const SAID: PlanKey = row!("said": Flag);
 
 // Those of a damage.
-pub(crate) const ATTEMPT: PlanKey = row!("attempt": NumberAs(
+const ATTEMPT: PlanKey = row!("attempt": NumberAs(
     1, LAST_ATTEMPT, "a number above 0 and above that of the damage before it"
 ), such as "1");
 
@@ -228,7 +228,7 @@ const PACKET: PlanKey = row!("packet": NumberAs(1, LAST_PACKET, "1, 2 or 3"), su
 
 const HOW: PlanKey = row!("how": Word(&["lose", "pre", "flip"]), such as "\"lose\"");
 
-pub(crate) const BIT: PlanKey =
+const BIT: PlanKey =
     row!("bit": Number(0, LAST_BIT), also "beside how = \"flip\" alone", such as "0");
 
 // The key that stands in a plan for `usbplan far` alone.

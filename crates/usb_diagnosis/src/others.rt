@@ -13,13 +13,13 @@ ghost use Rattle.usb_diagnosis.specs.Trouble.{IsTroubleOf};
 use crate::block::block_on;
 use crate::entry::{Entry, value_at, values_at};
 use crate::flaw::Flaw;
-use crate::key::{DO, PlanKey, SETUP, WHEN};
+use crate::key::{DO, PlanKey, SETUP};
 use crate::marks::Layout;
 use crate::nearest::nearest;
 use crate::path_slip::is_no_path;
 use crate::trouble::{
     Trouble, flaw_at, has_other_bytes, has_other_class, has_taken_name, is_known, is_named,
-    last_attempt, number_at, wrong_at,
+    last_attempt, number_at, when_at,
 };
 use std::alloc::{AllocError, Global};
 use toml::{Table, Value};
@@ -222,7 +222,7 @@ fn found_far<'a>(entry: &Entry<'a>) -> Option<Found<'a>>
     if !takes_when(entry) {
         return None;
     }
-    let trouble = wrong_at(entry, WHEN)?;
+    let trouble = when_at(entry)?;
     Some(Found {
         fault: PlanFault::OnlyFar(entry.place()),
         trouble,

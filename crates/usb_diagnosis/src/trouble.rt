@@ -9,11 +9,9 @@ ghost use Rattle.usb_diagnosis.specs.Entry.{entry_keys};
 ghost use Rattle.usb_diagnosis.specs.Key.{key_name};
 ghost use Rattle.usb_diagnosis.specs.Trouble.{IsTroubleOf};
 
-use crate::entry::{Entry, text_at};
+use crate::entry::{Entry, text_at, value_at};
 use crate::flaw::{Flaw, are_hex_digits, flaw_of};
-use crate::key::{
-    ATTEMPT, BIT, BYTES, DEVICE, HUB_DESCRIPTOR, Kind, NAME, PATH, PlanKey, WHEN,
-};
+use crate::key::{Kind, PlanKey, WHEN};
 use crate::within::{Inner, tables_flaw};
 use toml::{Table, Value};
 use usb_plan::{Place, PlanFault};
@@ -65,12 +63,25 @@ fn flawed<'a>(entry: &Entry<'a>, flaw: Flaw) -> Option<Trouble<'a>>
     None
 }
 
-/// What is wrong with the value at the key, if one stands there.
-pub(crate) fn wrong_at<'a>(entry: &Entry<'a>, key: PlanKey) -> Option<Trouble<'a>>
+/// The key of this name, if the entry may have it, and the value there, which is wrong.
+fn wrong_at<'a>(entry: &Entry<'a>, name: &str) -> Option<Trouble<'a>>
     ensures { IfSome result (IsTroubleOf entry.now.place (table_view entry.now.table.now)) }
 {
-    let value = entry.value(key)?;
-    Some(Trouble::Wrong(key, value))
+    for key in entry.keys() {
+        if key.name == name {
+            let value = entry.value(*key)?;
+            return Some(Trouble::Wrong(*key, value));
+        }
+    }
+    None
+}
+
+/// The key `when`, if it is there, and its value.
+pub(crate) fn when_at<'a>(entry: &Entry<'a>) -> Option<Trouble<'a>>
+    ensures { IfSome result (IsTroubleOf entry.now.place (table_view entry.now.table.now)) }
+{
+    let value = entry.value(WHEN)?;
+    Some(Trouble::Wrong(WHEN, value))
 }
 
 /// Whether the key has the name.
@@ -160,14 +171,13 @@ fn device_trouble<'a>(entry: &Entry<'a>) -> Option<Trouble<'a>>
     ensures { IfSome result (IsTroubleOf entry.now.place (table_view entry.now.table.now)) }
 {
     if has_taken_name(entry) {
-        return wrong_at(entry, NAME);
+        return wrong_at(entry, "name");
     }
-    let ports = entry.ports_key();
-    if entry.value(ports).is_none() {
-        return wrong_at(entry, HUB_DESCRIPTOR);
+    if value_at(entry.table(), "ports").is_none() {
+        return wrong_at(entry, "hub_descriptor");
     }
     if entry.text("speed") == Some("low") || has_other_class(entry) {
-        return wrong_at(entry, ports);
+        return wrong_at(entry, "ports");
     }
     None
 }
@@ -196,10 +206,10 @@ fn damage_trouble<'a>(entry: &Entry<'a>) -> Option<Trouble<'a>>
     ensures { IfSome result (IsTroubleOf entry.now.place (table_view entry.now.table.now)) }
 {
     if number_at(Some(entry.table()), "attempt") <= last_attempt(entry) {
-        return wrong_at(entry, ATTEMPT);
+        return wrong_at(entry, "attempt");
     }
-    if !entry.needs(BIT) {
-        return wrong_at(entry, BIT);
+    if entry.text("how") != Some("flip") {
+        return wrong_at(entry, "bit");
     }
     None
 }
@@ -231,7 +241,7 @@ fn event_trouble<'a>(entry: &Entry<'a>) -> Option<Trouble<'a>>
     ensures { IfSome result (IsTroubleOf entry.now.place (table_view entry.now.table.now)) }
 {
     if entry.text("do") == Some("control") && !entry.is_one_too_many() {
-        return wrong_at(entry, BYTES);
+        return wrong_at(entry, "bytes");
     }
     None
 }
@@ -264,7 +274,7 @@ fn bad_value<'a>(entry: &Entry<'a>) -> Option<Trouble<'a>>
     if entry.is_one_too_many() {
         return Some(Trouble::OneTooMany);
     }
-    wrong_at(entry, HUB_DESCRIPTOR)
+    wrong_at(entry, "hub_descriptor")
 }
 
 /// What of the entry makes the fault that is told of it.
@@ -272,16 +282,16 @@ pub(crate) fn trouble_of<'a>(entry: &Entry<'a>, fault: PlanFault) -> Option<Trou
     ensures { IfSome result (IsTroubleOf entry.now.place (table_view entry.now.table.now)) }
 {
     match fault {
-        PlanFault::OnlyFar(_) => wrong_at(entry, WHEN),
+        PlanFault::OnlyFar(_) => when_at(entry),
         PlanFault::MissingKey(_) => match missing_key(entry) {
             None => flawed(entry, Flaw::Key),
             Some(key) => Some(Trouble::Missing(key)),
         },
         PlanFault::BadValue(_) => bad_value(entry),
         PlanFault::BadHex(_) => flawed(entry, Flaw::Digits),
-        PlanFault::UnknownDevice(_) => wrong_at(entry, DEVICE),
+        PlanFault::UnknownDevice(_) => wrong_at(entry, "device"),
         PlanFault::BadPath(_) | PlanFault::PortTaken(_) | PlanFault::PortEmpty(_) => {
-            wrong_at(entry, PATH)
+            wrong_at(entry, "path")
         }
         PlanFault::Syntax | PlanFault::Memory => None,
     }

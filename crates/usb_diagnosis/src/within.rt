@@ -8,11 +8,11 @@ ghost use Rattle.toml.specs.View.{view, table_view};
 ghost use Rattle.usb_diagnosis.specs.Key.{key_name};
 ghost use Rattle.usb_diagnosis.specs.Trouble.{IsTroubleWithin, inner_keys};
 
-use crate::endpoints::{endpoint_missing, endpoint_trouble};
+use crate::endpoints::endpoint_trouble;
 use crate::entry::value_at;
 use crate::flaw::{Flaw, are_tables, flaw_of};
 use crate::key::{ENDPOINT_KEYS, Kind, PlanKey, REQUEST_KEYS};
-use crate::requests::{request_missing, request_trouble};
+use crate::requests::{needs_answer, request_trouble};
 use crate::trouble::{Trouble, is_known};
 use toml::{Table, Value};
 use usb_plan::PlanFault;
@@ -57,7 +57,7 @@ pub(crate) struct Within<'a> {
 }
 
 /// The value at a key of a table.
-pub(crate) fn value_of<'a>(table: &'a Table, key: PlanKey) -> Option<&'a Value>
+fn value_of<'a>(table: &'a Table, key: PlanKey) -> Option<&'a Value>
     ensures { option_map (λ v. view v.now) result
         ≡ get_member (key_name key) (table_view table.now) }
 {
@@ -91,30 +91,48 @@ fn unknown_key<'a>(inner: Inner, table: &'a Table) -> Option<&'a str>
     None
 }
 
+/// Whether a table has to have the key of this name.
+fn needs(inner: Inner, table: &Table, name: &str) -> bool {
+    match (inner, name) {
+        (Inner::Endpoint, "address") => true,
+        (Inner::Request, "type") | (Inner::Request, "request") => true,
+        (Inner::Request, "answer") => needs_answer(table),
+        _ => false,
+    }
+}
+
 /// The key that a table lacks.
 fn missing_key(inner: Inner, table: &Table) -> Option<PlanKey>
     ensures { IfSome result (λ key. get_member (key_name key) (table_view table.now) ≡ None) }
 {
-    match inner {
-        Inner::Endpoint => endpoint_missing(table),
-        Inner::Request => request_missing(table),
+    for key in inner.keys() {
+        if needs(inner, table, key.name) && value_of(table, *key).is_none() {
+            return Some(*key);
+        }
     }
+    None
 }
 
-/// The value that is wrong of a table whose keys each have a value that they allow by themselves,
-/// beside the tables before it.
-fn wrong_beside<'a>(
-    inner: Inner,
-    table: &'a Table,
-    earlier: &[Value],
-) -> Option<(PlanKey, &'a Value)>
-    ensures { IfSome result (λ wrong.
-        get_member (key_name wrong.0) (table_view table.now) ≡ Some (view wrong.1.now)) }
-{
+/// The name of the key whose value is wrong, if it is there, in a table whose keys each have a value
+/// that they allow by themselves, beside the tables before it.
+fn wrong_beside(inner: Inner, table: &Table, earlier: &[Value]) -> Option<&'static str> {
     match inner {
         Inner::Endpoint => endpoint_trouble(table, earlier),
         Inner::Request => request_trouble(table),
     }
+}
+
+/// The key of this name and its value, if it is there.
+fn wrong_at<'a>(inner: Inner, table: &'a Table, name: &str) -> Option<Trouble<'a>>
+    ensures { IfSome result (IsTroubleWithin inner (table_view table.now)) }
+{
+    for key in inner.keys() {
+        if key.name == name {
+            let value = value_of(table, *key)?;
+            return Some(Trouble::Wrong(*key, value));
+        }
+    }
+    None
 }
 
 /// Why a table has a bad value, beside the tables before it.
@@ -127,8 +145,7 @@ fn bad_value<'a>(inner: Inner, table: &'a Table, earlier: &[Value]) -> Option<Tr
     if let Some(name) = unknown_key(inner, table) {
         return Some(Trouble::Unknown(name));
     }
-    let (key, value) = wrong_beside(inner, table, earlier)?;
-    Some(Trouble::Wrong(key, value))
+    wrong_at(inner, table, wrong_beside(inner, table, earlier)?)
 }
 
 /// The key that a table lacks, as its trouble.
