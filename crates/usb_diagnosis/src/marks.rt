@@ -357,7 +357,7 @@ fn push_inline_key<'a>(
     array: &str,
     start: &'a str,
 ) -> Result<&'a str, ParseError>
-    ensures { IfOk result (λ rest. length rest.now ≤ length start.entry.now) }
+    ensures { IfOk result (λ rest. length rest.now ≤ length start.now) }
 {
     let (key, after) = dotted_key(alloc, start)?;
     let anchor = Anchor {
