@@ -1,13 +1,8 @@
 //! Calls of a simulated bus: `bus ..`.
-ghost use Rattle.std.specs.Prelude.{IfOk};
 ghost use Rattle.usb_bus.specs.Rows.{IsDestination};
 
-use crate::words::{
-    CallFault, Told, add, add_debug, add_digits, behind, bytes, endpoint, feature, path, put,
-    put_debug, setup_data, small, speed, toggle,
-};
+use crate::call::Call;
 use arrayvec::ArrayVec;
-use std::alloc::{AllocError, Global};
 use usb_bus::{Attempt, Bus, BusFault, Destination, Outcome};
 use usb_packet::{Speed, Toggle};
 use usb_request::feature::{
@@ -15,185 +10,156 @@ use usb_request::feature::{
 };
 use usb_sim::{Ask, EndpointNumber, SimBus, Trace};
 
-/// Makes a call of a bus, and adds what it answers.
-pub(crate) fn play<T: Trace>(
-    alloc: Global,
-    bus: &mut SimBus<T>,
-    words: &[&str],
-    text: &str,
-    out: &mut String,
-) -> Told {
-    match words {
-        ["event"] => tell_event(out, bus.apply_next_event())?,
-        ["line", ..] => tell_done(out, bus.put_line(behind(text, 2).as_bytes()))?,
-        ["counts"] => tell_counts(out, bus)?,
-        ["attempts"] => add(out, &bus.attempts())?,
-        ["registers", at] => add_debug(out, &bus.registers(&path(at)?))?,
-        ["sink", at, number] => {
-            let number = EndpointNumber::new(small(number)? % 16);
-            add_debug(out, &bus.sink(&path(at)?, number))?;
+/// Makes a call of a bus.
+pub(crate) fn play<T: Trace>(bus: &mut SimBus<T>, call: &mut Call<'_>) {
+    match call.word(1) {
+        "event" => tell_event(call, bus.apply_next_event()),
+        "line" => {
+            let done = bus.put_line(call.behind(2).as_bytes());
+            tell_done(call, done);
         }
-        ["taken", at, number] => {
-            let number = EndpointNumber::new(small(number)? % 16);
-            let taken = bus.sink(&path(at)?, number).unwrap_or(&[]);
-            add_digits(alloc, out, taken)?;
-        }
-        _ => return port_call(alloc, bus, words, out),
-    }
-    Ok(())
-}
-
-/// Makes a call at a root port, or attempts.
-fn port_call<T: Trace>(
-    alloc: Global,
-    bus: &mut SimBus<T>,
-    words: &[&str],
-    out: &mut String,
-) -> Told {
-    match words {
-        ["status", port] => add_debug(out, &status(bus, small(port)?))?,
-        ["set", port, name] => set(bus, small(port)?, feature(name)?),
-        ["clear", port, name] => clear(bus, small(port)?, feature(name)?),
-        ["ready", port] => ready(bus, small(port)?),
-        ["plugged"] => tell_done(out, plugged(bus))?,
-        _ => tell_attempt(out, attempted(alloc, bus, words)?)?,
-    }
-    Ok(())
-}
-
-/// Makes attempts, and returns what came of the last one.
-fn attempted<T: Trace>(
-    alloc: Global,
-    bus: &mut SimBus<T>,
-    words: &[&str],
-) -> Result<Result<Outcome, BusFault>, CallFault> {
-    match words {
-        ["SETUP", at, how, data] => {
-            let (address, _) = endpoint(at)?;
-            Ok(setup(bus, speed(how)?, address, setup_data(alloc, data)?))
-        }
-        ["IN", at, how, most] => {
-            let (address, number) = endpoint(at)?;
-            Ok(take(bus, speed(how)?, address, number, small(most)?))
-        }
-        ["OUT", at, how, most, pid, data] => {
-            let to = destination(at, how, most)?;
-            out_of(alloc, bus, to, toggle(pid)?, data)
-        }
-        ["reads", address, how, data, packets] => Ok(reads(
-            bus,
-            speed(how)?,
-            small(address)?,
-            setup_data(alloc, data)?,
-            small(packets)?,
-        )),
-        ["asks", address, how, data] => Ok(asks(
-            bus,
-            speed(how)?,
-            small(address)?,
-            setup_data(alloc, data)?,
-        )),
-        _ => Err(CallFault::Words),
+        "counts" => tell_counts(call, bus),
+        "attempts" => call.add(&bus.attempts()),
+        "registers" | "sink" | "taken" => at_path(bus, call),
+        "SETUP" | "IN" | "OUT" | "reads" | "asks" => attempt(bus, call),
+        _ => port_call(bus, call),
     }
 }
 
-fn destination(at: &str, how: &str, most: &str) -> Result<Destination, CallFault>
-    ensures { IfOk result IsDestination }
+/// A call of what is at a path.
+fn at_path<T: Trace>(bus: &mut SimBus<T>, call: &mut Call<'_>) {
+    let Some(path) = call.path(2) else {
+        return;
+    };
+    if call.word(1) == "registers" {
+        call.add_debug(&bus.registers(&path));
+        return;
+    }
+    let number = EndpointNumber::new(call.small(3) % 16);
+    let sink = bus.sink(&path, number);
+    match call.word(1) {
+        "sink" => call.add_debug(&sink),
+        _ => call.add_digits(sink.unwrap_or(&[])),
+    }
+}
+
+/// A call at a root port.
+fn port_call<T: Trace>(bus: &mut SimBus<T>, call: &mut Call<'_>) {
+    match call.word(1) {
+        "plugged" => {
+            let done = plugged(bus);
+            tell_done(call, done);
+        }
+        "ready" => ready(bus, call.small(2)),
+        "status" => call.add_debug(&status(bus, call.small(2))),
+        "set" => set(bus, call.small(2), call.feature(3)),
+        _ => clear(bus, call.small(2), call.feature(3)),
+    }
+}
+
+/// Makes attempts, and answers the outcome of the last one in a word.
+fn attempt<T: Trace>(bus: &mut SimBus<T>, call: &mut Call<'_>) {
+    let outcome = match call.word(1) {
+        "SETUP" => setup(bus, zero(call), call.setup_data(4)),
+        "IN" => bus.attempt(&Attempt::In {
+            to: destination(call),
+        }),
+        "OUT" => out_of(bus, call),
+        "reads" => reads(bus, zero(call), call.setup_data(4), call.small(5)),
+        _ => asks(bus, zero(call), call.setup_data(4)),
+    };
+    match outcome {
+        Ok(Outcome::Payload(_, _)) => call.say("data\n"),
+        Ok(Outcome::Ack) => call.say("ack\n"),
+        Ok(Outcome::Nak) => call.say("nak\n"),
+        Ok(Outcome::Stall) => call.say("stall\n"),
+        Ok(Outcome::Nothing) => call.say("none\n"),
+        Err(fault) => call.add(&fault),
+    }
+}
+
+/// The endpoint, the speed and the maximum packet that words name.
+fn destination(call: &mut Call<'_>) -> Destination
+    ensures { IsDestination result }
 {
-    let (address, number) = endpoint(at)?;
-    Ok(to(speed(how)?, address, number, small(most)?))
+    let (address, number) = call.endpoint(2);
+    Destination {
+        address: address % 128,
+        number: number % 16,
+        speed: call.speed(3),
+        max: call.small(4).clamp(1, 64),
+    }
+}
+
+/// Endpoint 0 of the device that words name.
+fn zero(call: &mut Call<'_>) -> Destination
+    ensures { IsDestination result }
+{
+    let (address, _) = call.endpoint(2);
+    let speed = call.speed(3);
+    Destination {
+        address: address % 128,
+        number: 0,
+        speed,
+        max: match speed {
+            Speed::Full => 64,
+            Speed::Low | Speed::LowBelowHub => 8,
+        },
+    }
 }
 
 /// An OUT of bytes, of which there are at most the maximum.
-fn out_of<T: Trace>(
-    alloc: Global,
-    bus: &mut SimBus<T>,
-    to: Destination,
-    toggle: Toggle,
-    data: &str,
-) -> Result<Result<Outcome, BusFault>, CallFault>
-    requires { IsDestination to }
-{
-    let sent = bytes(alloc, data)?;
-    let mut bytes = ArrayVec::new();
-    if bytes.try_extend_from_slice(sent.as_slice()).is_err() || bytes.len() > usize::from(to.max) {
-        return Err(CallFault::Words);
+fn out_of<T: Trace>(bus: &mut SimBus<T>, call: &mut Call<'_>) -> Result<Outcome, BusFault> {
+    let to = destination(call);
+    let toggle = call.toggle(5);
+    let bytes = call.few(call.word(6));
+    if bytes.len() > usize::from(to.max) {
+        call.refuse();
+        return Ok(Outcome::Nothing);
     }
-    Ok(bus.attempt(&Attempt::Out { to, toggle, bytes }))
+    bus.attempt(&Attempt::Out { to, toggle, bytes })
 }
 
-/// A request whose answer comes in n packets; the last attempt is reported.
+/// A request whose answer comes in so many packets. Returns what comes of the last attempt.
 fn reads<T: Trace>(
     bus: &mut SimBus<T>,
-    speed: Speed,
-    addr: u8,
+    to: Destination,
     request: [u8; 8],
     packets: u8,
-) -> Result<Outcome, BusFault> {
-    setup(bus, speed, addr, request)?;
+) -> Result<Outcome, BusFault>
+    requires { IsDestination to }
+{
+    setup(bus, to, request)?;
     for _ in 0..packets {
-        take(bus, speed, addr, 0, whole(speed))?;
+        bus.attempt(&Attempt::In { to })?;
     }
     bus.attempt(&Attempt::Out {
-        to: to(speed, addr, 0, whole(speed)),
+        to,
         toggle: Toggle::One,
         bytes: ArrayVec::new(),
     })
 }
 
-/// A request without data; the last attempt is reported.
+/// A request without data. Returns what comes of the last attempt.
 fn asks<T: Trace>(
     bus: &mut SimBus<T>,
-    speed: Speed,
-    addr: u8,
+    to: Destination,
     request: [u8; 8],
-) -> Result<Outcome, BusFault> {
-    setup(bus, speed, addr, request)?;
-    take(bus, speed, addr, 0, whole(speed))
-}
-
-/// The maximum packet of endpoint 0 of the devices here.
-fn whole(speed: Speed) -> u8 {
-    match speed {
-        Speed::Full => 64,
-        Speed::Low | Speed::LowBelowHub => 8,
-    }
-}
-
-/// An endpoint of the device at an address.
-fn to(speed: Speed, addr: u8, ep: u8, max: u8) -> Destination
-    ensures { IsDestination result }
+) -> Result<Outcome, BusFault>
+    requires { IsDestination to }
 {
-    Destination {
-        address: addr % 128,
-        number: ep % 16,
-        speed,
-        max: max.clamp(1, 64),
-    }
+    setup(bus, to, request)?;
+    bus.attempt(&Attempt::In { to })
 }
 
 fn setup<T: Trace>(
     bus: &mut SimBus<T>,
-    speed: Speed,
-    addr: u8,
+    to: Destination,
     bytes: [u8; 8],
-) -> Result<Outcome, BusFault> {
-    bus.attempt(&Attempt::Setup {
-        to: to(speed, addr, 0, whole(speed)),
-        bytes,
-    })
-}
-
-fn take<T: Trace>(
-    bus: &mut SimBus<T>,
-    speed: Speed,
-    addr: u8,
-    ep: u8,
-    max: u8,
-) -> Result<Outcome, BusFault> {
-    bus.attempt(&Attempt::In {
-        to: to(speed, addr, ep, max),
-    })
+) -> Result<Outcome, BusFault>
+    requires { IsDestination to }
+{
+    bus.attempt(&Attempt::Setup { to, bytes })
 }
 
 /// The first event comes: root port 1 has power, what is plugged there is reset, and no change is
@@ -240,67 +206,47 @@ fn status<T: Trace>(bus: &SimBus<T>, port: u8) -> [u8; 4] {
     [0; 4]
 }
 
-/// Adds the outcome of an attempt in a word.
-fn tell_attempt(out: &mut String, ended: Result<Outcome, BusFault>) -> Result<(), AllocError> {
-    match ended {
-        Ok(Outcome::Payload(_, _)) => out.push_str("data\n"),
-        Ok(Outcome::Ack) => out.push_str("ack\n"),
-        Ok(Outcome::Nak) => out.push_str("nak\n"),
-        Ok(Outcome::Stall) => out.push_str("stall\n"),
-        Ok(Outcome::Nothing) => out.push_str("none\n"),
-        Err(fault) => add(out, &fault),
+/// Answers the fault of what was done, if there is one.
+fn tell_done(call: &mut Call<'_>, ended: Result<(), BusFault>) {
+    if let Err(fault) = ended {
+        call.add(&fault);
     }
 }
 
-/// Adds the fault of what was done, if there is one.
-fn tell_done(out: &mut String, ended: Result<(), BusFault>) -> Result<(), AllocError> {
+/// Answers what an event asks of the host.
+fn tell_event(call: &mut Call<'_>, ended: Result<Option<Option<Ask>>, BusFault>) {
     match ended {
-        Ok(()) => Ok(()),
-        Err(fault) => add(out, &fault),
+        Ok(None) => call.say("no event\n"),
+        Ok(Some(None)) => call.say("changed\n"),
+        Ok(Some(Some(ask))) => tell_ask(call, &ask),
+        Err(fault) => call.add(&fault),
     }
 }
 
-/// Adds what an event asks of the host.
-fn tell_event(
-    out: &mut String,
-    ended: Result<Option<Option<Ask>>, BusFault>,
-) -> Result<(), AllocError> {
-    match ended {
-        Ok(None) => out.push_str("no event\n"),
-        Ok(Some(None)) => out.push_str("changed\n"),
-        Ok(Some(Some(ask))) => tell_ask(out, &ask),
-        Err(fault) => add(out, &fault),
-    }
-}
-
-fn tell_ask(out: &mut String, ask: &Ask) -> Result<(), AllocError> {
+fn tell_ask(call: &mut Call<'_>, ask: &Ask) {
     match ask {
-        Ask::Show { .. } => out.push_str("show\n"),
+        Ask::Show { .. } => call.say("show"),
         Ask::Send(path, bytes) => {
-            put_debug(out, "send ", &bytes.as_slice())?;
-            out.push_str(" to ")?;
-            add_debug(out, &path.numbers())
+            call.put_debug("send ", &bytes.as_slice());
+            call.put_debug(" to ", &path.numbers());
         }
         Ask::Receive(path, packets) => {
-            put(out, "receive ", packets)?;
-            out.push_str(" from ")?;
-            add_debug(out, &path.numbers())
+            call.put("receive ", packets);
+            call.put_debug(" from ", &path.numbers());
         }
-        Ask::Clear(path) => {
-            out.push_str("clear ")?;
-            add_debug(out, &path.numbers())
-        }
-        _ => out.push_str("another\n"),
+        Ask::Clear(path) => call.put_debug("clear ", &path.numbers()),
+        _ => call.say("another"),
     }
+    call.say("\n");
 }
 
-/// Adds all that a bus counts.
-fn tell_counts<T: Trace>(out: &mut String, bus: &SimBus<T>) -> Result<(), AllocError> {
+/// Answers all that a bus counts.
+fn tell_counts<T: Trace>(call: &mut Call<'_>, bus: &SimBus<T>) {
     let taken = bus.events_taken();
-    put(out, "attempts ", &bus.attempts())?;
-    put(out, ", events ", &taken)?;
-    put(out, " of ", &taken.saturating_add(bus.events_left()))?;
-    put(out, ", losses ", &bus.address_losses())?;
-    put(out, ", worst ", &bus.worst_address_run())?;
-    out.push_str("\n")
+    call.put("attempts ", &bus.attempts());
+    call.put(", events ", &taken);
+    call.put(" of ", &taken.saturating_add(bus.events_left()));
+    call.put(", losses ", &bus.address_losses());
+    call.put(", worst ", &bus.worst_address_run());
+    call.say("\n");
 }

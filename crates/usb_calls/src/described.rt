@@ -1,8 +1,6 @@
 //! Devices that lines describe, also such as no plan can have. A device begins with a line `name
 //! ..`; behind it come its other lines, in any order.
-ghost use Rattle.std.specs.Prelude.{◌≤◌, IfOk};
-
-use crate::words::{CallFault, bytes, put, put_debug, put_digits, short, small, words_of};
+use crate::call::Call;
 use std::alloc::{AllocError, Global};
 use std::rc::Rc;
 use usb_device::{Bytes, ConfigTexts, OwnAnswer, OwnRequest, OwnRequests, Stalls, StringTexts};
@@ -56,51 +54,48 @@ impl Described {
     }
 
     /// Takes a line.
-    fn take(&mut self, alloc: Global, words: &[&str]) -> Result<(), CallFault> {
-        match words {
-            ["low"] => self.low = true,
-            ["self_powered"] => self.quirks.self_powered = true,
-            ["busy"] => self.quirks.busy = true,
-            ["silent"] => self.quirks.silent = true,
-            ["naks", count] => self.quirks.naks = small(count)?.min(200),
-            ["halt_after", packets] => self.quirks.halt_after = short(packets)?,
-            ["descriptor", data] => self.descriptor = bytes(alloc, data)?,
-            ["source", data] => self.source = bytes(alloc, data)?,
-            ["hub", ports] => self.hub = Some(HubSpec::usual(alloc, ports_of(ports)?)?),
-            ["hub", ports, data] => self.hub = Some(odd_hub(alloc, ports, data)?),
-            ["stalls", request] => refuse(&mut self.quirks.stalls, request)?,
-            _ => return self.take_more(alloc, words),
+    fn take(&mut self, line: &mut Call<'_>) {
+        match line.word(0) {
+            "low" => self.low = true,
+            "self_powered" => self.quirks.self_powered = true,
+            "busy" => self.quirks.busy = true,
+            "silent" => self.quirks.silent = true,
+            "naks" => self.quirks.naks = line.small(1).min(200),
+            "halt_after" => self.quirks.halt_after = line.short(1),
+            "descriptor" => self.descriptor = line.bytes(1),
+            "source" => self.source = line.bytes(1),
+            "hub" => self.hub = hub_of(line),
+            "stalls" => refuse(&mut self.quirks.stalls, line),
+            _ => self.take_more(line),
         }
-        Ok(())
     }
 
     /// Takes a line of which there may be several.
-    fn take_more(&mut self, alloc: Global, words: &[&str]) -> Result<(), CallFault> {
-        match words {
-            ["config", data] if self.configs.as_slice().len() < 8 => {
-                self.configs.push(text(bytes(alloc, data)?, alloc))?;
-            }
-            ["string", data] if self.strings.as_slice().len() < 256 => {
-                self.strings.push(text(bytes(alloc, data)?, alloc))?;
-            }
-            ["request", kind, request, value, index, length, answer @ ..]
-                if self.requests.as_slice().len() < 64 => {
-                self.requests.push(OwnRequest {
-                    request_type: small(kind)?,
-                    request: small(request)?,
-                    value: any_or(value)?,
-                    index: any_or(index)?,
-                    length: any_or(length)?,
-                    answer: answer_of(alloc, answer)?,
-                })?;
-            }
-            _ => return Err(CallFault::Words),
+    fn take_more(&mut self, line: &mut Call<'_>) {
+        let done = match line.word(0) {
+            "config" if self.configs.as_slice().len() < 8 => self
+                .configs
+                .push(text(line.bytes(1), line.alloc)),
+            "string" if self.strings.as_slice().len() < 256 => self
+                .strings
+                .push(text(line.bytes(1), line.alloc)),
+            _ if self.requests.as_slice().len() < 64 => self.requests.push(OwnRequest {
+                request_type: line.small(1),
+                request: line.small(2),
+                value: any_or(line, 3),
+                index: any_or(line, 4),
+                length: any_or(line, 5),
+                answer: answer_of(line),
+            }),
+            _ => Ok(()),
+        };
+        if done.is_err() {
+            line.fill();
         }
-        Ok(())
     }
 
     /// The device that was described.
-    fn spec(self, alloc: Global, name: &str) -> Result<DeviceSpec, CallFault> {
+    fn spec(self, alloc: Global, name: Name) -> DeviceSpec {
         let Described {
             low,
             descriptor,
@@ -111,16 +106,12 @@ impl Described {
             requests,
             quirks,
         } = self;
-        if name.is_empty() {
-            return Err(CallFault::Words);
-        }
-        let name = Name::new(String::from_str(alloc, name)?);
         let spec = DeviceSpec::function(name, text(descriptor, alloc), configs)
             .with_low_speed(low)
             .with_strings(strings)
             .with_source(text(source, alloc))
             .with_requests(requests);
-        Ok(with_quirks(with_ports(spec, hub), quirks))
+        with_quirks(with_ports(spec, hub), quirks)
     }
 }
 
@@ -147,28 +138,18 @@ fn text<const MAX: usize>(bytes: Vec<u8>, alloc: Global) -> Bytes<MAX> {
     }
 }
 
-/// The number of a hub's ports.
-fn ports_of(word: &str) -> Result<u8, CallFault>
-    ensures least { IfOk result (λ ports. 1 ≤ ports) }
-    ensures most { IfOk result (λ ports. ports ≤ 15) }
-{
-    let ports = small(word)?;
-    if ports >= 1 && ports <= 15 {
-        Ok(ports)
-    } else {
-        Err(CallFault::Words)
+/// A hub, with the usual descriptor or one of its own.
+fn hub_of(line: &mut Call<'_>) -> Option<HubSpec> {
+    let ports = line.small(1).clamp(1, 15);
+    if line.word(2).is_empty() {
+        return HubSpec::usual(line.alloc, ports).ok();
     }
-}
-
-/// A hub with a descriptor of its own.
-fn odd_hub(alloc: Global, ports: &str, data: &str) -> Result<HubSpec, CallFault> {
-    let ports = ports_of(ports)?;
-    let descriptor = text(bytes(alloc, data)?, alloc);
-    if HubSpec::agrees(ports, descriptor.as_slice()) {
-        Ok(HubSpec::new(ports, descriptor))
-    } else {
-        Err(CallFault::Words)
+    let descriptor = text(line.bytes(2), line.alloc);
+    if !HubSpec::agrees(ports, descriptor.as_slice()) {
+        line.refuse();
+        return None;
     }
+    Some(HubSpec::new(ports, descriptor))
 }
 
 /// The same device with its ports, if it can have them.
@@ -186,8 +167,8 @@ fn with_ports(spec: DeviceSpec, hub: Option<HubSpec>) -> DeviceSpec {
 }
 
 /// A request is refused.
-fn refuse(stalls: &mut Stalls, request: &str) -> Result<(), CallFault> {
-    match request {
+fn refuse(stalls: &mut Stalls, line: &mut Call<'_>) {
+    match line.word(1) {
         "device" => stalls.device = true,
         "address" => stalls.address = true,
         "config" => stalls.config = true,
@@ -195,34 +176,32 @@ fn refuse(stalls: &mut Stalls, request: &str) -> Result<(), CallFault> {
         "status" => stalls.status = true,
         "hub" => stalls.hub = true,
         "string" => stalls.string = true,
-        _ => return Err(CallFault::Words),
+        _ => line.refuse(),
     }
-    Ok(())
 }
 
 /// A number, or `any`.
-fn any_or(word: &str) -> Result<Option<u16>, CallFault> {
-    if word == "any" {
-        return Ok(None);
+fn any_or(line: &mut Call<'_>, place: usize) -> Option<u16> {
+    if line.word(place) == "any" {
+        return None;
     }
-    Ok(Some(short(word)?))
+    Some(line.short(place))
 }
 
 /// What a device does about a request of its own.
-fn answer_of(alloc: Global, words: &[&str]) -> Result<OwnAnswer, CallFault> {
-    match words {
-        ["give", "taken"] => Ok(OwnAnswer::GiveTaken),
-        ["give", data] => Ok(OwnAnswer::Give(text(bytes(alloc, data)?, alloc))),
-        ["take"] => Ok(OwnAnswer::Take),
-        ["refuse", "data"] => Ok(OwnAnswer::RefuseData),
-        ["refuse", "status"] => Ok(OwnAnswer::RefuseStatus),
-        _ => Err(CallFault::Words),
+fn answer_of(line: &mut Call<'_>) -> OwnAnswer {
+    match line.behind(6) {
+        "give taken" => OwnAnswer::GiveTaken,
+        "take" => OwnAnswer::Take,
+        "refuse data" => OwnAnswer::RefuseData,
+        "refuse status" => OwnAnswer::RefuseStatus,
+        _ => OwnAnswer::Give(text(line.bytes(7), line.alloc)),
     }
 }
 
 /// The device of this name among those that lines describe.
-pub(crate) fn spec_in(alloc: Global, lines: &str, name: &str) -> Result<DeviceSpec, CallFault> {
-    let mut described = Described::new(alloc);
+pub(crate) fn spec_in(call: &mut Call<'_>, lines: &str, name: &str) -> Option<DeviceSpec> {
+    let mut described = Described::new(call.alloc);
     let mut is_it = false;
     let mut found = false;
     for line in lines.lines() {
@@ -231,57 +210,73 @@ pub(crate) fn spec_in(alloc: Global, lines: &str, name: &str) -> Result<DeviceSp
                 is_it = other == name && !found;
                 found = found || is_it;
             }
-            None if is_it => {
-                let words = words_of(alloc, line)?;
-                described.take(alloc, words.as_slice())?;
-            }
+            None if is_it => take(call, &mut described, line),
             None => {}
         }
     }
-    if !found {
-        return Err(CallFault::Words);
+    if !found || name.is_empty() {
+        call.refuse();
+        return None;
     }
-    described.spec(alloc, name)
+    match String::from_str(call.alloc, name) {
+        Ok(name) => Some(described.spec(call.alloc, Name::new(name))),
+        Err(_) => None,
+    }
+}
+
+/// Takes a line that describes a device.
+fn take(call: &mut Call<'_>, described: &mut Described, text: &str) {
+    let mut line = Call::new(call.alloc, text);
+    described.take(&mut line);
+    if !line.is_well() {
+        call.refuse();
+    }
 }
 
 /// The same, just plugged.
-pub(crate) fn device_in(alloc: Global, lines: &str, name: &str) -> Result<Device, CallFault> {
-    let spec = spec_in(alloc, lines, name)?;
-    Ok(plugged(alloc, spec)?)
+pub(crate) fn device_in(call: &mut Call<'_>, lines: &str, name: &str) -> Option<Device> {
+    plugged(call.alloc, spec_in(call, lines, name)?).ok()
 }
 
 fn plugged(alloc: Global, spec: DeviceSpec) -> Result<Device, AllocError> {
     Device::new(alloc, &Rc::new(alloc, spec)?)
 }
 
-/// Adds the lines that describe a copy of a device.
-pub(crate) fn tell(alloc: Global, spec: &DeviceSpec, out: &mut String) -> Result<(), AllocError> {
-    let spec = spec.try_clone(alloc)?;
-    out.push_str("name ")?;
-    out.push_str(spec.name())?;
-    tell_flags(&spec, out)?;
-    put_digits(alloc, out, "descriptor ", spec.descriptor())?;
+/// Answers the lines that describe a copy of a device.
+pub(crate) fn tell(call: &mut Call<'_>, spec: &DeviceSpec) {
+    let Ok(spec) = spec.try_clone(call.alloc) else {
+        call.fill();
+        return;
+    };
+    call.say("name ");
+    call.say(spec.name());
+    tell_flags(call, &spec);
+    call.put_digits("descriptor ", spec.descriptor());
     for config in spec.configs() {
-        put_digits(alloc, out, "\nconfig ", config.as_slice())?;
+        call.put_digits("\nconfig ", config.as_slice());
     }
-    for string in spec.strings() {
-        put_digits(alloc, out, "\nstring ", string.as_slice())?;
-    }
-    put_digits(alloc, out, "\nsource ", spec.source())?;
-    put(out, "\nhas hub class ", &has_hub_class(spec.descriptor()))?;
-    if let Some(hub) = spec.hub() {
-        put(out, "\nhub ", &hub.ports())?;
-        put_digits(alloc, out, " ", hub.descriptor())?;
-    }
-    out.push_str("\n")?;
-    tell_requests(alloc, &spec, out)
+    tell_rest(call, &spec);
+    tell_requests(call, &spec);
 }
 
-fn tell_flags(spec: &DeviceSpec, out: &mut String) -> Result<(), AllocError> {
+fn tell_rest(call: &mut Call<'_>, spec: &DeviceSpec) {
+    for string in spec.strings() {
+        call.put_digits("\nstring ", string.as_slice());
+    }
+    call.put_digits("\nsource ", spec.source());
+    call.put("\nhas hub class ", &has_hub_class(spec.descriptor()));
+    if let Some(hub) = spec.hub() {
+        call.put("\nhub ", &hub.ports());
+        call.put_digits(" ", hub.descriptor());
+    }
+    call.say("\n");
+}
+
+fn tell_flags(call: &mut Call<'_>, spec: &DeviceSpec) {
     let stalls = spec.stalls();
-    put(out, "\nnaks ", &spec.naks())?;
-    put_debug(out, "\nhalt_after ", &spec.halt_after())?;
-    out.push_str("\n")?;
+    call.put("\nnaks ", &spec.naks());
+    call.put_debug("\nhalt_after ", &spec.halt_after());
+    call.say("\n");
     for (is, line) in [
         (spec.is_low(), "low\n"),
         (spec.is_self_powered(), "self_powered\n"),
@@ -296,25 +291,23 @@ fn tell_flags(spec: &DeviceSpec, out: &mut String) -> Result<(), AllocError> {
         (stalls.string, "stalls string\n"),
     ] {
         if is {
-            out.push_str(line)?;
+            call.say(line);
         }
     }
-    Ok(())
 }
 
-fn tell_requests(alloc: Global, spec: &DeviceSpec, out: &mut String) -> Result<(), AllocError> {
+fn tell_requests(call: &mut Call<'_>, spec: &DeviceSpec) {
     for row in spec.requests().as_slice() {
-        put(out, "request ", &row.request_type)?;
-        put(out, " ", &row.request)?;
-        put_debug(out, " ", &row.value)?;
-        put_debug(out, " ", &row.index)?;
-        put_debug(out, " ", &row.length)?;
+        call.put("request ", &row.request_type);
+        call.put(" ", &row.request);
+        call.put_debug(" ", &row.value);
+        call.put_debug(" ", &row.index);
+        call.put_debug(" ", &row.length);
         if let OwnAnswer::Give(bytes) = &row.answer {
-            put_digits(alloc, out, " give ", bytes.as_slice())?;
+            call.put_digits(" give ", bytes.as_slice());
         }
-        out.push_str(end_of(&row.answer))?;
+        call.say(end_of(&row.answer));
     }
-    Ok(())
 }
 
 /// The words of an answer without its bytes.

@@ -1,7 +1,6 @@
 //! Descriptors read: what each reader reports of bytes, the first fault among it: `read ..`.
-use crate::words::{CallFault, Told, add_debug, bytes, number, put, put_debug, put_digits, small};
+use crate::call::Call;
 use arrayvec::ArrayVec;
-use std::alloc::{AllocError, Global};
 use usb_descriptor::{
     ConfigView, DescriptorFault, EndpointView, InterfaceView, Item, Settings, UsableEndpoint,
     config_head, device_head, read_config, read_device, read_hub, read_string,
@@ -18,41 +17,30 @@ fn list(numbers: &[u16]) -> Numbers {
 }
 
 /// Makes a call of a reader. The last word is the bytes.
-pub(crate) fn play(alloc: Global, words: &[&str], out: &mut String) -> Told {
-    let Some((data, reader)) = words.split_last() else {
-        return Err(CallFault::Words);
-    };
-    let data = bytes(alloc, data)?;
-    match reader {
-        ["item", place] => tell_item(alloc, data.as_slice(), number(place)?, out),
-        ["usable", speed, settings @ ..] => {
-            let settings = settings_of(settings)?;
-            tell_usable(data.as_slice(), *speed == "low", &settings, out)
-        }
-        _ => {
-            match told_by(reader, data.as_slice())? {
-                Ok(numbers) => add_debug(out, &numbers.as_slice())?,
-                Err(fault) => add_debug(out, &fault)?,
-            }
-            Ok(())
-        }
+pub(crate) fn play(call: &mut Call<'_>) {
+    let data = call.bytes_of(call.last());
+    let bytes = data.as_slice();
+    match call.word(1) {
+        "item" => tell_item(call, bytes),
+        "usable" => tell_usable(call, bytes),
+        _ => match reported(call, bytes) {
+            Ok(numbers) => call.add_debug(&numbers.as_slice()),
+            Err(fault) => call.add_debug(&fault),
+        },
     }
 }
 
-fn told_by(reader: &[&str], bytes: &[u8]) -> Result<Result<Numbers, DescriptorFault>, CallFault> {
-    match reader {
-        ["low_device_head"] => Ok(device_max(bytes, true)),
-        ["device_head"] => Ok(device_max(bytes, false)),
-        ["device"] => Ok(device_fields(bytes)),
-        ["config_head"] => Ok(config_total(bytes)),
-        ["hub"] => Ok(hub_fields(bytes, false)),
-        ["wide_hub"] => Ok(hub_fields(bytes, true)),
-        ["units"] => Ok(string_units(bytes)),
-        ["first_language"] => Ok(first_language(bytes)),
-        _ => match read_config(bytes) {
-            Ok(config) => Ok(Ok(told_by_config(reader, &config)?)),
-            Err(fault) => Ok(Err(fault)),
-        },
+fn reported(call: &mut Call<'_>, bytes: &[u8]) -> Result<Numbers, DescriptorFault> {
+    match call.word(1) {
+        "low_device_head" => device_max(bytes, true),
+        "device_head" => device_max(bytes, false),
+        "device" => device_fields(bytes),
+        "config_head" => Ok(list(&[config_head(bytes)?])),
+        "hub" => hub_fields(bytes, false),
+        "wide_hub" => hub_fields(bytes, true),
+        "units" => string_units(bytes),
+        "first_language" => first_language(bytes),
+        _ => Ok(reported_of(call, &read_config(bytes)?)),
     }
 }
 
@@ -63,64 +51,58 @@ fn device_max(bytes: &[u8], low: bool) -> Result<Numbers, DescriptorFault> {
 fn device_fields(bytes: &[u8]) -> Result<Numbers, DescriptorFault> {
     let device = read_device(bytes, false)?;
     Ok(list(&[
-        u16::from(device.length()),
-        u16::from(device.descriptor_type()),
+        device.length() as u16,
+        device.descriptor_type() as u16,
         device.usb_release(),
-        u16::from(device.class()),
-        u16::from(device.subclass()),
-        u16::from(device.protocol()),
-        u16::from(device.max_packet()),
+        device.class() as u16,
+        device.subclass() as u16,
+        device.protocol() as u16,
+        device.max_packet() as u16,
         device.vendor_id(),
         device.product_id(),
         device.device_release(),
-        u16::from(device.manufacturer_index()),
-        u16::from(device.product_index()),
-        u16::from(device.serial_index()),
-        u16::from(device.configurations()),
+        device.manufacturer_index() as u16,
+        device.product_index() as u16,
+        device.serial_index() as u16,
+        device.configurations() as u16,
     ]))
-}
-
-fn config_total(bytes: &[u8]) -> Result<Numbers, DescriptorFault> {
-    Ok(list(&[config_head(bytes)?]))
 }
 
 /// What is read of a configuration: its fields, the number and the maximum packet of an endpoint,
 /// if there is one, or 1 for yes.
-fn told_by_config(reader: &[&str], config: &ConfigView<'_>) -> Result<Numbers, CallFault> {
-    let told = match reader {
-        ["config"] => return Ok(config_fields(config)),
-        ["bulk_out"] => return Ok(end(config.bulk_out())),
-        ["bulk_in"] => return Ok(end(config.bulk_in())),
-        ["status_endpoint"] => return Ok(end(config.status_endpoint(false))),
-        ["any_status_endpoint"] => return Ok(end(config.status_endpoint(true))),
-        ["settable", interface, setting] => {
-            config.is_settable(small(interface)?, small(setting)?)
-        }
-        ["names_out", interface, number] => {
-            config.names(small(interface)?, small(number)?, false)
-        }
-        ["names_in", interface, number] => config.names(small(interface)?, small(number)?, true),
-        _ => return Err(CallFault::Words),
-    };
-    Ok(list(&[u16::from(told)]))
+fn reported_of(call: &mut Call<'_>, config: &ConfigView<'_>) -> Numbers {
+    match call.word(1) {
+        "config" => config_fields(config),
+        "bulk_out" => end(config.bulk_out()),
+        "bulk_in" => end(config.bulk_in()),
+        "status_endpoint" => end(config.status_endpoint(false)),
+        "any_status_endpoint" => end(config.status_endpoint(true)),
+        "settable" => yes(config.is_settable(call.small(2), call.small(3))),
+        "names_out" => yes(config.names(call.small(2), call.small(3), false)),
+        _ => yes(config.names(call.small(2), call.small(3), true)),
+    }
+}
+
+fn yes(is_so: bool) -> Numbers {
+    list(&[u16::from(is_so)])
 }
 
 fn config_fields(config: &ConfigView<'_>) -> Numbers {
     list(&[
-        u16::from(config.length()),
-        u16::from(config.descriptor_type()),
+        config.length() as u16,
+        config.descriptor_type() as u16,
         config.total_length(),
-        u16::from(config.interfaces()),
-        u16::from(config.value()),
-        u16::from(config.string_index()),
-        u16::from(config.attributes()),
-        u16::from(config.max_power()),
+        config.interfaces() as u16,
+        config.value() as u16,
+        config.string_index() as u16,
+        config.attributes() as u16,
+        config.max_power() as u16,
     ])
 }
 
 fn end(found: Option<(u8, u8)>) -> Numbers {
     match found {
-        Some((number, max)) => list(&[u16::from(number), u16::from(max)]),
+        Some((number, max)) => list(&[number as u16, max as u16]),
         None => list(&[]),
     }
 }
@@ -128,23 +110,23 @@ fn end(found: Option<(u8, u8)>) -> Numbers {
 fn hub_fields(bytes: &[u8], wide: bool) -> Result<Numbers, DescriptorFault> {
     let hub = read_hub(bytes, wide)?;
     let mut fields = list(&[
-        u16::from(hub.length()),
-        u16::from(hub.descriptor_type()),
-        u16::from(hub.ports()),
+        hub.length() as u16,
+        hub.descriptor_type() as u16,
+        hub.ports() as u16,
         hub.characteristics(),
-        u16::from(hub.power_on_time()),
-        u16::from(hub.controller_current()),
+        hub.power_on_time() as u16,
+        hub.controller_current() as u16,
         hub.removable(),
     ]);
     if let Some(mask) = hub.power_mask() {
-        let _ = fields.try_push(u16::from(mask));
+        let _ = fields.try_push(mask as u16);
     }
     Ok(fields)
 }
 
 fn string_units(bytes: &[u8]) -> Result<Numbers, DescriptorFault> {
     let text = read_string(bytes)?;
-    let mut numbers = list(&[u16::from(text.length()), u16::from(text.descriptor_type())]);
+    let mut numbers = list(&[text.length() as u16, text.descriptor_type() as u16]);
     for unit in text.units() {
         let _ = numbers.try_push(unit);
     }
@@ -158,109 +140,102 @@ fn first_language(bytes: &[u8]) -> Result<Numbers, DescriptorFault> {
     })
 }
 
-/// Adds the item of this place from 0: its bytes, those of its view, and the fields in the order of
+/// Answers the item of a place from 0: its bytes, those of its view, and the fields in the order of
 /// the bytes; of an endpoint then its number, and 1 for IN, and its type.
-fn tell_item(alloc: Global, bytes: &[u8], place: u64, out: &mut String) -> Told {
+fn tell_item(call: &mut Call<'_>, bytes: &[u8]) {
     let Ok(config) = read_config(bytes) else {
-        return Err(CallFault::Words);
+        call.refuse();
+        return;
     };
-    let mut left = place;
+    let mut left = call.small(2);
     for item in config.items() {
         if left == 0 {
-            tell_found(alloc, &item, out)?;
-            return Ok(());
+            tell_found(call, &item);
+            return;
         }
         left -= 1;
     }
-    out.push_str("none\n")?;
-    Ok(())
+    call.say("none\n");
 }
 
-fn tell_found(alloc: Global, item: &Item<'_>, out: &mut String) -> Result<(), AllocError> {
-    put_digits(alloc, out, "", item.as_slice())?;
+fn tell_found(call: &mut Call<'_>, item: &Item<'_>) {
+    call.put_digits("", item.as_slice());
     match item {
         Item::Interface(interface) => {
-            put_digits(alloc, out, " ", interface.as_slice())?;
-            put_debug(out, " ", &interface_numbers(interface).as_slice())?;
+            call.put_digits(" ", interface.as_slice());
+            call.put_debug(" ", &interface_numbers(interface).as_slice());
         }
         Item::Endpoint(endpoint) => {
-            put_digits(alloc, out, " ", endpoint.as_slice())?;
-            put_debug(out, " ", &endpoint_numbers(endpoint).as_slice())?;
-            put_debug(out, " ", &endpoint.transfer_type())?;
+            call.put_digits(" ", endpoint.as_slice());
+            call.put_debug(" ", &endpoint_numbers(endpoint).as_slice());
+            call.put_debug(" ", &endpoint.transfer_type());
         }
         Item::Other(other) => {
-            put_digits(alloc, out, " ", other.as_slice())?;
-            put_debug(out, " ", &[other.length(), other.descriptor_type()])?;
+            call.put_digits(" ", other.as_slice());
+            call.put_debug(" ", &[other.length(), other.descriptor_type()]);
         }
     }
-    out.push_str("\n")
+    call.say("\n");
 }
 
 fn interface_numbers(interface: &InterfaceView<'_>) -> Numbers {
     list(&[
-        u16::from(interface.length()),
-        u16::from(interface.descriptor_type()),
-        u16::from(interface.number()),
-        u16::from(interface.alternate_setting()),
-        u16::from(interface.endpoints()),
-        u16::from(interface.class()),
-        u16::from(interface.subclass()),
-        u16::from(interface.protocol()),
-        u16::from(interface.string_index()),
+        interface.length() as u16,
+        interface.descriptor_type() as u16,
+        interface.number() as u16,
+        interface.alternate_setting() as u16,
+        interface.endpoints() as u16,
+        interface.class() as u16,
+        interface.subclass() as u16,
+        interface.protocol() as u16,
+        interface.string_index() as u16,
     ])
 }
 
 fn endpoint_numbers(endpoint: &EndpointView<'_>) -> Numbers {
     list(&[
-        u16::from(endpoint.length()),
-        u16::from(endpoint.descriptor_type()),
-        u16::from(endpoint.address()),
-        u16::from(endpoint.attributes()),
+        endpoint.length() as u16,
+        endpoint.descriptor_type() as u16,
+        endpoint.address() as u16,
+        endpoint.attributes() as u16,
         endpoint.max_packet(),
-        u16::from(endpoint.interval()),
-        u16::from(endpoint.number()),
+        endpoint.interval() as u16,
+        endpoint.number() as u16,
         u16::from(endpoint.is_in()),
     ])
 }
 
 /// The alternate settings that words name, each as interface=setting.
-fn settings_of(words: &[&str]) -> Result<Settings, CallFault> {
+fn settings_of(call: &mut Call<'_>) -> Settings {
     let mut settings = Settings::all_zero();
-    for word in words {
-        match word.split_once('=') {
-            Some((interface, setting)) => settings.set(small(interface)?, small(setting)?),
-            None => return Err(CallFault::Words),
+    for place in 3..6usize {
+        if let Some((interface, setting)) = call.word(place).split_once('=') {
+            settings.set(call.small_of(interface), call.small_of(setting));
         }
     }
-    Ok(settings)
+    settings
 }
 
-/// Adds the number, the direction, the kind and the maximum packet of each endpoint that a pipe can
-/// use.
-fn tell_usable(bytes: &[u8], low: bool, settings: &Settings, out: &mut String) -> Told {
+/// Answers the number, the direction, the kind and the maximum packet of each endpoint that a pipe
+/// can use.
+fn tell_usable(call: &mut Call<'_>, bytes: &[u8]) {
     let Ok(config) = read_config(bytes) else {
-        return Err(CallFault::Words);
+        call.refuse();
+        return;
     };
-    let ends = config.usable_endpoints(low, settings);
+    let settings = settings_of(call);
+    let ends = config.usable_endpoints(call.word(2) == "low", &settings);
     for number in 0..=16u8 {
-        if let Some(end) = ends.get(number, false) {
-            tell_end(out, "OUT ", number, &end)?;
-        }
-        if let Some(end) = ends.get(number, true) {
-            tell_end(out, "IN ", number, &end)?;
-        }
+        tell_end(call, "OUT ", number, ends.get(number, false));
+        tell_end(call, "IN ", number, ends.get(number, true));
     }
-    Ok(())
 }
 
-fn tell_end(
-    out: &mut String,
-    way: &str,
-    number: u8,
-    end: &UsableEndpoint,
-) -> Result<(), AllocError> {
-    put(out, way, &number)?;
-    put_debug(out, " ", &end.kind)?;
-    put(out, " ", &end.max)?;
-    out.push_str("\n")
+fn tell_end(call: &mut Call<'_>, way: &str, number: u8, end: Option<UsableEndpoint>) {
+    if let Some(end) = end {
+        call.put(way, &number);
+        call.put_debug(" ", &end.kind);
+        call.put(" ", &end.max);
+        call.say("\n");
+    }
 }

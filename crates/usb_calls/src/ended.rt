@@ -1,7 +1,6 @@
 //! A bus that has ended, and the calls of its trace: `trace ..`.
+use crate::call::Call;
 use crate::frail::Frail;
-use crate::words::{CallFault, Told, add, add_text, number};
-use std::alloc::{AllocError, Global};
 use usb_watch::Watched;
 
 /// What a bus left of its writer.
@@ -23,45 +22,39 @@ impl Ended {
         }
     }
 
-    /// Adds what a call of the trace answers.
-    pub(crate) fn tell(&self, words: &[&str], out: &mut String) -> Told {
-        match words {
-            ["lines"] => self.tell_lines(out, 0, u64::MAX, false)?,
-            ["lines", from] => self.tell_lines(out, number(from)?, u64::MAX, false)?,
-            ["lines", from, count] => {
-                self.tell_lines(out, number(from)?, number(count)?, false)?;
-            }
-            ["answered", from] => self.tell_lines(out, number(from)?, u64::MAX, true)?,
-            ["answered", from, count] => {
-                self.tell_lines(out, number(from)?, number(count)?, true)?;
-            }
-            ["failed"] => add(out, &self.failed)?,
-            ["calls"] => add(out, &self.calls)?,
-            ["bytes"] => add(out, &self.taken.len())?,
-            _ => return Err(CallFault::Words),
+    /// Makes a call of the trace.
+    pub(crate) fn play(&self, call: &mut Call<'_>) {
+        match call.word(1) {
+            "failed" => call.add(&self.failed),
+            "calls" => call.add(&self.calls),
+            "bytes" => call.add(&self.taken.len()),
+            way => self.tell_lines(call, way == "answered"),
         }
-        Ok(())
     }
 
-    /// Adds lines of the trace from line n + 1 on; without those of an IN that was answered by NAK.
-    fn tell_lines(
-        &self,
-        out: &mut String,
-        from: u64,
-        count: u64,
-        without_naks: bool,
-    ) -> Result<(), AllocError> {
+    /// Answers lines of the trace: `FROM COUNT`, from line FROM + 1 on, so many, or all. With
+    /// `answered` those of an IN that was answered by NAK are left out.
+    fn tell_lines(&self, call: &mut Call<'_>, without_naks: bool) {
+        let mut before = optional(call, 2, 0);
+        let mut left = optional(call, 3, u64::MAX);
         let text = str::from_utf8(self.taken.as_slice()).unwrap_or("no text");
-        let mut skipped = 0u64;
-        let mut left = count;
         for line in text.lines() {
-            if skipped < from {
-                skipped += 1;
+            if before > 0 {
+                before -= 1;
             } else if left > 0 && !(without_naks && line.ends_with("/ NAK")) {
                 left -= 1;
-                add_text(out, line)?;
+                call.say(line);
+                call.say("\n");
             }
         }
-        Ok(())
+    }
+}
+
+/// A number, or another one if there is no word.
+fn optional(call: &mut Call<'_>, place: usize, otherwise: u64) -> u64 {
+    if call.word(place).is_empty() {
+        otherwise
+    } else {
+        call.number(place)
     }
 }

@@ -1,6 +1,6 @@
 //! A writer that takes a few bytes at a time, and fails at its Nth write, and a reader that fails:
 //! `piece ..`, `torn ..`.
-use crate::words::{Told, add, add_debug, add_digits, add_two, bytes, number, put, small};
+use crate::call::Call;
 use std::alloc::Global;
 use std::io;
 use std::io::{Error, ErrorKind, Read, Write};
@@ -69,39 +69,33 @@ impl Read for Torn<'_> {
     }
 }
 
-/// A piece of text for a watched writer: adds how it ended, the mark, the calls, and the bytes
-/// taken.
-pub(crate) fn write(
-    alloc: Global,
-    at_once: &str,
-    writes: &str,
-    text: &str,
-    out: &mut String,
-) -> Told {
-    let at_once = usize::from(small(at_once)?);
-    let mut piece = String::from_str(alloc, text)?;
-    piece.push_str("\n")?;
-    let mut writer = Watched::new(Frail::new(alloc, at_once, number(writes)?));
-    add_debug(out, &put_piece(&mut writer, piece.as_bytes()))?;
-    add(out, &writer.failed())?;
-    add(out, &writer.calls())?;
+/// A piece of text for a watched writer: `piece AT_ONCE WRITES TEXT`. Answers how it ended, the
+/// mark, the calls, and the bytes taken.
+pub(crate) fn write(call: &mut Call<'_>) {
+    let frail = Frail::new(call.alloc, usize::from(call.small(1)), call.number(2));
+    let mut writer = Watched::new(frail);
+    let mut piece = Call::new(call.alloc, "");
+    piece.say(call.behind(3));
+    piece.say("\n");
+    call.add_debug(&put_piece(&mut writer, piece.told().as_bytes()));
+    call.add(&writer.failed());
+    call.add(&writer.calls());
     let taken = writer.into_inner().into_taken();
-    add_digits(alloc, out, taken.as_slice())?;
-    Ok(())
+    call.add_digits(taken.as_slice());
 }
 
-/// Two reads of a watched reader that fails once its bytes are gone: adds what each gives, and the
-/// mark.
-pub(crate) fn read(alloc: Global, given: &str, out: &mut String) -> Told {
-    let given = bytes(alloc, given)?;
+/// Two reads of a watched reader that fails once its bytes are gone: `torn BYTES`. Answers what
+/// each gives, and the mark.
+pub(crate) fn read(call: &mut Call<'_>) {
+    let given = call.bytes(1);
     let mut reader = Watched::new(Torn(given.as_slice()));
     let mut buf = [0u8; 4];
     let count = reader.read(&mut buf).unwrap_or(9);
-    add_two(out, &count, &reader.failed())?;
+    call.put("", &count);
+    call.put(" ", &reader.failed());
     let again = reader.read(&mut buf);
-    put(out, "", &again.is_err())?;
-    put(out, " ", &reader.failed())?;
-    put(out, " ", &reader.calls())?;
-    out.push_str("\n")?;
-    Ok(())
+    call.put("\n", &again.is_err());
+    call.put(" ", &reader.failed());
+    call.put(" ", &reader.calls());
+    call.say("\n");
 }

@@ -1,11 +1,7 @@
 //! Calls of a host: `host ..`.
-use crate::hub::options_of;
+use crate::call::Call;
+use crate::hub::options;
 use crate::stage::TestBus;
-use crate::words::{
-    CallFault, Told, add, add_debug, add_digits, add_text, bytes, number, path, put, setup_data,
-    short,
-};
-use std::alloc::{AllocError, Global};
 use usb_enum::Finding;
 use usb_host::{Host, HostFault, News, Round, Setup};
 use usb_port::PortPath;
@@ -13,52 +9,69 @@ use usb_port::PortPath;
 /// The most rounds until one is quiet, and the most news.
 const MOST: u16 = 300;
 
-/// A host over a bus.
-pub(crate) fn opened(alloc: Global, bus: TestBus, options: &[&str]) -> Host<TestBus> {
-    if options.is_empty() {
-        return Host::new(alloc, bus);
-    }
-    if matches!(options, ["wide"]) {
-        return Host::with_wide_hubs(alloc, bus);
-    }
-    match options_of(options) {
-        Ok(options) => Host::with_options(alloc, bus, options),
-        Err(_) => Host::new(alloc, bus),
+/// A host over a bus: `host open OPTIONS`.
+pub(crate) fn opened(bus: TestBus, call: &mut Call<'_>) -> Host<TestBus> {
+    match call.word(2) {
+        "" => Host::new(call.alloc, bus),
+        "wide" => Host::with_wide_hubs(call.alloc, bus),
+        _ => Host::with_options(call.alloc, bus, options(call, 2)),
     }
 }
 
-/// Makes a call, and adds what it answers.
-pub(crate) fn play(
-    alloc: Global,
-    host: &mut Host<TestBus>,
-    words: &[&str],
-    out: &mut String,
-) -> Told {
-    match words {
-        ["round"] => add_debug(out, &host.round())?,
-        ["rounds"] => {
-            let ended = match settle(host) {
-                Ok(Round::Quiet) => "quiet",
-                Ok(Round::Worked) => "busy",
-                Err(_) => "stopped",
-            };
-            add_text(out, ended)?;
+/// Makes a call.
+pub(crate) fn play(host: &mut Host<TestBus>, call: &mut Call<'_>) {
+    match call.word(1) {
+        "round" => call.add_debug(&host.round()),
+        "rounds" if call.word(2) == "until" => rounds_until(host, call.number(3)),
+        "rounds" => call.say(match settle(host) {
+            Ok(Round::Quiet) => "quiet\n",
+            Ok(Round::Worked) => "busy\n",
+            Err(_) => "stopped\n",
+        }),
+        "settle" => {
+            let done = settle(host);
+            tell_done(call, done.err());
         }
-        ["settle"] => match settle(host) {
-            Ok(_) => add_text(out, "Ok(())")?,
-            Err(fault) => add_debug(out, &Err::<(), HostFault>(fault))?,
-        },
-        ["rounds", "until", attempts] => rounds_until(host, number(attempts)?)?,
-        ["look", at] => add_debug(out, &host.look(&path(at)?))?,
-        ["news"] => tell_news(out, host)?,
-        ["news", "count"] => add(out, &news_count(host))?,
-        ["paths"] => tell_paths(out, host)?,
-        ["tree"] => tell_tree(out, host, true)?,
-        ["found"] => tell_tree(out, host, false)?,
-        ["said", at] => tell_said(alloc, out, host, &path(at)?)?,
-        _ => return transfer(alloc, host, words, out),
+        "news" if call.word(2) == "count" => call.add(&news_count(host)),
+        "news" => tell_news(call, host),
+        "paths" | "tree" | "found" => tell_tree(call, host),
+        _ => at_path(host, call),
     }
-    Ok(())
+}
+
+/// A call of what is at a path: a look, a transfer, or what a refused device said.
+fn at_path(host: &mut Host<TestBus>, call: &mut Call<'_>) {
+    let Some(at) = call.path(2) else {
+        return;
+    };
+    match call.word(1) {
+        "look" => call.add_debug(&host.look(&at)),
+        "send" => {
+            let sent = call.bytes(3);
+            tell_done(call, host.send(&at, sent.as_slice()).err());
+        }
+        "receive" => match host.receive(&at, call.short(3)) {
+            Ok(bytes) => call.add_digits(bytes.as_slice()),
+            Err(fault) => tell_done(call, Some(fault)),
+        },
+        "clear" => tell_done(call, host.clear_halt(&at).err()),
+        "control" => control(host, &at, call),
+        _ => match host.said(&at) {
+            Some(said) => call.add_digits(said),
+            None => call.say("none\n"),
+        },
+    }
+}
+
+/// Answers how a call ended, as it is shown to programmers.
+fn tell_done(call: &mut Call<'_>, fault: Option<HostFault>) {
+    match fault {
+        Some(fault) => {
+            call.put_debug("Err(", &fault);
+            call.say(")\n");
+        }
+        None => call.say("Ok(())\n"),
+    }
 }
 
 /// Rounds until one is quiet.
@@ -73,93 +86,62 @@ fn settle(host: &mut Host<TestBus>) -> Result<Round, HostFault> {
 }
 
 /// Rounds until so many attempts were made, ten at most.
-fn rounds_until(host: &mut Host<TestBus>, attempts: u64) -> Told {
+fn rounds_until(host: &mut Host<TestBus>, attempts: u64) {
     for _ in 0..10u8 {
-        if host.bus_mut().below().attempts() < attempts && host.round().is_err() {
-            return Err(CallFault::Words);
+        if host.bus_mut().below().attempts() < attempts {
+            let _ = host.round();
         }
     }
-    Ok(())
-}
-
-/// A transfer.
-fn transfer(alloc: Global, host: &mut Host<TestBus>, words: &[&str], out: &mut String) -> Told {
-    match words {
-        ["send", at, sent] => {
-            let sent = bytes(alloc, sent)?;
-            add_debug(out, &host.send(&path(at)?, sent.as_slice()))?;
-        }
-        ["receive", at, packets] => {
-            match host.receive(&path(at)?, short(packets)?) {
-                Ok(bytes) => add_digits(alloc, out, bytes.as_slice())?,
-                Err(fault) => add_debug(out, &Err::<(), HostFault>(fault))?,
-            }
-        }
-        ["clear", at] => add_debug(out, &host.clear_halt(&path(at)?))?,
-        ["control", at, setup, rest @ ..] => {
-            let setup = Setup::from_bytes(setup_data(alloc, setup)?);
-            return control(alloc, host, &path(at)?, setup, rest, out);
-        }
-        _ => return Err(CallFault::Words),
-    }
-    Ok(())
 }
 
 /// A control transfer: it reads, or writes these bytes.
-fn control(
-    alloc: Global,
-    host: &mut Host<TestBus>,
-    at: &PortPath,
-    setup: Setup,
-    rest: &[&str],
-    out: &mut String,
-) -> Told {
+fn control(host: &mut Host<TestBus>, at: &PortPath, call: &mut Call<'_>) {
+    let setup = Setup::from_bytes(call.setup_data(3));
     if setup.request_type >= 128 {
         match host.control_in(at, setup) {
-            Ok(bytes) => add_digits(alloc, out, bytes.as_slice())?,
-            Err(fault) => tell_fault(out, fault)?,
+            Ok(bytes) => call.add_digits(bytes.as_slice()),
+            Err(fault) => tell_fault(call, fault),
         }
-        return Ok(());
+        return;
     }
-    let [sent] = rest else {
-        return Err(CallFault::Words);
-    };
-    let sent = bytes(alloc, sent)?;
+    let sent = call.bytes(4);
     if usize::from(setup.length) != sent.len() {
-        return Err(CallFault::Words);
+        call.refuse();
+        return;
     }
     match host.control_out(at, setup, sent.as_slice()) {
-        Ok(()) => out.push_str("done\n")?,
-        Err(fault) => tell_fault(out, fault)?,
+        Ok(()) => call.say("done\n"),
+        Err(fault) => tell_fault(call, fault),
     }
-    Ok(())
 }
 
-fn tell_fault(out: &mut String, fault: HostFault) -> Result<(), AllocError> {
+fn tell_fault(call: &mut Call<'_>, fault: HostFault) {
     match fault {
-        HostFault::Transfer(fault) => add(out, &fault),
-        fault => add_debug(out, &fault),
+        HostFault::Transfer(fault) => call.add(&fault),
+        fault => call.add_debug(&fault),
     }
 }
 
-/// Adds news until there is none: each arrival with the number of the device.
-fn tell_news(out: &mut String, host: &mut Host<TestBus>) -> Result<(), AllocError> {
-    'news: for _ in 0..MOST {
+/// Answers news until there is none: each arrival with the number of the device.
+fn tell_news(call: &mut Call<'_>, host: &mut Host<TestBus>) {
+    for _ in 0..MOST {
         match host.next_news() {
-            Some(News::Left(path)) => put(out, "-", &path.text())?,
+            Some(News::Left(path)) => {
+                call.put("-", &path.text());
+                call.say("\n");
+            }
             Some(News::Arrived(path)) => {
+                call.put("+", &path.text());
                 let number = match host.device(&path) {
                     Some(device) => device.number(),
                     None => 0,
                 };
-                put(out, "+", &path.text())?;
-                put(out, " ", &number)?;
+                call.put(" ", &number);
+                call.say("\n");
             }
-            None => return Ok(()),
+            None => return,
         }
-        out.push_str("\n")?;
     }
-    Ok(())
 }
 
 /// How much news there is.
@@ -173,45 +155,31 @@ fn news_count(host: &mut Host<TestBus>) -> u16 {
     count
 }
 
-/// Adds each path where something was found.
-fn tell_paths(out: &mut String, host: &Host<TestBus>) -> Told {
+/// Answers each path where something was found; and what that is, unless `paths` are wanted, with
+/// the addresses of devices, if the `tree` is.
+fn tell_tree(call: &mut Call<'_>, host: &Host<TestBus>) {
     let Ok(tree) = host.tree() else {
-        return Err(CallFault::Memory);
+        call.fill();
+        return;
     };
-    for (path, _) in tree.entries() {
-        add(out, &path.text())?;
-    }
-    Ok(())
-}
-
-/// Adds each path and what was found there; with the addresses of devices, if they are wanted.
-fn tell_tree(out: &mut String, host: &Host<TestBus>, addresses: bool) -> Told {
-    let Ok(tree) = host.tree() else {
-        return Err(CallFault::Memory);
-    };
+    let what = call.word(1);
     for (path, finding) in tree.entries() {
-        put(out, "", &path.text())?;
-        match finding {
-            Finding::Device(device) if addresses => {
-                put(out, " device ", &device.address.number())?;
-            }
-            Finding::Device(_) => out.push_str(" device")?,
-            Finding::Refused(cause) => put(out, " ", cause)?,
+        call.put("", &path.text());
+        if what != "paths" {
+            tell_found(call, finding, what == "tree");
         }
-        out.push_str("\n")?;
+        call.say("\n");
     }
-    Ok(())
 }
 
-/// Adds what a refused device said.
-fn tell_said(
-    alloc: Global,
-    out: &mut String,
-    host: &Host<TestBus>,
-    path: &PortPath,
-) -> Result<(), AllocError> {
-    match host.said(path) {
-        Some(said) => add_digits(alloc, out, said),
-        None => out.push_str("none\n"),
+fn tell_found(call: &mut Call<'_>, finding: &Finding, addresses: bool) {
+    match finding {
+        Finding::Device(device) => {
+            call.say(" device");
+            if addresses {
+                call.put(" ", &device.address.number());
+            }
+        }
+        Finding::Refused(cause) => call.put(" ", cause),
     }
 }

@@ -1,11 +1,7 @@
 //! Requests to a hub and to a function, calls at root port 1, and what is found there: `hub ..`.
+use crate::call::Call;
 use crate::stage::TestBus;
-use crate::words::{
-    CallFault, Told, add, add_debug, add_digits, feature, number, put, put_debug, put_digits,
-    short, small,
-};
 use arrayvec::ArrayVec;
-use std::alloc::{AllocError, Global};
 use usb_bus::Bus;
 use usb_enum::{Accepted, Finding, HostOptions, Place, enumerate};
 use usb_hub::{
@@ -36,117 +32,100 @@ const ADDRESSED: Target = Target {
     pre: false,
 };
 
-/// Makes a call, and adds what it answers.
-pub(crate) fn play(alloc: Global, bus: &mut TestBus, words: &[&str], out: &mut String) -> Told {
-    match words {
-        ["head"] => tell_bytes(alloc, out, get_device(alloc, bus, NEW, 8))?,
-        ["address"] => tell_done(out, set_address(bus, NEW, 1))?,
-        ["device"] => tell_bytes(alloc, out, get_device(alloc, bus, ADDRESSED, 18))?,
-        ["configuration"] => {
-            tell_bytes(alloc, out, get_config(alloc, bus, ADDRESSED, 0, 18))?;
+/// Makes a call of the hub at address 1, or of a function.
+pub(crate) fn play(bus: &mut TestBus, call: &mut Call<'_>) {
+    let alloc = call.alloc;
+    match call.word(1) {
+        "head" => tell_bytes(call, get_device(alloc, bus, NEW, 8)),
+        "address" => tell_done(call, set_address(bus, NEW, 1)),
+        "device" => tell_bytes(call, get_device(alloc, bus, ADDRESSED, 18)),
+        "configuration" => tell_bytes(call, get_config(alloc, bus, ADDRESSED, 0, 18)),
+        "configure" => tell_done(call, set_configuration(bus, ADDRESSED, 1)),
+        "string" => {
+            let text = get_string(alloc, bus, ADDRESSED, call.small(2), 0x0409);
+            tell_bytes(call, text);
         }
-        ["configure"] => tell_done(out, set_configuration(bus, ADDRESSED, 1))?,
-        ["string", index] => {
-            let text = get_string(alloc, bus, ADDRESSED, small(index)?, 0x0409);
-            tell_bytes(alloc, out, text)?;
-        }
-        ["root", rest @ ..] => return root_call(alloc, bus, rest, out),
-        ["enumerate", supply, options @ ..] => {
-            return enumerated(alloc, bus, supply, options, out);
-        }
-        _ => return hub_call(alloc, bus, words, out),
+        "root" => root_call(bus, call),
+        "enumerate" => enumerated(bus, call),
+        _ => hub_call(bus, call),
     }
-    Ok(())
 }
 
 /// A request to the hub at address 1.
-fn hub_call(alloc: Global, bus: &mut TestBus, words: &[&str], out: &mut String) -> Told {
-    match words {
-        ["descriptor"] => tell_bytes(alloc, out, hub_descriptor(alloc, bus, ADDRESSED))?,
-        ["status"] => tell_status(out, get_status(alloc, bus, ADDRESSED))?,
-        ["port", port] => {
-            let status = hub_port_status(alloc, bus, ADDRESSED, small(port)?);
-            tell_port(out, status)?;
+fn hub_call(bus: &mut TestBus, call: &mut Call<'_>) {
+    match call.word(1) {
+        "descriptor" => tell_bytes(call, hub_descriptor(call.alloc, bus, ADDRESSED)),
+        "status" => tell_status(call, get_status(call.alloc, bus, ADDRESSED)),
+        "port" => {
+            let status = hub_port_status(call.alloc, bus, ADDRESSED, call.small(2));
+            tell_port(call, status);
         }
-        ["set", port, name] => {
-            let set = set_hub_port(bus, ADDRESSED, small(port)?, feature(name)?);
-            tell_done(out, set)?;
+        "set" => {
+            let set = set_hub_port(bus, ADDRESSED, call.small(2), call.feature(3));
+            tell_done(call, set);
         }
-        ["clear", port, name] => {
-            let cleared = clear_hub_port(bus, ADDRESSED, small(port)?, feature(name)?);
-            tell_done(out, cleared)?;
+        _ => {
+            let cleared = clear_hub_port(bus, ADDRESSED, call.small(2), call.feature(3));
+            tell_done(call, cleared);
         }
-        _ => return Err(CallFault::Words),
     }
-    Ok(())
 }
 
 /// A call at root port 1.
-fn root_call(alloc: Global, bus: &mut TestBus, words: &[&str], out: &mut String) -> Told {
-    match words {
-        ["status"] => tell_port(out, port_status(alloc, bus, PORT))?,
-        ["set", name] => {
-            let feature = feature(name)?;
-            if !matches!(feature, PORT_POWER | PORT_RESET) {
-                return Err(CallFault::Words);
+fn root_call(bus: &mut TestBus, call: &mut Call<'_>) {
+    match call.word(2) {
+        "status" => tell_port(call, port_status(call.alloc, bus, PORT)),
+        "set" => {
+            let feature = call.feature(3);
+            if matches!(feature, PORT_POWER | PORT_RESET) {
+                tell_done(call, set_port(bus, PORT, feature));
             }
-            tell_done(out, set_port(bus, PORT, feature))?;
         }
-        ["clear", name] => {
-            let feature = feature(name)?;
-            if !matches!(
+        _ => {
+            let feature = call.feature(3);
+            if matches!(
                 feature,
                 PORT_ENABLE | PORT_POWER | C_PORT_CONNECTION | C_PORT_ENABLE | C_PORT_RESET
             ) {
-                return Err(CallFault::Words);
+                tell_done(call, clear_port(bus, PORT, feature));
             }
-            tell_done(out, clear_port(bus, PORT, feature))?;
         }
-        _ => return Err(CallFault::Words),
     }
-    Ok(())
 }
 
-fn tell_done(out: &mut String, outcome: Result<(), PipeFault>) -> Result<(), AllocError> {
+fn tell_done(call: &mut Call<'_>, outcome: Result<(), PipeFault>) {
     match outcome {
-        Ok(()) => out.push_str("done\n"),
-        Err(fault) => add_debug(out, &fault),
+        Ok(()) => call.say("done\n"),
+        Err(fault) => call.add_debug(&fault),
     }
 }
 
-fn tell_bytes(
-    alloc: Global,
-    out: &mut String,
-    outcome: Result<Vec<u8>, PipeFault>,
-) -> Result<(), AllocError> {
+fn tell_bytes(call: &mut Call<'_>, outcome: Result<Vec<u8>, PipeFault>) {
     match outcome {
-        Ok(bytes) => add_digits(alloc, out, bytes.as_slice()),
-        Err(fault) => add_debug(out, &fault),
+        Ok(bytes) => call.add_digits(bytes.as_slice()),
+        Err(fault) => call.add_debug(&fault),
     }
 }
 
-/// Adds the names of the bits of a device's status that are set.
-fn tell_status(
-    out: &mut String,
-    outcome: Result<DeviceStatus, PipeFault>,
-) -> Result<(), AllocError> {
+/// Answers the names of the bits of a device's status that are set.
+fn tell_status(call: &mut Call<'_>, outcome: Result<DeviceStatus, PipeFault>) {
     match outcome {
         Ok(status) => tell_names(
-            out,
+            call,
             &[
                 (status.self_powered, "self_powered"),
                 (status.remote_wakeup, "remote_wakeup"),
             ],
         ),
-        Err(fault) => add_debug(out, &fault),
+        Err(fault) => call.add_debug(&fault),
     }
 }
 
-/// Adds the names of the bits of a port's status that are set.
-fn tell_port(out: &mut String, outcome: Result<PortStatus, PipeFault>) -> Result<(), AllocError> {
+/// Answers the names of the bits of a port's status that are set.
+fn tell_port(call: &mut Call<'_>, outcome: Result<PortStatus, PipeFault>) {
     match outcome {
         Ok(status) => tell_names(
-            out,
+            call,
             &[
                 (status.connected, "connected"),
                 (status.enabled, "enabled"),
@@ -157,87 +136,83 @@ fn tell_port(out: &mut String, outcome: Result<PortStatus, PipeFault>) -> Result
                 (status.reset_changed, "reset_changed"),
             ],
         ),
-        Err(fault) => add_debug(out, &fault),
+        Err(fault) => call.add_debug(&fault),
     }
 }
 
-/// Adds the names of what is set, a dash if nothing is.
-fn tell_names(out: &mut String, names: &[(bool, &str)]) -> Result<(), AllocError> {
+/// Answers the names of what is set, a dash if nothing is.
+fn tell_names(call: &mut Call<'_>, names: &[(bool, &str)]) {
     let mut separator = "";
     for (is_set, name) in names {
         if *is_set {
-            out.push_str(separator)?;
-            out.push_str(name)?;
+            call.say(separator);
+            call.say(name);
             separator = " ";
         }
     }
-    if separator.is_empty() {
-        out.push_str("-")?;
-    }
-    out.push_str("\n")
+    call.say(if separator.is_empty() { "-\n" } else { "\n" });
 }
 
-/// Enumerates what is at root port 1, which gives so much power. Adds what is found, what the
-/// device said, and what the port and the free addresses are then.
-fn enumerated(
-    alloc: Global,
-    bus: &mut TestBus,
-    supply: &str,
-    options: &[&str],
-    out: &mut String,
-) -> Told {
+/// Enumerates what is at root port 1, which gives so much power: `SUPPLY OPTIONS`. Answers what is
+/// found, what the device said, and what the port and the free addresses are then.
+fn enumerated(bus: &mut TestBus, call: &mut Call<'_>) {
     let place = Place {
         tier: 2,
-        supply: short(supply)?,
-        options: options_of(options)?,
+        supply: call.short(2),
+        options: options(call, 3),
     };
     let mut pool = AddressPool::new();
     let mut said = ArrayVec::new();
-    match enumerate(alloc, bus, &mut pool, PORT, place, &mut said) {
-        Ok(finding) => tell_finding(alloc, out, &finding)?,
-        Err(fault) => put_debug(out, "", &fault)?,
+    match enumerate(call.alloc, bus, &mut pool, PORT, place, &mut said) {
+        Ok(finding) => tell_finding(call, &finding),
+        Err(fault) => call.put_debug("", &fault),
     }
-    out.push_str("; said ")?;
-    tell_said(alloc, out, said.as_slice())?;
-    put(out, "; ", &bus.below().attempts())?;
-    put(out, " attempts, enabled: ", &is_enabled(alloc, bus))?;
-    out.push_str(", next address ")?;
-    match pool.take() {
-        Some(address) => add(out, &address.number())?,
-        None => out.push_str("0\n")?,
+    call.say("; said ");
+    if said.is_empty() {
+        call.say("nothing");
+    } else {
+        call.put_digits("", said.as_slice());
     }
-    Ok(())
+    call.put("; ", &bus.below().attempts());
+    call.put(" attempts, enabled: ", &is_enabled(bus, call));
+    let next = match pool.take() {
+        Some(address) => address.number(),
+        None => 0,
+    };
+    call.put(", next address ", &next);
+    call.say("\n");
 }
 
-/// The options of a host: `wide` if it takes wide hubs, and the most bytes of a device.
-pub(crate) fn options_of(words: &[&str]) -> Result<HostOptions, CallFault> {
-    match words {
-        [] => Ok(HostOptions::usual(false)),
-        ["wide"] => Ok(HostOptions::usual(true)),
-        [most] => {
-            let most = number(most)?;
+/// The options of a host: `wide` if it takes wide hubs, or the most bytes of a device.
+pub(crate) fn options(call: &mut Call<'_>, place: usize) -> HostOptions {
+    match call.word(place) {
+        "" => HostOptions::usual(false),
+        "wide" => HostOptions::usual(true),
+        _ => {
             let mut options = HostOptions::usual(false);
-            options.device_bytes = Some(usize::try_from(most).unwrap_or(usize::MAX));
-            Ok(options)
+            options.device_bytes = Some(usize::from(call.short(place)));
+            options
         }
-        _ => Err(CallFault::Words),
     }
 }
 
-/// Adds what a copy of a finding reports.
-fn tell_finding(alloc: Global, out: &mut String, finding: &Finding) -> Result<(), AllocError> {
-    match finding.try_clone(alloc)? {
-        Finding::Device(device) => tell_device(alloc, out, &device),
-        Finding::Refused(cause) => put(out, "refused ", &cause),
+/// Answers what a copy of a finding reports.
+fn tell_finding(call: &mut Call<'_>, finding: &Finding) {
+    match finding.try_clone(call.alloc) {
+        Ok(Finding::Device(device)) => tell_device(call, &device),
+        Ok(Finding::Refused(cause)) => call.put("refused ", &cause),
+        Err(_) => call.fill(),
     }
 }
 
-/// Adds the address, the speed and the descriptors of a device, and whether there is a product
+/// Answers the address, the speed and the descriptors of a device, and whether there is a product
 /// string.
-fn tell_device(alloc: Global, out: &mut String, device: &Accepted) -> Result<(), AllocError> {
-    put(out, "", &device.address.number())?;
-    out.push_str(if device.low { " low " } else { " full " })?;
-    put_digits(alloc, out, "", device.bytes.as_slice())?;
+fn tell_device(call: &mut Call<'_>, device: &Accepted) {
+    call.put("", &device.address.number());
+    call.put_digits(
+        if device.low { " low " } else { " full " },
+        device.bytes.as_slice(),
+    );
     let mut index = 0usize;
     for config in device.configs.as_slice() {
         let words = if index == device.chosen {
@@ -245,26 +220,18 @@ fn tell_device(alloc: Global, out: &mut String, device: &Accepted) -> Result<(),
         } else {
             ", "
         };
-        put_digits(alloc, out, words, config.as_slice())?;
+        call.put_digits(words, config.as_slice());
         index = index.saturating_add(1);
     }
-    out.push_str(match device.strings.product {
+    call.say(match device.strings.product {
         Some(_) => ", a product",
         None => ", no product",
-    })
-}
-
-/// Adds the bytes that a device said of itself.
-fn tell_said(alloc: Global, out: &mut String, said: &[u8]) -> Result<(), AllocError> {
-    if said.is_empty() {
-        return out.push_str("nothing");
-    }
-    put_digits(alloc, out, "", said)
+    });
 }
 
 /// Whether root port 1 is enabled.
-fn is_enabled(alloc: Global, bus: &mut TestBus) -> bool {
-    match port_status(alloc, bus, PORT) {
+fn is_enabled(bus: &mut TestBus, call: &Call<'_>) -> bool {
+    match port_status(call.alloc, bus, PORT) {
         Ok(status) => status.enabled,
         Err(_) => false,
     }

@@ -4,8 +4,10 @@
 #![tactic(auto)]
 
 mod attempts;
+mod call;
 mod described;
 mod descriptors;
+mod desk;
 mod device;
 mod ended;
 mod faults;
@@ -22,6 +24,5 @@ mod stage;
 mod transfers;
 mod tree;
 mod wire;
-mod words;
 
 pub use row::{Tally, play_calls};

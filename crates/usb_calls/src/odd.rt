@@ -7,8 +7,7 @@ ghost use Rattle.usb_world.specs.declared.types.BusFault.TheVariants.{Failed};
 ghost use Rattle.usb_world.specs.PlainAttempts.{attempt_data};
 ghost use Rattle.usb_world.specs.Worlds.{FitsMaximum, IsAttempt};
 
-use crate::words;
-use crate::words::{CallFault, add, number, small};
+use crate::call::Call;
 use arrayvec::ArrayVec;
 use usb_bus::{Attempt, Bus, BusFault, Outcome};
 use usb_packet::Toggle;
@@ -77,19 +76,18 @@ impl Told {
 }
 
 /// The change that words name.
-fn told_of(words: &[&str]) -> Result<Told, CallFault> {
-    match words {
-        ["port", feature] => Ok(Told::new(true, small(feature)?)),
-        ["hub", feature] => Ok(Told::new(false, small(feature)?)),
-        ["refused"] => Ok(Told {
+fn told_of(call: &mut Call<'_>) -> Told {
+    match call.word(2) {
+        "port" => Told::new(true, call.small(3)),
+        "hub" => Told::new(false, call.small(3)),
+        "refused" => Told {
             is_refused: true,
             ..Told::new(false, 0)
-        }),
-        ["stuck"] => Ok(Told {
+        },
+        _ => Told {
             is_stuck: true,
             ..Told::new(true, 16)
-        }),
-        _ => Err(CallFault::Words),
+        },
     }
 }
 
@@ -190,27 +188,29 @@ impl<B: Bus> OddBus<B> {
     }
 
     /// A call: what it is to report from now on, or what became of that.
-    pub(crate) fn play(&mut self, words: &[&str], out: &mut String) -> words::Told {
-        match words {
-            ["fails", "never"] => self.attempts_left = u64::MAX,
-            ["fails", "after", attempts] => self.attempts_left = number(attempts)?,
-            ["hub"] => self.is_odd = true,
-            ["holds", port] => self.stuck = small(port)?,
-            ["holds", port, "dark"] => {
-                self.stuck = small(port)?;
-                self.dark = true;
+    pub(crate) fn play(&mut self, call: &mut Call<'_>) {
+        match call.word(1) {
+            "fails" => {
+                self.attempts_left = match call.word(2) {
+                    "never" => u64::MAX,
+                    _ => call.number(3),
+                };
             }
-            ["reports", rest @ ..] => {
-                let told = told_of(rest)?;
+            "hub" => self.is_odd = true,
+            "holds" => {
+                self.stuck = call.small(2);
+                self.dark = call.word(3) == "dark";
+            }
+            "reports" => {
+                let told = told_of(call);
                 self.told = Some(told);
                 self.disabled = told.at_port && told.feature == 17;
             }
-            ["cleared"] => add(out, &self.cleared)?,
-            ["disabled"] => add(out, &self.disabled)?,
-            ["tries"] => add(out, &self.tries)?,
-            _ => return Err(CallFault::Words),
+            "cleared" => call.add(&self.cleared),
+            "disabled" => call.add(&self.disabled),
+            "tries" => call.add(&self.tries),
+            _ => call.refuse(),
         }
-        Ok(())
     }
 
     /// Who answers these setup data.

@@ -1,9 +1,6 @@
 //! A port step by step, its calls by their features, what its status says, and paths of ports:
 //! `port ..`, `path ..`.
-use crate::words::{
-    CallFault, Told, add, add_debug, behind, path, put, put_debug, short, small, status_bytes,
-};
-use std::alloc::{AllocError, Global};
+use crate::call::Call;
 use usb_port::{Port, PortCall, PortPath, PortStatus};
 
 /// The port and the path of a row.
@@ -22,61 +19,73 @@ impl Places {
     }
 
     /// Makes a call of a port.
-    pub(crate) fn play_port(&mut self, alloc: Global, words: &[&str], out: &mut String) -> Told {
-        match words {
-            ["reads", status] => {
-                let status = PortStatus::from_bytes(status_bytes(alloc, status)?);
-                add_debug(out, &status)?;
+    pub(crate) fn play_port(&mut self, call: &mut Call<'_>) {
+        match call.word(1) {
+            "reads" => {
+                let status = PortStatus::from_bytes(call.status_bytes(2));
+                call.add_debug(&status);
             }
-            ["feature", number] => tell_feature(out, short(number)?)?,
-            [step] => {
-                let answer = take_step(&mut self.port, step)?;
-                put(out, "", &answer)?;
-                put_debug(out, " ", &self.port.status())?;
-                out.push_str("\n")?;
+            "feature" => tell_feature(call),
+            step => {
+                match take_step(&mut self.port, step) {
+                    Some(answer) => call.put("", &answer),
+                    None => call.refuse(),
+                }
+                call.put_debug(" ", &self.port.status());
+                call.say("\n");
             }
-            _ => return Err(CallFault::Words),
         }
-        Ok(())
     }
 
     /// Makes a call of paths.
-    pub(crate) fn play_path(&mut self, words: &[&str], text: &str, out: &mut String) -> Told {
-        match words {
-            ["reads", ..] => tell_path(out, PortPath::from_text(behind(text, 2)))?,
-            ["root", number] => {
-                self.path = PortPath::root(small(number)?);
-                add(out, &self.path.is_some())?;
+    pub(crate) fn play_path(&mut self, call: &mut Call<'_>) {
+        match call.word(1) {
+            "reads" => tell_path(call, PortPath::from_text(call.behind(2))),
+            "root" => {
+                self.path = PortPath::root(call.small(2));
+                call.add(&self.path.is_some());
             }
-            ["push", number] => self.push(small(number)?, out)?,
-            [one, "is", "less", "than", other] => {
-                add(out, &(path(one)? < path(other)?.duplicate()))?;
-            }
-            [one, "is", other] => add(out, &(path(one)? == path(other)?.duplicate()))?,
-            [one, "is", "below", other] => {
-                add(out, &path(one)?.is_below(&path(other)?.duplicate()))?;
-            }
-            _ => return Err(CallFault::Words),
+            "push" => self.push(call),
+            _ => compare(call),
         }
-        Ok(())
     }
 
-    /// Pushes a number on the path. Adds whether it goes, the path then, its port, and its parent.
-    fn push(&mut self, number: u8, out: &mut String) -> Told {
-        let Some(path) = &mut self.path else {
-            return Err(CallFault::Words);
-        };
-        put(out, "", &path.push(number))?;
-        put_debug(out, " ", &path.numbers())?;
-        put(out, " ", &path.port())?;
-        out.push_str(" ")?;
-        tell_path(out, path.parent())?;
-        Ok(())
+    /// Pushes a number on the path. Answers whether it goes, the path then, its port, and its
+    /// parent.
+    fn push(&mut self, call: &mut Call<'_>) {
+        match &mut self.path {
+            Some(path) => {
+                let pushed = path.push(call.small(2));
+                call.put("", &pushed);
+                call.put_debug(" ", &path.numbers());
+                call.put(" ", &path.port());
+                call.say(" ");
+                tell_path(call, path.parent());
+            }
+            None => call.refuse(),
+        }
+    }
+}
+
+/// Compares two paths: `ONE is OTHER`, `is below`, or `is less than`.
+fn compare(call: &mut Call<'_>) {
+    let place = match call.word(3) {
+        "less" => 5,
+        "below" => 4,
+        _ => 3,
+    };
+    if let (Some(one), Some(other)) = (call.path(1), call.path(place)) {
+        let other = other.duplicate();
+        call.add(&match place {
+            5 => one < other,
+            4 => one.is_below(&other),
+            _ => one == other,
+        });
     }
 }
 
 /// Takes a step of a port. Returns the answer to what is asked; true of what is done.
-fn take_step(port: &mut Port, step: &str) -> Result<bool, CallFault> {
+fn take_step(port: &mut Port, step: &str) -> Option<bool> {
     match step {
         "new" => *port = Port::new(),
         "plug_low" => port.plug(true),
@@ -89,30 +98,34 @@ fn take_step(port: &mut Port, step: &str) -> Result<bool, CallFault> {
         "clear_connection" => port.clear_connection_change(),
         "clear_enable" => port.clear_enable_change(),
         "clear_reset" => port.clear_reset_change(),
-        "is_attached" => return Ok(port.is_attached()),
-        "is_low_speed" => return Ok(port.is_low_speed()),
-        "is_powered" => return Ok(port.is_powered()),
-        "is_enabled" => return Ok(port.is_enabled()),
-        "has_change" => return Ok(port.has_change()),
-        _ => return Err(CallFault::Words),
+        "is_attached" => return Some(port.is_attached()),
+        "is_low_speed" => return Some(port.is_low_speed()),
+        "is_powered" => return Some(port.is_powered()),
+        "is_enabled" => return Some(port.is_enabled()),
+        "has_change" => return Some(port.has_change()),
+        _ => return None,
     }
-    Ok(true)
+    Some(true)
 }
 
-/// Adds the calls that set and clear a feature, and whether the one that clears it clears a change
-/// of connection.
-fn tell_feature(out: &mut String, feature: u16) -> Result<(), AllocError> {
-    let clears = PortCall::of_clear(feature).map(PortCall::clears_connection_change);
-    put_debug(out, "", &PortCall::of_set(feature))?;
-    put_debug(out, " ", &PortCall::of_clear(feature))?;
-    put_debug(out, " ", &clears)?;
-    out.push_str("\n")
+/// Answers the calls that set and clear a feature, and whether the one that clears it clears a
+/// change of connection.
+fn tell_feature(call: &mut Call<'_>) {
+    let feature = call.short(2);
+    let clearing = PortCall::of_clear(feature);
+    call.put_debug("", &PortCall::of_set(feature));
+    call.put_debug(" ", &clearing);
+    match clearing {
+        Some(clearing) => call.put_debug(" ", &Some(clearing.clears_connection_change())),
+        None => call.say(" None"),
+    }
+    call.say("\n");
 }
 
-/// Adds the text of a path, a dash if there is none.
-fn tell_path(out: &mut String, path: Option<PortPath>) -> Result<(), AllocError> {
+/// Answers the text of a path, a dash if there is none.
+fn tell_path(call: &mut Call<'_>, path: Option<PortPath>) {
     match path {
-        Some(path) => add(out, &path.text()),
-        None => out.push_str("-\n"),
+        Some(path) => call.add(&path.text()),
+        None => call.say("-\n"),
     }
 }

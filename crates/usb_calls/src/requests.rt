@@ -1,74 +1,49 @@
 //! Requests with the bytes that go over the bus, addresses, and the power of ports: `request ..`,
 //! `address ..`, `power ..`.
-ghost use Rattle.std.specs.Prelude.{◌≤◌, IfOk};
-
-use crate::words::{CallFault, Told, add, add_two, digits, feature, setup_data, short, small};
+use crate::call::Call;
 use std::alloc::Global;
 use usb_port::{Address, AddressPool, supply};
 use usb_request::Setup;
 
-/// Makes a call of requests.
-pub(crate) fn play(alloc: Global, words: &[&str], out: &mut String) -> Told {
-    match words {
-        ["reserved", data] => {
-            let setup = Setup::from_bytes(setup_data(alloc, data)?);
-            add_two(out, &setup.is_reserved(false), &setup.is_reserved(true))?;
-            Ok(())
-        }
-        _ => tell(alloc, made(words)?, out),
+/// Makes a call of requests: answers the bytes of a request, and whether it is what is read of
+/// them; or whether bytes are of a request that is reserved.
+pub(crate) fn play(call: &mut Call<'_>) {
+    if call.word(1) == "reserved" {
+        let setup = Setup::from_bytes(call.setup_data(2));
+        call.put("", &setup.is_reserved(false));
+        call.put(" ", &setup.is_reserved(true));
+    } else {
+        let setup = made(call);
+        let bytes = setup.to_bytes();
+        call.put_digits("", &bytes);
+        call.put(" ", &(Setup::from_bytes(bytes) == setup));
     }
-}
-
-/// Adds the bytes of a request, and whether it is what is read of them.
-fn tell(alloc: Global, setup: Setup, out: &mut String) -> Told {
-    let bytes = setup.to_bytes();
-    add_two(
-        out,
-        &digits(alloc, &bytes)?,
-        &(Setup::from_bytes(bytes) == setup),
-    )?;
-    Ok(())
+    call.say("\n");
 }
 
 /// The request that words name.
-fn made(words: &[&str]) -> Result<Setup, CallFault> {
-    Ok(match words {
-        ["device_descriptor", length] => Setup::get_device_descriptor(short(length)?),
-        ["configuration_descriptor", index, length] => {
-            Setup::get_configuration_descriptor(small(index)?, short(length)?)
+fn made(call: &mut Call<'_>) -> Setup {
+    match call.word(1) {
+        "device_descriptor" => Setup::get_device_descriptor(call.short(2)),
+        "configuration_descriptor" => {
+            Setup::get_configuration_descriptor(call.small(2), call.short(3))
         }
-        ["string_descriptor", index, language] => {
-            Setup::get_string_descriptor(small(index)?, short(language)?)
-        }
-        ["hub_descriptor"] => Setup::get_hub_descriptor(),
-        ["status"] => Setup::get_status(),
-        ["set_address", address] => Setup::set_address(address_of(address)?),
-        ["set_configuration", value] => Setup::set_configuration(small(value)?),
-        ["clear_halt", endpoint] => Setup::clear_endpoint_halt(small(endpoint)?),
-        ["port_status", port] => Setup::get_port_status(small(port)?),
-        ["set", name, port] => Setup::set_port_feature(feature(name)?, small(port)?),
-        ["clear", name, port] => Setup::clear_port_feature(feature(name)?, small(port)?),
-        ["fields", kind, request, value, index, length] => Setup {
-            request_type: small(kind)?,
-            request: small(request)?,
-            value: short(value)?,
-            index: short(index)?,
-            length: short(length)?,
+        "string_descriptor" => Setup::get_string_descriptor(call.small(2), call.short(3)),
+        "hub_descriptor" => Setup::get_hub_descriptor(),
+        "status" => Setup::get_status(),
+        "set_address" => Setup::set_address(call.small(2).clamp(1, 127)),
+        "set_configuration" => Setup::set_configuration(call.small(2)),
+        "clear_halt" => Setup::clear_endpoint_halt(call.small(2)),
+        "port_status" => Setup::get_port_status(call.small(2)),
+        "set" => Setup::set_port_feature(call.feature(2), call.small(3)),
+        "clear" => Setup::clear_port_feature(call.feature(2), call.small(3)),
+        _ => Setup {
+            request_type: call.small(2),
+            request: call.small(3),
+            value: call.short(4),
+            index: call.short(5),
+            length: call.short(6),
         },
-        _ => return Err(CallFault::Words),
-    })
-}
-
-/// An address that a device can be given.
-fn address_of(word: &str) -> Result<u8, CallFault>
-    ensures least { IfOk result (λ address. 1 ≤ address) }
-    ensures most { IfOk result (λ address. address ≤ 127) }
-{
-    let address = small(word)?;
-    if address >= 1 && address <= 127 {
-        Ok(address)
-    } else {
-        Err(CallFault::Words)
     }
 }
 
@@ -88,44 +63,48 @@ impl Addresses {
     }
 
     /// Makes a call of addresses.
-    pub(crate) fn play(&mut self, words: &[&str], out: &mut String) -> Told {
-        match words {
-            ["take"] => match self.pool.take() {
-                Some(address) => {
-                    add_two(out, &address.number(), &self.pool.is_free(address))?;
-                    if self.taken.push(address).is_err() {
-                        return Err(CallFault::Memory);
-                    }
-                }
-                None => out.push_str("none\n")?,
-            },
-            ["release", number] => {
-                let number = small(number)?;
-                for address in self.taken.as_slice() {
-                    if address.number() == number {
-                        self.pool.release(*address);
-                    }
+    pub(crate) fn play(&mut self, call: &mut Call<'_>) {
+        match call.word(1) {
+            "take" => self.take(call),
+            "release" => {
+                if let Some(address) = self.find(call.small(2)) {
+                    self.pool.release(address);
                 }
             }
-            ["free", number] => {
-                let number = small(number)?;
-                let free = self.is_free(number);
-                add(out, &free)?;
+            "free" => {
+                let is_free = match self.find(call.small(2)) {
+                    Some(address) => self.pool.is_free(address),
+                    None => false,
+                };
+                call.add(&is_free);
             }
-            ["rising"] => add(out, &self.is_rising())?,
-            _ => return Err(CallFault::Words),
+            _ => call.add(&self.is_rising()),
         }
-        Ok(())
     }
 
-    /// Whether one of the addresses that were taken is free.
-    fn is_free(&self, number: u8) -> bool {
+    /// Takes an address. Answers it, and whether it is free then.
+    fn take(&mut self, call: &mut Call<'_>) {
+        match self.pool.take() {
+            Some(address) => {
+                call.put("", &address.number());
+                call.put(" ", &self.pool.is_free(address));
+                call.say("\n");
+                if self.taken.push(address).is_err() {
+                    call.fill();
+                }
+            }
+            None => call.say("none\n"),
+        }
+    }
+
+    /// The address with this number, if it was taken.
+    fn find(&self, number: u8) -> Option<Address> {
         for address in self.taken.as_slice() {
             if address.number() == number {
-                return self.pool.is_free(*address);
+                return Some(*address);
             }
         }
-        false
+        None
     }
 
     /// Whether each address that was taken is greater than the one before.
@@ -143,11 +122,8 @@ impl Addresses {
     }
 }
 
-/// Adds the power of a port: `root` or `hub`, with `own` power or from the `bus`.
-pub(crate) fn tell_power(words: &[&str], out: &mut String) -> Told {
-    let [place, power] = words else {
-        return Err(CallFault::Words);
-    };
-    add(out, &(supply(*place == "root", *power == "own")))?;
-    Ok(())
+/// Answers the power of a port: `root` or `hub`, with `own` power or from the `bus`.
+pub(crate) fn tell_power(call: &mut Call<'_>) {
+    let power = supply(call.word(1) == "root", call.word(2) == "own");
+    call.add(&power);
 }

@@ -4,8 +4,8 @@
 //! - `<`: a line of its plan. `<<`: the file whose text comes next in the plan.
 //! - `$`: a call. `>`: a line of what the last call answers. `%`: a call that may answer anything.
 //! - `#`: a comment. Empty lines count for nothing.
+use crate::call::Call;
 use crate::stage::{Stage, play};
-use crate::words::{CallFault, add_text};
 use std::alloc::{AllocError, Global};
 use std::rt::Files;
 use std::{fs, io};
@@ -51,6 +51,7 @@ pub fn play_calls<R: Files + Print + AllocGlobal>(
 /// A row that is played.
 #[derive(Drop)]
 struct Row<'a> {
+    alloc: Global,
     stage: Stage,
     /// What it is about; empty before the first row.
     about: &'a str,
@@ -67,6 +68,7 @@ struct Row<'a> {
 impl<'a> Row<'a> {
     fn new(alloc: Global) -> Row<'a> {
         Row {
+            alloc,
             stage: Stage::new(alloc),
             about: "",
             call: "",
@@ -81,52 +83,53 @@ impl<'a> Row<'a> {
     fn take(&mut self, tally: &mut Tally, line: &'a str) -> Result<(), AllocError> {
         let (sign, rest) = line.split_once(' ').unwrap_or((line, ""));
         match sign {
-            "" | "#" => {}
+            "" | "#" => Ok(()),
             "*" => {
                 self.finish(tally)?;
                 self.about = rest;
+                Ok(())
             }
-            "<" => add_text(&mut self.stage.plan, rest)?,
-            "$" => self.play(rest)?,
+            "<" => add_line(&mut self.stage.plan, rest),
+            "$" => self.play(rest),
             "%" => {
                 self.play(rest)?;
-                self.told = String::new(self.stage.alloc);
+                self.told = String::new(self.alloc);
+                Ok(())
             }
-            ">" => add_text(&mut self.wanted, rest)?,
+            ">" => add_line(&mut self.wanted, rest),
             _ => {
-                self.report.push_str("no such line: ")?;
-                add_text(&mut self.report, line)?;
                 self.as_wanted = false;
+                add_line(&mut self.report, line)
             }
         }
-        Ok(())
     }
 
-    /// Plays a call. A call that is none answers that.
-    fn play(&mut self, call: &'a str) -> Result<(), AllocError> {
+    /// Makes a call.
+    fn play(&mut self, text: &'a str) -> Result<(), AllocError> {
         self.compare()?;
-        self.call = call;
-        match play(&mut self.stage, call, &mut self.told) {
-            Ok(()) => Ok(()),
-            Err(CallFault::Words) => self.told.push_str("no such call\n"),
-            Err(CallFault::Memory) => Err(AllocError),
-        }
+        self.call = text;
+        let mut call = Call::new(self.alloc, text);
+        play(&mut self.stage, &mut call);
+        self.told = call.into_told()?;
+        Ok(())
     }
 
     /// Compares what the last call answered, and reports both if that is not what was wanted.
     fn compare(&mut self) -> Result<(), AllocError> {
         if self.told.as_str() != self.wanted.as_str() {
-            self.report.push_str(self.about)?;
-            self.report.push_str(": ")?;
-            self.report.push_str(self.call)?;
-            self.report.push_str(" told\n")?;
-            self.report.push_str(self.told.as_str())?;
-            self.report.push_str("and not\n")?;
-            add_text(&mut self.report, self.wanted.as_str())?;
             self.as_wanted = false;
+            for text in [
+                self.about,
+                self.call,
+                self.told.as_str(),
+                "and not",
+                self.wanted.as_str(),
+            ] {
+                add_line(&mut self.report, text)?;
+            }
         }
-        self.told = String::new(self.stage.alloc);
-        self.wanted = String::new(self.stage.alloc);
+        self.told = String::new(self.alloc);
+        self.wanted = String::new(self.alloc);
         self.call = "";
         Ok(())
     }
@@ -137,9 +140,14 @@ impl<'a> Row<'a> {
         if !self.about.is_empty() {
             tally.count(self.as_wanted);
         }
-        self.stage = Stage::new(self.stage.alloc);
+        self.stage = Stage::new(self.alloc);
         self.about = "";
         self.as_wanted = true;
         Ok(())
     }
+}
+
+fn add_line(out: &mut String, text: &str) -> Result<(), AllocError> {
+    out.push_str(text)?;
+    out.push_str("\n")
 }

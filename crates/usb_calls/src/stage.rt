@@ -1,19 +1,18 @@
 //! What a row has so far, and what each call makes of it.
-use crate::device::Bench;
+use crate::call::Call;
+use crate::desk::Desk;
 use crate::ended::Ended;
 use crate::frail::Frail;
 use crate::odd::OddBus;
 use crate::ports::Places;
-use crate::records::Desk;
 use crate::requests::Addresses;
 use crate::transfers::Pipes;
-use crate::words::{CallFault, Told, add, behind, number, words_of};
 use crate::{
-    attempts, descriptors, faults, frail, host, hub, packets, records, requests, transfers, tree,
-    wire,
+    attempts, descriptors, device, faults, frail, host, hub, packets, records, requests, transfers,
+    tree, wire,
 };
 use std::alloc::Global;
-use usb_function::Ports;
+use usb_function::{Device, Ports};
 use usb_host::Host;
 use usb_plan::read_plan;
 use usb_sim::{Plan, SimBus, Tracer, Untraced};
@@ -28,7 +27,6 @@ pub(crate) type TestBus = OddBus<TracedBus>;
 /// What a row has so far.
 #[derive(Drop)]
 pub(crate) struct Stage {
-    pub(crate) alloc: Global,
     /// The text of its plan.
     pub(crate) plan: String,
     bus: Option<TestBus>,
@@ -36,7 +34,7 @@ pub(crate) struct Stage {
     host: Option<Host<TestBus>>,
     ended: Option<Ended>,
     pipes: Pipes,
-    device: Bench,
+    device: Option<Device>,
     ports: Option<Ports>,
     places: Places,
     addresses: Addresses,
@@ -46,156 +44,140 @@ pub(crate) struct Stage {
 impl Stage {
     pub(crate) fn new(alloc: Global) -> Stage {
         Stage {
-            alloc,
             plan: String::new(alloc),
             bus: None,
             untraced: None,
             host: None,
             ended: None,
             pipes: Pipes::new(),
-            device: Bench::new(alloc),
+            device: None,
             ports: None,
             places: Places::new(),
             addresses: Addresses::new(alloc),
-            desk: Desk::new(alloc),
+            desk: Desk::new(),
         }
     }
 }
 
-/// Makes a call, and adds what it answers.
-pub(crate) fn play(stage: &mut Stage, text: &str, out: &mut String) -> Told {
-    let words = words_of(stage.alloc, text)?;
-    let Some((area, rest)) = words.as_slice().split_first() else {
-        return Err(CallFault::Words);
-    };
-    match *area {
-        "bus" => play_bus(stage, rest, text, out),
-        "transaction" => play_transaction(stage, rest, out),
-        "pipe" => play_pipe(stage, rest, out),
-        "hub" => match &mut stage.bus {
-            Some(bus) => hub::play(stage.alloc, bus, rest, out),
-            None => Err(CallFault::Words),
-        },
-        "host" => play_host(stage, rest, out),
-        "odd" => play_odd(stage, rest, out),
-        "trace" => play_trace(stage, rest, out),
-        "driver" => play_driver(stage, rest, out),
-        "device" => stage.device.play(stage.plan.as_str(), rest, text, out),
-        "ports" => play_ports(stage, rest, out),
-        "port" => stage.places.play_port(stage.alloc, rest, out),
-        "path" => stage.places.play_path(rest, text, out),
-        "address" => stage.addresses.play(rest, out),
-        _ => play_leaf(stage.alloc, words.as_slice(), text, out),
+/// Makes a call.
+pub(crate) fn play(stage: &mut Stage, call: &mut Call<'_>) {
+    match call.word(0) {
+        "bus" => play_bus(stage, call),
+        "pipe" => play_pipe(stage, call),
+        "transaction" | "hub" => play_at_bus(stage, call),
+        "host" => play_host(stage, call),
+        "odd" => play_odd(stage, call),
+        "trace" => play_trace(stage, call),
+        "driver" => play_driver(stage, call),
+        "device" => device::play(&mut stage.device, stage.plan.as_str(), call),
+        "ports" => tree::play(&mut stage.ports, stage.plan.as_str(), call),
+        "port" => stage.places.play_port(call),
+        "path" => stage.places.play_path(call),
+        "address" => stage.addresses.play(call),
+        _ => play_leaf(call),
     }
 }
 
 /// A call for which nothing of the row counts.
-fn play_leaf(alloc: Global, words: &[&str], text: &str, out: &mut String) -> Told {
-    match words {
-        ["packet", rest @ ..] => packets::play(alloc, rest, out),
-        ["request", rest @ ..] => requests::play(alloc, rest, out),
-        ["power", rest @ ..] => requests::tell_power(rest, out),
-        ["read", rest @ ..] => descriptors::play(alloc, rest, out),
-        ["wire", rest @ ..] => wire::play(alloc, rest, text, out),
-        ["record", rest @ ..] => records::play(alloc, rest, out),
-        ["fault", rest @ ..] => faults::play(rest, out),
-        ["piece", at_once, writes, ..] => frail::write(
-            alloc,
-            at_once,
-            writes,
-            behind(text, 3),
-            out,
-        ),
-        ["torn", given] => frail::read(alloc, given, out),
-        _ => Err(CallFault::Words),
+fn play_leaf(call: &mut Call<'_>) {
+    match call.word(0) {
+        "packet" => packets::play(call),
+        "request" => requests::play(call),
+        "power" => requests::tell_power(call),
+        "read" => descriptors::play(call),
+        "wire" => wire::play(call),
+        "record" => records::play(call),
+        "fault" => faults::play(call),
+        "piece" => frail::write(call),
+        "torn" => frail::read(call),
+        _ => call.refuse(),
     }
 }
 
-/// The plan of a text. Adds its fault if it is none.
-pub(crate) fn plan_in(alloc: Global, text: &str, out: &mut String) -> Result<Plan, CallFault> {
-    match read_plan(alloc, text) {
-        Ok(plan) => Ok(plan),
+/// The plan of a row. Answers its fault if it is none.
+fn plan_in(stage: &Stage, call: &mut Call<'_>) -> Option<Plan> {
+    match read_plan(call.alloc, stage.plan.as_str()) {
+        Ok(plan) => Some(plan),
         Err(fault) => {
-            add(out, &fault)?;
-            Err(CallFault::Words)
+            call.add(&fault);
+            call.refuse();
+            None
         }
     }
 }
 
 /// A call of a bus, which comes into being by `bus open`.
-fn play_bus(stage: &mut Stage, words: &[&str], text: &str, out: &mut String) -> Told {
-    match words {
-        ["open"] => return open(stage, usize::MAX, u64::MAX, out),
-        ["open", "in", "bytes", writes] => return open(stage, 1, number(writes)?, out),
-        ["open", "untraced"] => {
-            let plan = plan_in(stage.alloc, stage.plan.as_str(), out)?;
-            stage.untraced = Some(SimBus::untraced(stage.alloc, &plan)?);
-            return Ok(());
+fn play_bus(stage: &mut Stage, call: &mut Call<'_>) {
+    if call.word(1) == "open" {
+        open(stage, call);
+    } else if let Some(bus) = &mut stage.untraced {
+        attempts::play(bus, call);
+    } else if let Some(host) = &mut stage.host {
+        attempts::play(host.bus_mut().below(), call);
+    } else if let Some(bus) = &mut stage.bus {
+        attempts::play(bus.below(), call);
+    } else {
+        call.refuse();
+    }
+}
+
+/// A bus of the plan, before anything came. With `untraced` it has no trace. With `in bytes WRITES`
+/// the writer of its trace takes a byte at a time, and so many writes.
+fn open(stage: &mut Stage, call: &mut Call<'_>) {
+    let Some(plan) = plan_in(stage, call) else {
+        return;
+    };
+    let alloc = call.alloc;
+    let frail = match call.word(2) {
+        "untraced" => {
+            stage.untraced = SimBus::untraced(alloc, &plan).ok();
+            return;
         }
-        _ => {}
-    }
-    if let Some(bus) = &mut stage.untraced {
-        return attempts::play(stage.alloc, bus, words, text, out);
-    }
-    if let Some(host) = &mut stage.host {
-        return attempts::play(stage.alloc, host.bus_mut().below(), words, text, out);
-    }
-    if let Some(bus) = &mut stage.bus {
-        return attempts::play(stage.alloc, bus.below(), words, text, out);
-    }
-    Err(CallFault::Words)
-}
-
-/// A bus of the plan, before anything came, whose writer takes so many bytes at a time, and so many
-/// writes.
-fn open(stage: &mut Stage, at_once: usize, writes: u64, out: &mut String) -> Told {
-    let plan = plan_in(stage.alloc, stage.plan.as_str(), out)?;
-    let writer = Watched::new(Frail::new(stage.alloc, at_once, writes));
-    let Ok(bus) = SimBus::new(stage.alloc, &plan, writer) else {
-        return Err(CallFault::Memory);
+        "in" => Frail::new(alloc, 1, call.number(4)),
+        _ => Frail::new(alloc, usize::MAX, u64::MAX),
     };
-    stage.bus = Some(OddBus::new(bus));
-    Ok(())
-}
-
-/// A transaction, and the number of attempts.
-fn play_transaction(stage: &mut Stage, words: &[&str], out: &mut String) -> Told {
-    let Some(bus) = &mut stage.bus else {
-        return Err(CallFault::Words);
-    };
-    transfers::transact(stage.alloc, bus, words, out)?;
-    out.push_str(" ")?;
-    add(out, &bus.below().attempts())?;
-    Ok(())
-}
-
-fn play_pipe(stage: &mut Stage, words: &[&str], out: &mut String) -> Told {
-    if let Some(bus) = &mut stage.untraced {
-        return transfers::play(stage.alloc, bus, &mut stage.pipes, words, out);
+    match SimBus::new(alloc, &plan, Watched::new(frail)) {
+        Ok(bus) => stage.bus = Some(OddBus::new(bus)),
+        Err(_) => call.fill(),
     }
+}
+
+/// A call of pipes at a bus.
+fn play_pipe(stage: &mut Stage, call: &mut Call<'_>) {
+    if let Some(bus) = &mut stage.untraced {
+        transfers::play(bus, &mut stage.pipes, call);
+    } else if let Some(bus) = &mut stage.bus {
+        transfers::play(bus, &mut stage.pipes, call);
+    } else {
+        call.refuse();
+    }
+}
+
+/// A call at a bus: of a hub, or a transaction, to whose answer the number of attempts is added.
+fn play_at_bus(stage: &mut Stage, call: &mut Call<'_>) {
     match &mut stage.bus {
-        Some(bus) => transfers::play(stage.alloc, bus, &mut stage.pipes, words, out),
-        None => Err(CallFault::Words),
+        Some(bus) if call.word(0) == "hub" => hub::play(bus, call),
+        Some(bus) => {
+            transfers::transact(bus, call);
+            call.put(" ", &bus.below().attempts());
+            call.say("\n");
+        }
+        None => call.refuse(),
     }
 }
 
 /// A call of a host, which takes the bus by `host open`, and gives it back by `host close`.
-fn play_host(stage: &mut Stage, words: &[&str], out: &mut String) -> Told {
-    match words {
-        ["open", options @ ..] => {
-            let Some(bus) = stage.bus.take() else {
-                return Err(CallFault::Words);
-            };
-            stage.host = Some(host::opened(stage.alloc, bus, options));
-            Ok(())
+fn play_host(stage: &mut Stage, call: &mut Call<'_>) {
+    match call.word(1) {
+        "open" => {
+            if let Some(bus) = stage.bus.take() {
+                stage.host = Some(host::opened(bus, call));
+            }
         }
-        ["close"] => {
-            close(stage);
-            Ok(())
-        }
+        "close" => close(stage),
         _ => match &mut stage.host {
-            Some(host) => host::play(stage.alloc, host, words, out),
-            None => Err(CallFault::Words),
+            Some(host) => host::play(host, call),
+            None => call.refuse(),
         },
     }
 }
@@ -207,50 +189,34 @@ fn close(stage: &mut Stage) {
     }
 }
 
-/// A call of what is odd at a bus: changes that a hub or a root port reports for good, and a bus
-/// that fails.
-fn play_odd(stage: &mut Stage, words: &[&str], out: &mut String) -> Told {
+/// A call of what is odd at a bus.
+fn play_odd(stage: &mut Stage, call: &mut Call<'_>) {
     if let Some(host) = &mut stage.host {
-        return host.bus_mut().play(words, out);
-    }
-    match &mut stage.bus {
-        Some(bus) => bus.play(words, out),
-        None => Err(CallFault::Words),
+        host.bus_mut().play(call);
+    } else if let Some(bus) = &mut stage.bus {
+        bus.play(call);
+    } else {
+        call.refuse();
     }
 }
 
 /// A call of the trace: the bus ends.
-fn play_trace(stage: &mut Stage, words: &[&str], out: &mut String) -> Told {
+fn play_trace(stage: &mut Stage, call: &mut Call<'_>) {
     close(stage);
     if let Some(bus) = stage.bus.take() {
         stage.ended = Some(Ended::new(bus.into_inner().into_writer()));
     }
     match &stage.ended {
-        Some(ended) => ended.tell(words, out),
-        None => Err(CallFault::Words),
-    }
-}
-
-/// A call of two ports and of what is plugged there.
-fn play_ports(stage: &mut Stage, words: &[&str], out: &mut String) -> Told {
-    let alloc = stage.alloc;
-    match (words, &mut stage.ports) {
-        (["open"], ports) => {
-            *ports = Some(Ports::new(alloc, 2)?);
-            Ok(())
-        }
-        (_, Some(ports)) => tree::play(alloc, ports, stage.plan.as_str(), words, out),
-        (_, None) => Err(CallFault::Words),
+        Some(ended) => ended.play(call),
+        None => call.refuse(),
     }
 }
 
 /// A call of a driver.
-fn play_driver(stage: &mut Stage, words: &[&str], out: &mut String) -> Told {
-    match words {
-        ["open", most @ ..] => {
-            let plan = plan_in(stage.alloc, stage.plan.as_str(), out)?;
-            stage.desk.open(&plan, most)
-        }
-        _ => stage.desk.play(words, out),
+fn play_driver(stage: &mut Stage, call: &mut Call<'_>) {
+    if call.word(1) != "open" {
+        stage.desk.play(call);
+    } else if let Some(plan) = plan_in(stage, call) {
+        stage.desk.open(&plan, call);
     }
 }

@@ -3,12 +3,9 @@
 ghost use Rattle.std.specs.Prelude.{◌≡◌};
 ghost use Rattle.usb_transfer.specs.Transactions.{IsTarget};
 
-use crate::words::{
-    CallFault, Told, add, add_digits, bytes, endpoint, put_debug, put_digits, setup_data, short,
-    small, toggle,
-};
+use crate::call::Call;
 use arrayvec::ArrayVec;
-use std::alloc::{AllocError, Global};
+use std::alloc::Global;
 use usb_request::feature::PORT_POWER;
 use usb_transfer::{
     Bus, Done, EndpointKind, EndpointPipe, InterruptPipe, PipeFault, Setup, Target, TransFault,
@@ -71,137 +68,97 @@ fn small_target(address: u8) -> Target
     }
 }
 
-/// Makes a transaction. It answers with its bytes or its fault, the toggle after it, and the number
-/// of attempts of the caller is added.
-pub(crate) fn transact<B: Bus>(
-    alloc: Global,
-    bus: &mut B,
-    words: &[&str],
-    out: &mut String,
-) -> Told {
-    let [kind, at, pid, rest @ ..] = words else {
-        return Err(CallFault::Words);
-    };
-    let (address, number) = endpoint(at)?;
+/// Makes a transaction. Answers its bytes or its fault, and the toggle after it.
+pub(crate) fn transact<B: Bus>(bus: &mut B, call: &mut Call<'_>) {
+    let (address, number) = call.endpoint(2);
     let target = small_target(address);
     let number = number % 16;
-    let mut toggle = toggle(pid)?;
-    let answer = match (*kind, rest) {
-        ("setup", [data]) => polled(setup(bus, target, setup_data(alloc, data)?)),
-        ("in", []) => polled(data_in(bus, target, number, &mut toggle)),
-        ("poll", []) => poll_in(bus, target, number, &mut toggle),
-        ("out", [data]) => {
-            let all = bytes(alloc, data)?;
-            let sent = all.as_slice();
-            let sent = &sent[..sent.len().min(8)];
-            polled(data_out(bus, target, number, &mut toggle, sent))
+    let mut toggle = call.toggle(3);
+    let answer = match call.word(1) {
+        "setup" => polled(setup(bus, target, call.setup_data(4))),
+        "in" => polled(data_in(bus, target, number, &mut toggle)),
+        "poll" => poll_in(bus, target, number, &mut toggle),
+        _ => {
+            let all: ArrayVec<u8, 8> = call.few(call.word(4));
+            polled(data_out(bus, target, number, &mut toggle, all.as_slice()))
         }
-        _ => return Err(CallFault::Words),
     };
-    tell_transaction(alloc, out, answer)?;
-    put_debug(out, " ", &toggle)?;
-    Ok(())
+    match answer {
+        Ok(Some(done)) => call.put_digits("", done.bytes()),
+        Ok(None) => call.say("none"),
+        Err(fault) => call.put_debug("", &fault),
+    }
+    call.put_debug(" ", &toggle);
 }
 
 /// An answer that is no poll's, as that of a poll.
 fn polled(answer: Result<Done, TransFault>) -> Result<Option<Done>, TransFault> {
-    match answer {
-        Ok(done) => Ok(Some(done)),
-        Err(fault) => Err(fault),
-    }
-}
-
-fn tell_transaction(
-    alloc: Global,
-    out: &mut String,
-    answer: Result<Option<Done>, TransFault>,
-) -> Result<(), AllocError> {
-    match answer {
-        Ok(Some(done)) => put_digits(alloc, out, "", done.bytes()),
-        Ok(None) => out.push_str("none"),
-        Err(fault) => put_debug(out, "", &fault),
-    }
+    Ok(Some(answer?))
 }
 
 /// Makes a call of pipes or of control transfers.
-pub(crate) fn play<B: Bus>(
-    alloc: Global,
-    bus: &mut B,
-    pipes: &mut Pipes,
-    words: &[&str],
-    out: &mut String,
-) -> Told {
-    match words {
-        ["open", "status", number] => {
-            pipes.status = Some(InterruptPipe::new(TARGET, small(number)?.min(15), 1));
-            Ok(())
+pub(crate) fn play<B: Bus>(bus: &mut B, pipes: &mut Pipes, call: &mut Call<'_>) {
+    let alloc = call.alloc;
+    match call.word(1) {
+        "open" if call.word(2) == "status" => {
+            pipes.status = Some(InterruptPipe::new(TARGET, call.small(3).min(15), 1));
         }
-        ["open", number, most] => {
-            pipes.sink = Some(pipe_to(small(number)?, small(most)?, false));
-            pipes.source = Some(pipe_to(small(number)?, small(most)?, true));
-            Ok(())
+        "open" => {
+            pipes.sink = Some(pipe_to(call, false));
+            pipes.source = Some(pipe_to(call, true));
         }
-        ["ready", rest @ ..] => {
-            pipes.low = matches!(rest, ["low"]);
-            tell(alloc, out, make_ready(alloc, bus, target_of(pipes.low)))
+        "ready" => {
+            pipes.low = call.word(2) == "low";
+            tell(call, make_ready(alloc, bus, target_of(pipes.low)));
         }
-        ["hub"] => tell(alloc, out, make_hub_ready(alloc, bus)),
-        ["control", setup, rest @ ..] => {
-            let setup = Setup::from_bytes(setup_data(alloc, setup)?);
-            let answer = control(alloc, bus, target_of(pipes.low), setup, rest)?;
-            tell(alloc, out, answer)
+        "hub" => tell(call, make_hub_ready(alloc, bus)),
+        "control" => {
+            let answer = control(bus, target_of(pipes.low), call);
+            tell(call, answer);
         }
         _ => {
-            let answer = called(alloc, bus, pipes, words)?;
-            tell(alloc, out, answer)
+            let answer = called(bus, pipes, call);
+            tell(call, answer);
         }
     }
 }
 
-fn pipe_to(endpoint: u8, most: u8, is_in: bool) -> EndpointPipe {
+fn pipe_to(call: &mut Call<'_>, is_in: bool) -> EndpointPipe {
     let usable = UsableEndpoint {
         kind: EndpointKind::Bulk,
-        max: most.clamp(1, 64),
+        max: call.small(3).clamp(1, 64),
         interface: 0,
     };
-    EndpointPipe::new(TARGET, endpoint.min(15), usable, is_in)
+    EndpointPipe::new(TARGET, call.small(2).min(15), usable, is_in)
 }
 
-/// Adds an answer: its bytes in digits, `ok` if there are none, or its fault.
-fn tell(alloc: Global, out: &mut String, answer: Result<Vec<u8>, PipeFault>) -> Told {
+/// Answers the bytes in digits, `ok` if there are none, or the fault.
+fn tell(call: &mut Call<'_>, answer: Result<Vec<u8>, PipeFault>) {
     match answer {
-        Ok(bytes) if bytes.is_empty() => out.push_str("ok\n")?,
-        Ok(bytes) => add_digits(alloc, out, bytes.as_slice())?,
-        Err(fault) => add(out, &fault)?,
+        Ok(bytes) if bytes.is_empty() => call.say("ok\n"),
+        Ok(bytes) => call.add_digits(bytes.as_slice()),
+        Err(fault) => call.add(&fault),
     }
-    Ok(())
 }
 
 /// A control transfer: it reads, has no data, or writes these bytes.
-fn control<B: Bus>(
-    alloc: Global,
-    bus: &mut B,
-    target: Target,
-    setup: Setup,
-    rest: &[&str],
-) -> Result<Result<Vec<u8>, PipeFault>, CallFault>
+fn control<B: Bus>(bus: &mut B, target: Target, call: &mut Call<'_>) -> Result<Vec<u8>, PipeFault>
     requires { IsTarget target }
 {
+    let alloc = call.alloc;
+    let setup = Setup::from_bytes(call.setup_data(2));
     if setup.length == 0 {
-        return Ok(no_bytes(alloc, control_none(bus, target, setup)));
+        return no_bytes(alloc, control_none(bus, target, setup));
     }
     if setup.request_type >= 128 {
-        return Ok(control_in(alloc, bus, target, setup));
+        return control_in(alloc, bus, target, setup);
     }
-    let [sent] = rest else {
-        return Err(CallFault::Words);
-    };
-    let sent = bytes(alloc, sent)?;
+    let sent = call.bytes(3);
     if usize::from(setup.length) != sent.len() {
-        return Err(CallFault::Words);
+        call.refuse();
+        return Ok(sent);
     }
-    let done = control_out(bus, target, setup, sent.as_slice());
-    Ok(no_bytes(alloc, done))
+    no_bytes(alloc, control_out(bus, target, setup, sent.as_slice()))
 }
 
 /// No bytes, once that is done.
@@ -261,25 +218,59 @@ fn make_hub_ready<B: Bus>(alloc: Global, bus: &mut B) -> Result<Vec<u8>, PipeFau
 
 /// What a call of a pipe answers.
 fn called<B: Bus>(
-    alloc: Global,
     bus: &mut B,
     pipes: &mut Pipes,
-    words: &[&str],
-) -> Result<Result<Vec<u8>, PipeFault>, CallFault> {
-    match (words, &mut pipes.sink, &mut pipes.source, &mut pipes.status) {
-        (["send", sent], Some(sink), _, _) if !sink.is_in() => {
-            let sent = bytes(alloc, sent)?;
-            Ok(no_bytes(alloc, sink.send(bus, sent.as_slice())))
+    call: &mut Call<'_>,
+) -> Result<Vec<u8>, PipeFault> {
+    match call.word(1) {
+        "poll" if call.word(2) == "status" => match &mut pipes.status {
+            Some(status) => packet(call.alloc, status.poll(bus)),
+            None => none(call),
+        },
+        "send" => sent(bus, &mut pipes.sink, call),
+        "clear" if call.word(2) == "out" => sent(bus, &mut pipes.sink, call),
+        _ => received(bus, &mut pipes.source, call),
+    }
+}
+
+/// A call that is none.
+fn none(call: &mut Call<'_>) -> Result<Vec<u8>, PipeFault> {
+    call.refuse();
+    Ok(Vec::new(call.alloc))
+}
+
+/// What a call of the pipe of a sink answers.
+fn sent<B: Bus>(
+    bus: &mut B,
+    sink: &mut Option<EndpointPipe>,
+    call: &mut Call<'_>,
+) -> Result<Vec<u8>, PipeFault> {
+    match sink {
+        Some(sink) if call.word(1) == "clear" => no_bytes(call.alloc, sink.clear_halt(bus)),
+        Some(sink) if !sink.is_in() => {
+            let bytes = call.bytes(2);
+            no_bytes(call.alloc, sink.send(bus, bytes.as_slice()))
         }
-        (["clear", "out"], Some(sink), _, _) => Ok(no_bytes(alloc, sink.clear_halt(bus))),
-        (["receive", packets], _, Some(source), _) if source.is_in() => {
-            Ok(source.receive(alloc, bus, short(packets)?))
-        }
-        (["clear", "in"], _, Some(source), _) => Ok(no_bytes(alloc, source.clear_halt(bus))),
-        (["clear", "in", "anyway"], _, Some(source), _) => Ok(no_bytes(alloc, source.clear(bus))),
-        (["poll"], _, Some(source), _) if source.is_in() => Ok(packet(alloc, source.poll(bus))),
-        (["poll", "status"], _, _, Some(status)) => Ok(packet(alloc, status.poll(bus))),
-        _ => Err(CallFault::Words),
+        _ => none(call),
+    }
+}
+
+/// What a call of the pipe of a source answers.
+fn received<B: Bus>(
+    bus: &mut B,
+    source: &mut Option<EndpointPipe>,
+    call: &mut Call<'_>,
+) -> Result<Vec<u8>, PipeFault> {
+    match source {
+        Some(source) if call.word(1) == "clear" => match call.word(3) {
+            "anyway" => no_bytes(call.alloc, source.clear(bus)),
+            _ => no_bytes(call.alloc, source.clear_halt(bus)),
+        },
+        Some(source) if source.is_in() => match call.word(1) {
+            "receive" => source.receive(call.alloc, bus, call.short(2)),
+            _ => packet(call.alloc, source.poll(bus)),
+        },
+        _ => none(call),
     }
 }
 
@@ -288,9 +279,8 @@ fn packet(
     alloc: Global,
     answer: Result<Option<ArrayVec<u8, 64>>, PipeFault>,
 ) -> Result<Vec<u8>, PipeFault> {
-    let mut bytes = Vec::new(alloc);
-    if let Some(packet) = answer? {
-        bytes.extend_from_slice(packet.as_slice())?;
+    match answer? {
+        Some(packet) => Ok(packet.as_slice().to_vec(alloc)?),
+        None => Ok(Vec::new(alloc)),
     }
-    Ok(bytes)
 }

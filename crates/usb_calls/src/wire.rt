@@ -1,71 +1,54 @@
 //! The lines of a host and its controller side: `wire ..`.
-use crate::words::{CallFault, Told, add, add_debug, add_fault, behind, bytes};
-use std::alloc::{AllocError, Global};
+use crate::call::Call;
 use usb_wire::{Asked, Hubs, question_line, read_question, read_said, said_line};
 
-/// Makes a call of the lines, and adds what it answers.
-pub(crate) fn play(alloc: Global, words: &[&str], text: &str, out: &mut String) -> Told {
-    match words {
-        ["question", ..] => tell_question(out, behind(text, 2).as_bytes())?,
-        ["said", hubs, asked, ..] => {
-            tell_said(
-                out,
-                hubs_of(hubs)?,
-                asked_of(asked)?,
-                behind(text, 4).as_bytes(),
-            )?;
+/// Makes a call of the lines.
+pub(crate) fn play(call: &mut Call<'_>) {
+    match call.word(1) {
+        "question" => tell_question(call),
+        "said" => tell_said(call, call.behind(4).as_bytes()),
+        _ => {
+            let data = call.bytes(4);
+            tell_said(call, data.as_slice());
         }
-        ["bytes", hubs, asked, data] => {
-            let data = bytes(alloc, data)?;
-            tell_said(out, hubs_of(hubs)?, asked_of(asked)?, data.as_slice())?;
-        }
-        _ => return Err(CallFault::Words),
-    }
-    Ok(())
-}
-
-/// Three root ports, and hubs of up to 7 ports, or wide ones.
-fn hubs_of(word: &str) -> Result<Hubs, CallFault> {
-    match word {
-        "narrow" => Ok(Hubs {
-            roots: 3,
-            wide: false,
-        }),
-        "wide" => Ok(Hubs {
-            roots: 3,
-            wide: true,
-        }),
-        _ => Err(CallFault::Words),
     }
 }
 
 /// Which answers are awaited.
-fn asked_of(word: &str) -> Result<Asked, CallFault> {
+fn asked_of(word: &str) -> Asked {
     match word {
-        "hello" => Ok(Asked::Hello),
-        "attempt" => Ok(Asked::Attempt),
-        "port" => Ok(Asked::Port),
-        "wait" => Ok(Asked::Wait),
-        _ => Err(CallFault::Words),
+        "attempt" => Asked::Attempt,
+        "port" => Asked::Port,
+        "wait" => Asked::Wait,
+        _ => Asked::Hello,
     }
 }
 
-/// Adds the question that a line asks, its answers, and its line again.
-fn tell_question(out: &mut String, line: &[u8]) -> Result<(), AllocError> {
-    match read_question(line) {
+/// Answers the question that a line asks, its answers, and its line again.
+fn tell_question(call: &mut Call<'_>) {
+    match read_question(call.behind(2).as_bytes()) {
         Some(question) => {
-            add_debug(out, &question)?;
-            add_debug(out, &question.asked())?;
-            add(out, &question_line(&question))
+            call.add_debug(&question);
+            call.add_debug(&question.asked());
+            call.add(&question_line(&question));
         }
-        None => out.push_str("none\n"),
+        None => call.say("none\n"),
     }
 }
 
-/// Adds the line that is written of what a line says, or its fault.
-fn tell_said(out: &mut String, hubs: Hubs, asked: Asked, line: &[u8]) -> Result<(), AllocError> {
-    match read_said(asked, hubs, line) {
-        Ok(said) => add(out, &said_line(&said)),
-        Err(fault) => add_fault(out, &fault),
+/// Answers the line that is written of what a line says, or its fault. There are three root ports,
+/// and hubs of up to 7 ports, or wide ones.
+fn tell_said(call: &mut Call<'_>, line: &[u8]) {
+    let hubs = Hubs {
+        roots: 3,
+        wide: call.word(2) == "wide",
+    };
+    match read_said(asked_of(call.word(3)), hubs, line) {
+        Ok(said) => call.add(&said_line(&said)),
+        Err(fault) => {
+            call.put_debug("", &fault);
+            call.put(": ", &fault);
+            call.say("\n");
+        }
     }
 }
