@@ -1,6 +1,5 @@
 //! One module a topic.
 mod buffered;
-mod drawing;
 mod ends;
 mod entry;
 mod explain;
@@ -13,6 +12,7 @@ mod outputs;
 mod page;
 mod plan;
 mod plans;
+mod prefixes;
 mod readers;
 mod rows;
 mod served;

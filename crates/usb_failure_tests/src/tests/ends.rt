@@ -1,4 +1,4 @@
-//! A bus over text whose ends fail, and what an attempt gave in the words of a line.
+//! A bus over text whose ends fail, what an attempt gave in the words of a line, and the words of lines.
 use super::frail::{Frail, Trouble};
 use std::alloc::Global;
 use std::io::Read;
@@ -67,4 +67,14 @@ pub(super) fn ended<R: Read + Drop>(bus: StreamBus<R, Frail>, given: String) -> 
 /// How many newlines a text has.
 pub(super) fn newlines(text: &[u8]) -> usize {
     text.iter().filter(|byte| **byte == b'\n').count()
+}
+
+/// The word of a line at an index, counted from 0.
+pub(super) fn word(line: &str, index: usize) -> &str {
+    line.split(' ').nth(index).unwrap_or("")
+}
+
+/// The same as a number.
+pub(super) fn number(line: &str, index: usize) -> u8 {
+    word(line, index).parse::<u8>().unwrap_or(0)
 }

@@ -130,11 +130,13 @@ impl Read for Cut {
     }
 }
 
-/// A writer with room for n bytes, which fails where it is full.
+/// A writer with room for n bytes, which fails once where it is full, and then has room for any. It takes n bytes at
+/// once.
 #[derive(Drop)]
 pub(super) struct Narrow {
     pub(super) taken: Vec<u8>,
     pub(super) room: usize,
+    pub(super) at_once: usize,
 }
 
 impl Write for Narrow {
@@ -143,8 +145,9 @@ impl Write for Narrow {
     ghost contents = { λ n. Some n.taken.items };
 
     fn write(&mut self, buf: &[u8]) -> io::Result<usize> {
-        let count = buf.len().min(self.room);
+        let count = buf.len().min(self.room).min(self.at_once);
         if count == 0 && !buf.is_empty() {
+            self.room = usize::MAX;
             return Err(Error::from(ErrorKind::Other));
         }
         self.taken.extend_from_slice(&buf[..count])?;

@@ -1,5 +1,4 @@
-//! The page of a run: which text is in it, what of it is escaped, and a writer that fails.
-use super::frail::Narrow;
+//! The page of a run: which text is in it, and what of it is escaped.
 use std::alloc::{AllocError, Global};
 use std::io::{Read, Write};
 use std::str;
@@ -9,7 +8,7 @@ use usb_serve::{Mode, RunFault, ServeFault, serve};
 use usb_watch::Watched;
 
 /// Writes the page of a plan's run, also if that reaches its limit.
-fn page<R: Read, W: Write>(
+pub(super) fn page<R: Read, W: Write>(
     alloc: Global,
     name: &str,
     reader: &mut Watched<R>,
@@ -23,7 +22,7 @@ fn page<R: Read, W: Write>(
 }
 
 /// The plan of one function at a root port, but for its limit and the function's name.
-fn plan(alloc: Global, limit: u32, device: &str) -> Result<String, AllocError> {
+pub(super) fn plan(alloc: Global, limit: u32, device: &str) -> Result<String, AllocError> {
     format!(in alloc;
         "limit = {limit}
 roots = 1
@@ -171,47 +170,6 @@ fn entities(rt: HostRuntime) -> Result<(), Fail> {
     for (text, wanted) in ESCAPED {
         let out = escaped(rt.alloc(), text)?;
         assert_eq!(rt; out.as_slice(), wanted, "{text:?}");
-    }
-    Ok(())
-}
-
-/// Whether a writer of this room has a prefix of the page, and is reported to have failed if that is not all of it.
-fn is_prefix(alloc: Global, plan: &str, whole: &[u8], room: usize) -> bool {
-    let mut reader = Watched::new(plan.as_bytes());
-    let mut writer = Watched::new(Narrow {
-        taken: Vec::new(alloc),
-        room,
-    });
-    let ended = page(alloc, "<name>", &mut reader, &mut writer);
-    let wanted = if room < whole.len() {
-        Err(ServeFault::Write)
-    } else {
-        Ok(())
-    };
-    let failed = writer.failed();
-    ended == wanted
-        && failed == wanted.is_err()
-        && whole.get(..room.min(whole.len())) == Some(writer.into_inner().taken.as_slice())
-}
-
-#[test]
-fn a_full_writer_has_a_prefix_of_the_page(rt: HostRuntime) -> Result<(), Fail> {
-    let plan = plan(rt.alloc(), 10_000, "<device>")?;
-    let mut reader = Watched::new(plan.as_bytes());
-    let mut writer = Watched::new(Vec::new(rt.alloc()));
-    assert_eq!(rt;
-        page(rt.alloc(), "<name>", &mut reader, &mut writer),
-        Ok(())
-    );
-    let whole = writer.into_inner();
-    for room in [0, 1, 60, 5_000, 5_870, 7_000, 7_740, 8_000, 9_000, 30_000] {
-        let holds = is_prefix(rt.alloc(), plan.as_str(), whole.as_slice(), room);
-        assert!(rt; holds, "{room} bytes");
-    }
-    for less in [2, 1, 0] {
-        let room = whole.len().saturating_sub(less);
-        let holds = is_prefix(rt.alloc(), plan.as_str(), whole.as_slice(), room);
-        assert!(rt; holds, "all but {less} bytes");
     }
     Ok(())
 }

@@ -1,5 +1,5 @@
-//! A test is a loop over rows: what a controller side of version 1 or 2 says, and what rows of attempts ask and give.
-use super::ends::{Played, answer_of, ended, opened};
+//! Rows of attempts to a controller side of version 1 or 2: what the bus says to it, and what a row gives.
+use super::ends::{Played, answer_of, ended, newlines, number, opened, word};
 use super::frail::Cut;
 use super::stream::to;
 use arrayvec::ArrayVec;
@@ -9,296 +9,387 @@ use std::test::Fail;
 use usb_bus::{Bus, BusFault, ROW_ROOM, RowDone, RowEnd};
 use usb_packet::{Speed, Toggle};
 use usb_stream::{LiveFault, StreamBus};
-use usb_wire::{Said, WireFault, said_line};
+use usb_wire::{Said, said_line};
 
-/// A row of attempts, to endpoint 1 of the device at address 1.
-#[derive(Clone, Copy)]
-enum Asked {
-    /// The most bytes of a packet, the toggle of the first one, and how many packets.
-    Ins(u8, Toggle, u8),
-    /// The most bytes of a packet, the toggle of the first one, and the data.
-    Outs(u8, Toggle, &'static [u8]),
-}
+/// Rows of four parts. The first has the rows of attempts that are asked, to endpoint 1 of the device at address 1: `IN MAX
+/// TOGGLE COUNT` or `OUT MAX TOGGLE HEX`, and whether the limit is not 9 questions but 2. Then come what the controller
+/// side says, what the host says to it, and what comes of that: what each row of attempts gives, how many attempts are
+/// counted, and why no more is asked.
+const ROWS: &str = "\
+# version 1: each attempt is a question
+IN 2 DATA0 3
+--
+roots 1
+DATA0 0102
+DATA1 0304
+DATA0 0506
+--
+usbplan live 1
+IN 1.1 2
+IN 1.1 2
+IN 1.1 2
+--
+3 of 010203040506 whole
+3 attempts
 
-/// The rows that are asked, how many questions may be asked, and what the controller side says. And what the host says
-/// to it, what the rows give, how many attempts are counted, and why no more is asked.
+IN 2 DATA0 3
+--
+roots 1
+DATA0 0102
+NAK
+--
+usbplan live 1
+IN 1.1 2
+IN 1.1 2
+--
+1 of 0102 NAK
+2 attempts
+
+OUT 2 DATA1 0001020304
+--
+roots 1
+ACK
+ACK
+ACK
+--
+usbplan live 1
+OUT 1.1 / DATA1 0001
+OUT 1.1 / DATA0 0203
+OUT 1.1 / DATA1 04
+--
+3 of - whole
+3 attempts
+
+# version 2: each row is one
+IN 2 DATA0 3
+--
+roots 1 2
+DATA0 0102
+DATA1 0304
+DATA0 0506
+--
+usbplan live 1
+IN 1.1 2 DATA0 3
+--
+3 of 010203040506 whole
+3 attempts
+
+OUT 2 DATA1 0001020304
+--
+roots 1 2
+ACK
+ACK
+ACK
+--
+usbplan live 1
+OUT 1.1 / DATA1 0001020304 2
+--
+3 of - whole
+3 attempts
+
+# the first attempt that moves no packet ends it
+IN 2 DATA0 3
+--
+roots 1 2
+DATA0 0102
+DATA1 03
+--
+usbplan live 1
+IN 1.1 2 DATA0 3
+--
+1 of 0102 DATA1 03
+2 attempts
+
+IN 2 DATA0 3
+--
+roots 1 2
+DATA0 0102
+DATA0 0304
+--
+usbplan live 1
+IN 1.1 2 DATA0 3
+--
+1 of 0102 DATA0 0304
+2 attempts
+
+IN 2 DATA0 3
+--
+roots 1 2
+DATA0 010203
+--
+usbplan live 1
+IN 1.1 2 DATA0 3
+--
+0 of - none
+1 attempts
+
+OUT 2 DATA1 0001020304
+--
+roots 1 2
+ACK
+STALL
+--
+usbplan live 1
+OUT 1.1 / DATA1 0001020304 2
+--
+1 of - STALL
+2 attempts
+
+# statuses may come before each answer
+IN 2 DATA0 3
+--
+roots 1 2
+port 1 00010000
+DATA0 0102
+port 1 01010100
+port 1 01010000
+NAK
+--
+usbplan live 1
+IN 1.1 2 DATA0 3
+--
+1 of 0102 NAK
+2 attempts
+
+# a row of one packet is a single attempt, and one of none asks nothing
+IN 64 DATA1 1
+IN 64 DATA1 0
+OUT 2 DATA0 0708
+OUT 2 DATA0
+--
+roots 1 2
+DATA1 01
+ACK
+--
+usbplan live 1
+IN 1.1 64
+OUT 1.1 / DATA0 0708
+--
+0 of - DATA1 01
+0 of - whole
+1 of - whole
+0 of - whole
+2 attempts
+
+# after a row that was cut short the next one is a new question
+IN 1 DATA0 64
+IN 1 DATA1 63
+--
+roots 1 2
+DATA0 AA
+NAK
+DATA1 BB
+none
+--
+usbplan live 1
+IN 1.1 1 DATA0 64
+IN 1.1 1 DATA1 63
+--
+1 of AA NAK
+1 of BB none
+4 attempts
+
+# of 450 bytes 448 have room in a line
+OUT 64 DATA0 5A5A5A5A5A5A5A5A5A5A5A5A5A5A5A5A5A5A5A5A5A5A5A5A5A5A5A5A5A5A5A5A5A5A5A5A5A5A5A5A5A5A5A5\
+A5A5A5A5A5A5A5A5A5A5A5A5A5A5A5A5A5A5A5A5A5A5A5A5A5A5A5A5A5A5A5A5A5A5A5A5A5A5A5A5A5A5A5A5A5A5A5A5A5A5\
+A5A5A5A5A5A5A5A5A5A5A5A5A5A5A5A5A5A5A5A5A5A5A5A5A5A5A5A5A5A5A5A5A5A5A5A5A5A5A5A5A5A5A5A5A5A5A5A5A5A5\
+A5A5A5A5A5A5A5A5A5A5A5A5A5A5A5A5A5A5A5A5A5A5A5A5A5A5A5A5A5A5A5A5A5A5A5A5A5A5A5A5A5A5A5A5A5A5A5A5A5A5\
+A5A5A5A5A5A5A5A5A5A5A5A5A5A5A5A5A5A5A5A5A5A5A5A5A5A5A5A5A5A5A5A5A5A5A5A5A5A5A5A5A5A5A5A5A5A5A5A5A5A5\
+A5A5A5A5A5A5A5A5A5A5A5A5A5A5A5A5A5A5A5A5A5A5A5A5A5A5A5A5A5A5A5A5A5A5A5A5A5A5A5A5A5A5A5A5A5A5A5A5A5A5\
+A5A5A5A5A5A5A5A5A5A5A5A5A5A5A5A5A5A5A5A5A5A5A5A5A5A5A5A5A5A5A5A5A5A5A5A5A5A5A5A5A5A5A5A5A5A5A5A5A5A5\
+A5A5A5A5A5A5A5A5A5A5A5A5A5A5A5A5A5A5A5A5A5A5A5A5A5A5A5A5A5A5A5A5A5A5A5A5A5A5A5A5A5A5A5A5A5A5A5A5A5A5\
+A5A5A5A5A5A5A5A5A5A5A5A5A5A5A5A5A5A5A5A5A5A5A5A5A5A5A5A5A5A5A5A5A5A5A5A5A5A5A5A5A5A5A5A5A5A5A5A5A5A5\
+A5A5A5A5A5A5A
+--
+roots 1 2
+ACK
+ACK
+ACK
+ACK
+ACK
+ACK
+ACK
+ACK
+--
+usbplan live 1
+OUT 1.1 / DATA0 5A5A5A5A5A5A5A5A5A5A5A5A5A5A5A5A5A5A5A5A5A5A5A5A5A5A5A5A5A5A5A5A5A5A5A5A5A5A5A5A5A5A\
+5A5A5A5A5A5A5A5A5A5A5A5A5A5A5A5A5A5A5A5A5A5A5A5A5A5A5A5A5A5A5A5A5A5A5A5A5A5A5A5A5A5A5A5A5A5A5A5A5A5A\
+5A5A5A5A5A5A5A5A5A5A5A5A5A5A5A5A5A5A5A5A5A5A5A5A5A5A5A5A5A5A5A5A5A5A5A5A5A5A5A5A5A5A5A5A5A5A5A5A5A5A\
+5A5A5A5A5A5A5A5A5A5A5A5A5A5A5A5A5A5A5A5A5A5A5A5A5A5A5A5A5A5A5A5A5A5A5A5A5A5A5A5A5A5A5A5A5A5A5A5A5A5A\
+5A5A5A5A5A5A5A5A5A5A5A5A5A5A5A5A5A5A5A5A5A5A5A5A5A5A5A5A5A5A5A5A5A5A5A5A5A5A5A5A5A5A5A5A5A5A5A5A5A5A\
+5A5A5A5A5A5A5A5A5A5A5A5A5A5A5A5A5A5A5A5A5A5A5A5A5A5A5A5A5A5A5A5A5A5A5A5A5A5A5A5A5A5A5A5A5A5A5A5A5A5A\
+5A5A5A5A5A5A5A5A5A5A5A5A5A5A5A5A5A5A5A5A5A5A5A5A5A5A5A5A5A5A5A5A5A5A5A5A5A5A5A5A5A5A5A5A5A5A5A5A5A5A\
+5A5A5A5A5A5A5A5A5A5A5A5A5A5A5A5A5A5A5A5A5A5A5A5A5A5A5A5A5A5A5A5A5A5A5A5A5A5A5A5A5A5A5A5A5A5A5A5A5A5A\
+5A5A5A5A5A5A5A5A5A5A5A5A5A5A5A5A5A5A5A5A5A5A5A5A5A5A5A5A5A5A5A5A5A5A5A5A5A5A5A5A5A5A5A5A5A5A5A5A5A5A\
+5A5A5A5A5A5A 64
+OUT 1.1 / DATA1 5A5A
+--
+8 of - whole
+8 attempts
+
+# what is no answer is a fault, and nothing is asked after it
+IN 2 DATA0 3
+IN 2 DATA0 3
+--
+roots 1 2
+DATA0 0102
+ok
+--
+usbplan live 1
+IN 1.1 2 DATA0 3
+--
+1 of 0102 failed
+0 of - failed
+2 attempts, no answer
+
+OUT 2 DATA1 0001020304
+--
+roots 1 2
+ACK
+ACK
+--
+usbplan live 1
+OUT 1.1 / DATA1 0001020304 2
+--
+2 of - failed
+3 attempts, far end gone
+
+# a row is one question of the limit
+limit 2
+IN 2 DATA0 2
+IN 2 DATA0 2
+--
+roots 1 2
+DATA0 0102
+DATA1 0304
+--
+usbplan live 1
+IN 1.1 2 DATA0 2
+--
+2 of 01020304 whole
+0 of - limit
+2 attempts, limit reached
+
+# an answer too many is one to the next question
+IN 2 DATA0 2
+OUT 2 DATA0 01
+--
+roots 1 2
+DATA0 0102
+DATA1 0304
+DATA0 0506
+--
+usbplan live 1
+IN 1.1 2 DATA0 2
+OUT 1.1 / DATA0 01
+--
+2 of 01020304 whole
+0 of - DATA0 0506
+3 attempts
+
+# there is no other version
+IN 2 DATA0 3
+--
+roots 1 3
+--
+usbplan live 1
+--
+0 of - failed
+0 attempts, bad number
+
+IN 2 DATA0 3
+--
+roots 8 2
+--
+usbplan live 1
+--
+0 of - failed
+0 attempts, bad number
+
+IN 2 DATA0 3
+--
+roots 1 2 2
+--
+usbplan live 1
+--
+0 of - failed
+0 attempts, no answer";
+
+/// The parts of a row.
 #[derive(Clone, Copy)]
 struct Row {
-    asked: &'static [Asked],
-    limit: u64,
+    asked: &'static str,
     far: &'static str,
     host: &'static str,
-    given: &'static str,
-    attempts: u128,
-    fault: Option<LiveFault>,
+    came: &'static str,
 }
 
-const THREE: &[Asked] = &[Asked::Ins(2, Toggle::Zero, 3)];
+fn row_of(text: &'static str) -> Row {
+    let (asked, rest) = text.split_once("--\n").unwrap_or((text, ""));
+    let (far, rest) = rest.split_once("--\n").unwrap_or((rest, ""));
+    let (host, came) = rest.split_once("--\n").unwrap_or((rest, ""));
+    Row {
+        asked,
+        far,
+        host,
+        came,
+    }
+}
 
-const FIVE_BYTES: &[Asked] = &[Asked::Outs(2, Toggle::One, &[0, 1, 2, 3, 4])];
-
-/// A controller side that is refused at its first line.
-const REFUSED: Row = Row {
-    asked: THREE,
-    limit: 9,
-    far: "",
-    host: "usbplan live 1\n",
-    given: "0 of - failed; ",
-    attempts: 0,
-    fault: None,
-};
-
-const ROWS: &[Row] = &[
-    // version 1: each attempt is a question
-    Row {
-        asked: THREE,
-        limit: 9,
-        far: "roots 1\nDATA0 0102\nDATA1 0304\nDATA0 0506\n",
-        host: "usbplan live 1\nIN 1.1 2\nIN 1.1 2\nIN 1.1 2\n",
-        given: "3 of 010203040506 whole; ",
-        attempts: 3,
-        fault: None,
-    },
-    Row {
-        asked: THREE,
-        limit: 9,
-        far: "roots 1\nDATA0 0102\nNAK\n",
-        host: "usbplan live 1\nIN 1.1 2\nIN 1.1 2\n",
-        given: "1 of 0102 NAK; ",
-        attempts: 2,
-        fault: None,
-    },
-    Row {
-        asked: FIVE_BYTES,
-        limit: 9,
-        far: "roots 1\nACK\nACK\nACK\n",
-        host: "usbplan live 1\nOUT 1.1 / DATA1 0001\nOUT 1.1 / DATA0 0203\nOUT 1.1 / DATA1 04\n",
-        given: "3 of - whole; ",
-        attempts: 3,
-        fault: None,
-    },
-    // version 2: each row is one
-    Row {
-        asked: THREE,
-        limit: 9,
-        far: "roots 1 2\nDATA0 0102\nDATA1 0304\nDATA0 0506\n",
-        host: "usbplan live 1\nIN 1.1 2 DATA0 3\n",
-        given: "3 of 010203040506 whole; ",
-        attempts: 3,
-        fault: None,
-    },
-    Row {
-        asked: FIVE_BYTES,
-        limit: 9,
-        far: "roots 1 2\nACK\nACK\nACK\n",
-        host: "usbplan live 1\nOUT 1.1 / DATA1 0001020304 2\n",
-        given: "3 of - whole; ",
-        attempts: 3,
-        fault: None,
-    },
-    // the first attempt that moves no packet ends it
-    Row {
-        asked: THREE,
-        limit: 9,
-        far: "roots 1 2\nDATA0 0102\nDATA1 03\n",
-        host: "usbplan live 1\nIN 1.1 2 DATA0 3\n",
-        given: "1 of 0102 DATA1 03; ",
-        attempts: 2,
-        fault: None,
-    },
-    Row {
-        asked: THREE,
-        limit: 9,
-        far: "roots 1 2\nDATA0 0102\nDATA0 0304\n",
-        host: "usbplan live 1\nIN 1.1 2 DATA0 3\n",
-        given: "1 of 0102 DATA0 0304; ",
-        attempts: 2,
-        fault: None,
-    },
-    Row {
-        asked: THREE,
-        limit: 9,
-        far: "roots 1 2\nDATA0 010203\n",
-        host: "usbplan live 1\nIN 1.1 2 DATA0 3\n",
-        given: "0 of - none; ",
-        attempts: 1,
-        fault: None,
-    },
-    Row {
-        asked: FIVE_BYTES,
-        limit: 9,
-        far: "roots 1 2\nACK\nSTALL\n",
-        host: "usbplan live 1\nOUT 1.1 / DATA1 0001020304 2\n",
-        given: "1 of - STALL; ",
-        attempts: 2,
-        fault: None,
-    },
-    // statuses may come before each answer
-    Row {
-        asked: THREE,
-        limit: 9,
-        far: "roots 1 2\nport 1 00010000\nDATA0 0102\nport 1 01010100\nport 1 01010000\nNAK\n",
-        host: "usbplan live 1\nIN 1.1 2 DATA0 3\n",
-        given: "1 of 0102 NAK; ",
-        attempts: 2,
-        fault: None,
-    },
-    // a row of one packet is a single attempt, and one of none asks nothing
-    Row {
-        asked: &[
-            Asked::Ins(64, Toggle::One, 1),
-            Asked::Ins(64, Toggle::One, 0),
-            Asked::Outs(2, Toggle::Zero, &[7, 8]),
-            Asked::Outs(2, Toggle::Zero, &[]),
-        ],
-        limit: 9,
-        far: "roots 1 2\nDATA1 01\nACK\n",
-        host: "usbplan live 1\nIN 1.1 64\nOUT 1.1 / DATA0 0708\n",
-        given: "0 of - DATA1 01; 0 of - whole; 1 of - whole; 0 of - whole; ",
-        attempts: 2,
-        fault: None,
-    },
-    // after a row that was cut short the next one is a new question
-    Row {
-        asked: &[
-            Asked::Ins(1, Toggle::Zero, 64),
-            Asked::Ins(1, Toggle::One, 63),
-        ],
-        limit: 9,
-        far: "roots 1 2\nDATA0 AA\nNAK\nDATA1 BB\nnone\n",
-        host: "usbplan live 1\nIN 1.1 1 DATA0 64\nIN 1.1 1 DATA1 63\n",
-        given: "1 of AA NAK; 1 of BB none; ",
-        attempts: 4,
-        fault: None,
-    },
-    // of 450 bytes 448 have room in a line
-    Row {
-        asked: &[Asked::Outs(64, Toggle::Zero, &[0x5A; 450])],
-        limit: 9,
-        far: "roots 1 2\nACK\nACK\nACK\nACK\nACK\nACK\nACK\nACK\n",
-        host: "usbplan live 1\nOUT 1.1 / DATA0 \
-               5A5A5A5A5A5A5A5A5A5A5A5A5A5A5A5A5A5A5A5A5A5A5A5A5A5A5A5A5A5A5A5A5A5A5A5A5A5A5A5A\
-               5A5A5A5A5A5A5A5A5A5A5A5A5A5A5A5A5A5A5A5A5A5A5A5A5A5A5A5A5A5A5A5A5A5A5A5A5A5A5A5A\
-               5A5A5A5A5A5A5A5A5A5A5A5A5A5A5A5A5A5A5A5A5A5A5A5A5A5A5A5A5A5A5A5A5A5A5A5A5A5A5A5A\
-               5A5A5A5A5A5A5A5A5A5A5A5A5A5A5A5A5A5A5A5A5A5A5A5A5A5A5A5A5A5A5A5A5A5A5A5A5A5A5A5A\
-               5A5A5A5A5A5A5A5A5A5A5A5A5A5A5A5A5A5A5A5A5A5A5A5A5A5A5A5A5A5A5A5A5A5A5A5A5A5A5A5A\
-               5A5A5A5A5A5A5A5A5A5A5A5A5A5A5A5A5A5A5A5A5A5A5A5A5A5A5A5A5A5A5A5A5A5A5A5A5A5A5A5A\
-               5A5A5A5A5A5A5A5A5A5A5A5A5A5A5A5A5A5A5A5A5A5A5A5A5A5A5A5A5A5A5A5A5A5A5A5A5A5A5A5A\
-               5A5A5A5A5A5A5A5A5A5A5A5A5A5A5A5A5A5A5A5A5A5A5A5A5A5A5A5A5A5A5A5A5A5A5A5A5A5A5A5A\
-               5A5A5A5A5A5A5A5A5A5A5A5A5A5A5A5A5A5A5A5A5A5A5A5A5A5A5A5A5A5A5A5A5A5A5A5A5A5A5A5A\
-               5A5A5A5A5A5A5A5A5A5A5A5A5A5A5A5A5A5A5A5A5A5A5A5A5A5A5A5A5A5A5A5A5A5A5A5A5A5A5A5A\
-               5A5A5A5A5A5A5A5A5A5A5A5A5A5A5A5A5A5A5A5A5A5A5A5A5A5A5A5A5A5A5A5A5A5A5A5A5A5A5A5A\
-               5A5A5A5A5A5A5A5A \
-               64\nOUT 1.1 / DATA1 5A5A\n",
-        given: "8 of - whole; ",
-        attempts: 8,
-        fault: None,
-    },
-    // what is no answer is a fault, and nothing is asked after it
-    Row {
-        asked: &[
-            Asked::Ins(2, Toggle::Zero, 3),
-            Asked::Ins(2, Toggle::Zero, 3),
-        ],
-        limit: 9,
-        far: "roots 1 2\nDATA0 0102\nok\n",
-        host: "usbplan live 1\nIN 1.1 2 DATA0 3\n",
-        given: "1 of 0102 failed; 0 of - failed; ",
-        attempts: 2,
-        fault: Some(LiveFault::Line(WireFault::NoAnswer)),
-    },
-    Row {
-        asked: FIVE_BYTES,
-        limit: 9,
-        far: "roots 1 2\nACK\nACK\n",
-        host: "usbplan live 1\nOUT 1.1 / DATA1 0001020304 2\n",
-        given: "2 of - failed; ",
-        attempts: 3,
-        fault: Some(LiveFault::Gone),
-    },
-    // a row is one question of the limit
-    Row {
-        asked: &[
-            Asked::Ins(2, Toggle::Zero, 2),
-            Asked::Ins(2, Toggle::Zero, 2),
-        ],
-        limit: 2,
-        far: "roots 1 2\nDATA0 0102\nDATA1 0304\n",
-        host: "usbplan live 1\nIN 1.1 2 DATA0 2\n",
-        given: "2 of 01020304 whole; 0 of - limit; ",
-        attempts: 2,
-        fault: Some(LiveFault::LimitReached),
-    },
-    // an answer too many is one to the next question
-    Row {
-        asked: &[
-            Asked::Ins(2, Toggle::Zero, 2),
-            Asked::Outs(2, Toggle::Zero, &[1]),
-        ],
-        limit: 9,
-        far: "roots 1 2\nDATA0 0102\nDATA1 0304\nDATA0 0506\n",
-        host: "usbplan live 1\nIN 1.1 2 DATA0 2\nOUT 1.1 / DATA0 01\n",
-        given: "2 of 01020304 whole; 0 of - DATA0 0506; ",
-        attempts: 3,
-        fault: None,
-    },
-    // there is no other version
-    Row {
-        far: "roots 1 3\n",
-        fault: Some(LiveFault::Line(WireFault::BadNumber)),
-        ..REFUSED
-    },
-    Row {
-        far: "roots 8 2\n",
-        fault: Some(LiveFault::Line(WireFault::BadNumber)),
-        ..REFUSED
-    },
-    Row {
-        far: "roots 1 2 2\n",
-        fault: Some(LiveFault::Line(WireFault::NoAnswer)),
-        ..REFUSED
-    },
-];
-
-/// All rows over a reader, and a writer that fails after n writes.
+/// What comes of a row over a reader, and a writer that fails after n writes.
 fn play<R: Read + Drop>(
     alloc: Global,
-    asked: &[Asked],
+    row: Row,
     reader: R,
     writes: u64,
-    limit: u64,
 ) -> Result<Played, AllocError> {
+    let limit = if row.asked.contains("limit 2\n") {
+        2
+    } else {
+        9
+    };
     let mut given = String::new(alloc);
     let mut bus = opened(alloc, reader, writes, limit);
-    for row in asked {
-        make(alloc, &mut bus, &mut given, *row)?;
+    for line in row.asked.lines() {
+        make(alloc, &mut bus, &mut given, line)?;
     }
     Ok(ended(bus, given))
 }
 
-/// Makes a row of attempts; what it gives is put after what the others gave.
+/// Makes the row of attempts of a line; what it gives is put after what the others gave. Any other line asks nothing.
 fn make<R: Read + Drop, W: Write + Drop>(
     alloc: Global,
     bus: &mut StreamBus<R, W>,
     given: &mut String,
-    asked: Asked,
+    line: &str,
 ) -> Result<(), AllocError> {
-    let mut got: ArrayVec<u8, ROW_ROOM> = ArrayVec::new();
-    let done = match asked {
-        Asked::Ins(max, toggle, most) => {
-            if max < 1 || max > 64 || most > 64 {
-                return Ok(());
-            }
-            bus.attempt_ins(to(1, 1, Speed::Full, max), toggle, most, &mut got)
-        }
-        Asked::Outs(max, toggle, bytes) => {
-            if max < 1 || max > 64 || bytes.len() > 64 * usize::from(max) {
-                return Ok(());
-            }
-            bus.attempt_outs(to(1, 1, Speed::Full, max), toggle, bytes)
-        }
+    let max = number(line, 1);
+    if max < 1 || max > 64 {
+        return Ok(());
+    }
+    let to = to(1, 1, Speed::Full, max);
+    let toggle = if word(line, 2) == "DATA1" {
+        Toggle::One
+    } else {
+        Toggle::Zero
     };
-    push_done(alloc, given, done, got.as_slice())
+    if word(line, 0) == "IN" {
+        let most = number(line, 3);
+        if most > 64 {
+            return Ok(());
+        }
+        let mut got: ArrayVec<u8, ROW_ROOM> = ArrayVec::new();
+        let done = bus.attempt_ins(to, toggle, most, &mut got);
+        return push_done(alloc, given, done, got.as_slice());
+    }
+    let Ok(bytes) = hex::decode(alloc, word(line, 3)) else {
+        return Ok(());
+    };
+    if word(line, 0) != "OUT" || bytes.len() > 64 * usize::from(max) {
+        return Ok(());
+    }
+    let done = bus.attempt_outs(to, toggle, bytes.as_slice());
+    push_done(alloc, given, done, b"")
 }
 
 /// How many packets a row moved, what it got, and how it ended.
@@ -311,45 +402,52 @@ fn push_done(
     let bytes = hex::encode_upper(alloc, got)?;
     let bytes = if got.is_empty() { "-" } else { bytes.as_str() };
     given.push_str(format!(in alloc; "{} of {bytes} ", done.moved)?.as_str())?;
-    match done.end {
-        RowEnd::Whole => given.push_str("whole; "),
+    push_end(given, done.end)?;
+    given.push('\n')
+}
+
+fn push_end(given: &mut String, end: RowEnd) -> Result<(), AllocError> {
+    match end {
+        RowEnd::Whole => given.push_str("whole"),
         RowEnd::Answered(outcome) => {
-            given.push_str(said_line(&Said::Answered(answer_of(outcome))).as_str())?;
-            given.push_str("; ")
+            given.push_str(said_line(&Said::Answered(answer_of(outcome))).as_str())
         }
-        RowEnd::Faulted(BusFault::Limit) => given.push_str("limit; "),
-        RowEnd::Faulted(BusFault::Memory | BusFault::Failed) => given.push_str("failed; "),
+        RowEnd::Faulted(BusFault::Limit) => given.push_str("limit"),
+        RowEnd::Faulted(BusFault::Memory | BusFault::Failed) => given.push_str("failed"),
+    }
+}
+
+/// What came of a row, in the words of its last part.
+fn came_of(alloc: Global, played: &Played) -> Result<String, AllocError> {
+    let (given, attempts) = (&played.given, played.attempts);
+    match played.fault {
+        Some(fault) => format!(in alloc; "{given}{attempts} attempts, {fault}"),
+        None => format!(in alloc; "{given}{attempts} attempts"),
     }
 }
 
 #[test]
 fn rows(rt: HostRuntime) -> Result<(), Fail> {
-    for row in ROWS {
-        let played = play(
-            rt.alloc(),
-            row.asked,
-            row.far.as_bytes(),
-            u64::MAX,
-            row.limit,
-        )?;
+    for text in ROWS.split("\n\n") {
+        let row = row_of(text);
+        let played = play(rt.alloc(), row, row.far.as_bytes(), u64::MAX)?;
         let host = str::from_utf8(played.host.as_slice()).ok();
         assert_eq!(rt; host, Some(row.host), "{}", row.far);
-        assert_eq!(rt; played.given.as_str(), row.given, "{}", row.far);
-        assert_eq!(rt; played.attempts, row.attempts, "{}", row.far);
-        assert_eq!(rt; played.fault, row.fault, "{}", row.far);
+        let came = came_of(rt.alloc(), &played)?;
+        assert_eq!(rt; came.as_str(), row.came, "{}", row.far);
     }
     Ok(())
 }
 
-/// The input ends, or fails, after each number of bytes, and each write fails in turn: nothing more is asked.
+/// The input ends, or fails, after each number of bytes: nothing more is asked.
 #[test]
-fn cut_rows(rt: HostRuntime) -> Result<(), Fail> {
-    for row in ROWS {
-        let alloc = rt.alloc();
+fn cut(rt: HostRuntime) -> Result<(), Fail> {
+    for text in ROWS.split("\n\n") {
+        let row = row_of(text);
         for count in 0..row.far.len() {
             let front = &row.far.as_bytes()[..count];
-            let ended = play(alloc, row.asked, front, u64::MAX, row.limit)?;
-            let failed = play(alloc, row.asked, Cut(front), u64::MAX, row.limit)?;
+            let ended = play(rt.alloc(), row, front, u64::MAX)?;
+            let failed = play(rt.alloc(), row, Cut(front), u64::MAX)?;
             assert!(rt; ended.fault.is_some(), "{count} bytes of {}", row.far);
             assert!(rt;
                 row.host.as_bytes().starts_with(failed.host.as_slice()),
@@ -363,15 +461,17 @@ fn cut_rows(rt: HostRuntime) -> Result<(), Fail> {
                 row.far
             );
         }
-        let whole = play(alloc, row.asked, row.far.as_bytes(), u64::MAX, row.limit)?;
-        let lines = row
-            .host
-            .as_bytes()
-            .iter()
-            .filter(|byte| **byte == b'\n')
-            .count();
-        for writes in 0..lines as u64 {
-            let cut = play(alloc, row.asked, row.far.as_bytes(), writes, row.limit)?;
+    }
+    Ok(())
+}
+
+/// Each write fails in turn: no more than a prefix of what is asked has gone out.
+#[test]
+fn writes(rt: HostRuntime) -> Result<(), Fail> {
+    for text in ROWS.split("\n\n") {
+        let row = row_of(text);
+        for writes in 0..newlines(row.host.as_bytes()) {
+            let cut = play(rt.alloc(), row, row.far.as_bytes(), writes as u64)?;
             assert_eq!(rt;
                 cut.fault,
                 Some(LiveFault::Write),
@@ -379,7 +479,7 @@ fn cut_rows(rt: HostRuntime) -> Result<(), Fail> {
                 row.far
             );
             assert!(rt;
-                whole.host.as_slice().starts_with(cut.host.as_slice()),
+                row.host.as_bytes().starts_with(cut.host.as_slice()),
                 "{writes} writes"
             );
         }

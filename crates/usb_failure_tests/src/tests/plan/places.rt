@@ -3,18 +3,11 @@ ghost use Rattle.std.specs.Prelude.{◌≤◌};
 ghost use Rattle.usb_world.specs.{attempt_most};
 
 use super::FUNCTION;
+use crate::tests::ends::{number, word};
 use std::alloc::{AllocError, Global};
 use usb_places::{Deed, Places, PlacesFault, Seen, Token, Try};
 use usb_port::{PortCall, PortPath};
 use usb_request::Setup;
-
-/// Lines of a plan behind a plug of the function, lines of what a host does, and what is known of
-/// the plan before them and behind each of them that is a place.
-struct Row {
-    plan: &'static str,
-    host: &'static str,
-    known: &'static str,
-}
 
 /// A plug of the function.
 const PLUG: &str = "[[event]]\ndo = \"plug\"\npath = \"1\"\ndevice = \"fn\"\n";
@@ -23,124 +16,362 @@ const PLUG: &str = "[[event]]\ndo = \"plug\"\npath = \"1\"\ndevice = \"fn\"\n";
 const TAKEN: &str =
     "E\nP 1\nR 1\nS 0 0 1 8006000100000800\nI 0 0\nI 0 0\nO 0 0\nR 1\nS 0 0 1 0005010000000000\nS 0 0 1 0005010000000000\nI 0 0\nS 1 0 1 8006000100001200\nI 1 0\nO 1 0\nS 1 0 1 0009010000000000\nI 1 0\nI 1 0\nW\nE\nI 1 1\n";
 
-const ROWS: [Row; 21] = [
-    Row {
-        plan: "",
-        host: TAKEN,
-        known: "events 0 damages\n",
-    },
-    Row {
-        plan: "[[event]]\ndo = \"unplug\"\npath = \"1\"\nwhen = { request = \"set_address\", path = \"1\" }\n",
-        host: TAKEN,
-        known: "events 0 damages\nevents 0 4 damages\n",
-    },
-    Row {
-        plan: "[[event]]\ndo = \"unplug\"\npath = \"1\"\nwhen = { request = \"set_address\", path = \"1\", at = \"answer\" }\n",
-        host: TAKEN,
-        known: "events 0 damages\nevents 0 6 damages\n",
-    },
-    Row {
-        plan: "[[event]]\ndo = \"unplug\"\npath = \"1\"\nwhen = { request = \"set_address\", path = \"1\", at = \"after\" }\n",
-        host: TAKEN,
-        known: "events 0 damages\nevents 0 7 damages\n",
-    },
-    Row {
-        plan: "[[event]]\ndo = \"unplug\"\npath = \"1\"\nwhen = { request = \"get_descriptor\", path = \"1\", nth = 2, at = \"data\" }\n",
-        host: TAKEN,
-        known: "events 0 damages\nevents 0 8 damages\n",
-    },
-    // A request that is not made again: the device is pulled out when the host waits.
-    Row {
-        plan: "[[event]]\ndo = \"unplug\"\npath = \"1\"\nwhen = { request = \"get_descriptor\", path = \"1\", nth = 3 }\n",
-        host: TAKEN,
-        known: "events 0 damages\nevents 0 13 damages\n",
-    },
-    Row {
-        plan: "[[event]]\ndo = \"unplug\"\npath = \"1\"\nwhen = { reset = 1, nth = 2 }\n",
-        host: TAKEN,
-        known: "events 0 damages\nevents 0 4 damages\n",
-    },
-    Row {
-        plan: "[[event]]\ndo = \"unplug\"\npath = \"1\"\nwhen = { port = 1 }\n",
-        host: TAKEN,
-        known: "events 0 damages\nevents 0 0 damages\n",
-    },
-    Row {
-        plan: "[[event]]\ndo = \"unplug\"\npath = \"1\"\nwhen = { wait = true }\n",
-        host: TAKEN,
-        known: "events 0 damages\nevents 0 13 damages\n",
-    },
-    // The data stage of the first request has two attempts. The root port is reset behind it.
-    Row {
-        plan: "[[damage]]\nwhen = { request = \"get_descriptor\", path = \"1\" }\npacket = 1\nhow = \"lose\"\n[[damage]]\nwhen = { request = \"get_descriptor\", path = \"1\", at = \"data\" }\npacket = 1\nhow = \"lose\"\n[[damage]]\nwhen = { request = \"get_descriptor\", path = \"1\", at = \"answer\" }\npacket = 1\nhow = \"lose\"\n[[damage]]\nwhen = { request = \"get_descriptor\", path = \"1\", at = \"after\" }\npacket = 1\nhow = \"lose\"\n",
-        host: TAKEN,
-        known: "events 0 damages\nevents 0 damages 1\nevents 0 damages 1 2\nevents 0 damages 1 2 4\nevents 0 damages 1 2 4 5\n",
-    },
-    Row {
-        plan: "[[damage]]\nwhen = { request = \"set_configuration\", path = \"1\", at = \"answer\" }\npacket = 2\nhow = \"lose\"\n[[damage]]\nwhen = { wait = true }\npacket = 1\nhow = \"lose\"\n",
-        host: TAKEN,
-        known: "events 0 damages\nevents 0 damages 12\nevents 0 damages 12 14\n",
-    },
-    // A damage with an attempt stays, also where another one's place is.
-    Row {
-        plan: "[[damage]]\nattempt = 2\npacket = 1\nhow = \"lose\"\n[[damage]]\nattempt = 9\npacket = 1\nhow = \"lose\"\n[[damage]]\nwhen = { setup = \"0005010000000000\", path = \"1\" }\npacket = 3\nhow = \"lose\"\n[[damage]]\nwhen = { request = \"get_descriptor\", path = \"1\", at = \"data\" }\npacket = 2\nhow = \"lose\"\n",
-        host: TAKEN,
-        known: "events 0 damages 2 9\nevents 0 damages 2 9\nevents 0 damages 2 5 9\n",
-    },
-    // Another path, another request, another port.
-    Row {
-        plan: "[[damage]]\nwhen = { request = \"set_address\", path = \"1.1\" }\npacket = 1\nhow = \"lose\"\n[[damage]]\nwhen = { request = \"set_interface\", path = \"1\" }\npacket = 1\nhow = \"lose\"\n[[damage]]\nwhen = { request = \"get_port_status\", path = \"1.1\" }\npacket = 1\nhow = \"lose\"\n[[damage]]\nwhen = { setup = \"0005020000000000\", path = \"1\" }\npacket = 1\nhow = \"lose\"\n[[damage]]\nwhen = { reset = 2 }\npacket = 1\nhow = \"lose\"\n[[damage]]\nwhen = { port = 2 }\npacket = 1\nhow = \"lose\"\n",
-        host: TAKEN,
-        known: "events 0 damages\n",
-    },
-    // Requests to ports of a hub.
-    Row {
-        plan: "[[damage]]\nwhen = { request = \"port_reset\", path = \"1.2\" }\npacket = 1\nhow = \"lose\"\n[[damage]]\nwhen = { request = \"get_port_status\", path = \"1.1\", at = \"data\" }\npacket = 1\nhow = \"lose\"\n[[damage]]\nwhen = { request = \"set_port_feature\", path = \"1.1\" }\npacket = 1\nhow = \"lose\"\n[[damage]]\nwhen = { request = \"clear_connection\", path = \"1.2\", at = \"answer\" }\npacket = 1\nhow = \"lose\"\n",
-        host: "S 1 0 1 2303080001000000\nI 1 0\nS 1 0 1 2303040001000000\nI 1 0\nS 1 0 1 2303040002000000\nI 1 0\nS 1 0 1 A300000002000400\nI 1 0\nO 1 0\nS 1 0 1 A300000001000400\nI 1 0\nO 1 0\nS 1 0 1 2301100001000000\nI 1 0\nS 1 0 1 2301100002000000\nI 1 0\n",
-        known: "events 0 damages\nevents 0 damages 1\nevents 0 damages 1 5\nevents 0 damages 1 5 11\nevents 0 damages 1 5 11 16\n",
-    },
-    // A control write with data, between polls of other endpoints.
-    Row {
-        plan: "[[damage]]\nwhen = { setup = \"2109000200000200\", path = \"1\", at = \"data\" }\npacket = 1\nhow = \"lose\"\n[[damage]]\nwhen = { setup = \"2109000200000200\", path = \"1\", at = \"answer\" }\npacket = 1\nhow = \"lose\"\n[[damage]]\nwhen = { setup = \"2109000200000200\", path = \"1\", at = \"after\" }\npacket = 1\nhow = \"lose\"\n",
-        host: "S 1 0 1 2109000200000200\nI 1 1\nO 1 0\nI 1 1\nO 1 0\nI 2 0\nI 1 0\nI 1 0\nI 1 1\n",
-        known: "events 0 damages\nevents 0 damages 3\nevents 0 damages 3 7\nevents 0 damages 3 7 9\n",
-    },
-    // A request that a reset ends: its status stage does not come.
-    Row {
-        plan: "[[damage]]\nwhen = { request = \"get_status\", path = \"1\", at = \"answer\" }\npacket = 1\nhow = \"lose\"\n[[damage]]\nwhen = { request = \"set_address\", path = \"1\", at = \"after\" }\npacket = 1\nhow = \"lose\"\n",
-        host: "S 1 0 1 8000000000000200\nI 1 0\nR 1\nO 1 0\nS 0 0 1 0005010000000000\nI 0 0\nR 1\nS 0 0 1 0005010000000000\n",
-        known: "events 0 damages\nevents 0 damages 6\n",
-    },
-    // The same setup data again are the same request, until that goes on or a root port is called.
-    Row {
-        plan: "[[damage]]\nwhen = { request = \"set_address\", path = \"1\", nth = 3 }\npacket = 1\nhow = \"lose\"\n",
-        host: "S 0 0 1 0005010000000000\nS 0 0 1 0005010000000000\nP 1\nI 1 1\nS 0 0 1 0005010000000000\nR 1\nS 0 0 1 0005010000000000\nI 0 0\nS 0 0 1 0005010000000000\n",
-        known: "events 0 damages\nevents 0 damages 7\n",
-    },
-    // The place of the second event is before that of the first one.
-    Row {
-        plan: "[[event]]\ndo = \"unplug\"\npath = \"1\"\nwhen = { request = \"set_address\", path = \"1\", at = \"after\" }\n[[event]]\ndo = \"plug\"\npath = \"1\"\ndevice = \"fn\"\nwhen = { reset = 1 }\n[[event]]\ndo = \"show\"\n",
-        host: "E\nR 1\nS 0 0 1 0005010000000000\nI 0 0\nI 0 0\nS 1 0 1 8006000100001200\nF\nI 1 0\n",
-        known: "events 0 damages\nevents 0 3 damages\nevents 0 3 1 0 damages\n",
-    },
-    // No event comes before the one before it.
-    Row {
-        plan: "[[event]]\ndo = \"show\"\n[[event]]\ndo = \"unplug\"\npath = \"1\"\nwhen = { request = \"set_address\", path = \"1\" }\n",
-        host: "E\nS 0 0 1 0005010000000000\nI 0 0\nW\nE\nS 1 0 1 8006000100001200\n",
-        known: "events 0 0 damages\nevents 0 0 0 damages\n",
-    },
-    Row {
-        plan: "[[event]]\ndo = \"show\"\nwhen = { port = 1, nth = 5 }\n[[event]]\ndo = \"news\"\n",
-        host: "E\nW\n",
-        known: "events 0 damages\nevents 0 0 0 damages\n",
-    },
-    // The fault of a `when` comes before that of a device.
-    Row {
-        plan: "when = 1\n[[device]]\n",
-        host: "",
-        known: "plan: event 1: bad when: no table",
-    },
-];
+/// Each row: lines of a plan behind a plug of the function, lines of what a host does, and what is known of the plan
+/// before them and behind each of them that is a place. `TAKEN` is the course of that name.
+const ROWS: &str = r#"--
+TAKEN
+--
+events 0 damages
+
+[[event]]
+do = "unplug"
+path = "1"
+when = { request = "set_address", path = "1" }
+--
+TAKEN
+--
+events 0 damages
+events 0 4 damages
+
+[[event]]
+do = "unplug"
+path = "1"
+when = { request = "set_address", path = "1", at = "answer" }
+--
+TAKEN
+--
+events 0 damages
+events 0 6 damages
+
+[[event]]
+do = "unplug"
+path = "1"
+when = { request = "set_address", path = "1", at = "after" }
+--
+TAKEN
+--
+events 0 damages
+events 0 7 damages
+
+[[event]]
+do = "unplug"
+path = "1"
+when = { request = "get_descriptor", path = "1", nth = 2, at = "data" }
+--
+TAKEN
+--
+events 0 damages
+events 0 8 damages
+
+# A request that is not made again: the device is pulled out when the host waits.
+[[event]]
+do = "unplug"
+path = "1"
+when = { request = "get_descriptor", path = "1", nth = 3 }
+--
+TAKEN
+--
+events 0 damages
+events 0 13 damages
+
+[[event]]
+do = "unplug"
+path = "1"
+when = { reset = 1, nth = 2 }
+--
+TAKEN
+--
+events 0 damages
+events 0 4 damages
+
+[[event]]
+do = "unplug"
+path = "1"
+when = { port = 1 }
+--
+TAKEN
+--
+events 0 damages
+events 0 0 damages
+
+[[event]]
+do = "unplug"
+path = "1"
+when = { wait = true }
+--
+TAKEN
+--
+events 0 damages
+events 0 13 damages
+
+# The data stage of the first request has two attempts. The root port is reset behind it.
+[[damage]]
+when = { request = "get_descriptor", path = "1" }
+packet = 1
+how = "lose"
+[[damage]]
+when = { request = "get_descriptor", path = "1", at = "data" }
+packet = 1
+how = "lose"
+[[damage]]
+when = { request = "get_descriptor", path = "1", at = "answer" }
+packet = 1
+how = "lose"
+[[damage]]
+when = { request = "get_descriptor", path = "1", at = "after" }
+packet = 1
+how = "lose"
+--
+TAKEN
+--
+events 0 damages
+events 0 damages 1
+events 0 damages 1 2
+events 0 damages 1 2 4
+events 0 damages 1 2 4 5
+
+[[damage]]
+when = { request = "set_configuration", path = "1", at = "answer" }
+packet = 2
+how = "lose"
+[[damage]]
+when = { wait = true }
+packet = 1
+how = "lose"
+--
+TAKEN
+--
+events 0 damages
+events 0 damages 12
+events 0 damages 12 14
+
+# A damage with an attempt stays, also where another one's place is.
+[[damage]]
+attempt = 2
+packet = 1
+how = "lose"
+[[damage]]
+attempt = 9
+packet = 1
+how = "lose"
+[[damage]]
+when = { setup = "0005010000000000", path = "1" }
+packet = 3
+how = "lose"
+[[damage]]
+when = { request = "get_descriptor", path = "1", at = "data" }
+packet = 2
+how = "lose"
+--
+TAKEN
+--
+events 0 damages 2 9
+events 0 damages 2 9
+events 0 damages 2 5 9
+
+# Another path, another request, another port.
+[[damage]]
+when = { request = "set_address", path = "1.1" }
+packet = 1
+how = "lose"
+[[damage]]
+when = { request = "set_interface", path = "1" }
+packet = 1
+how = "lose"
+[[damage]]
+when = { request = "get_port_status", path = "1.1" }
+packet = 1
+how = "lose"
+[[damage]]
+when = { setup = "0005020000000000", path = "1" }
+packet = 1
+how = "lose"
+[[damage]]
+when = { reset = 2 }
+packet = 1
+how = "lose"
+[[damage]]
+when = { port = 2 }
+packet = 1
+how = "lose"
+--
+TAKEN
+--
+events 0 damages
+
+# Requests to ports of a hub.
+[[damage]]
+when = { request = "port_reset", path = "1.2" }
+packet = 1
+how = "lose"
+[[damage]]
+when = { request = "get_port_status", path = "1.1", at = "data" }
+packet = 1
+how = "lose"
+[[damage]]
+when = { request = "set_port_feature", path = "1.1" }
+packet = 1
+how = "lose"
+[[damage]]
+when = { request = "clear_connection", path = "1.2", at = "answer" }
+packet = 1
+how = "lose"
+--
+S 1 0 1 2303080001000000
+I 1 0
+S 1 0 1 2303040001000000
+I 1 0
+S 1 0 1 2303040002000000
+I 1 0
+S 1 0 1 A300000002000400
+I 1 0
+O 1 0
+S 1 0 1 A300000001000400
+I 1 0
+O 1 0
+S 1 0 1 2301100001000000
+I 1 0
+S 1 0 1 2301100002000000
+I 1 0
+--
+events 0 damages
+events 0 damages 1
+events 0 damages 1 5
+events 0 damages 1 5 11
+events 0 damages 1 5 11 16
+
+# A control write with data, between polls of other endpoints.
+[[damage]]
+when = { setup = "2109000200000200", path = "1", at = "data" }
+packet = 1
+how = "lose"
+[[damage]]
+when = { setup = "2109000200000200", path = "1", at = "answer" }
+packet = 1
+how = "lose"
+[[damage]]
+when = { setup = "2109000200000200", path = "1", at = "after" }
+packet = 1
+how = "lose"
+--
+S 1 0 1 2109000200000200
+I 1 1
+O 1 0
+I 1 1
+O 1 0
+I 2 0
+I 1 0
+I 1 0
+I 1 1
+--
+events 0 damages
+events 0 damages 3
+events 0 damages 3 7
+events 0 damages 3 7 9
+
+# A request that a reset ends: its status stage does not come.
+[[damage]]
+when = { request = "get_status", path = "1", at = "answer" }
+packet = 1
+how = "lose"
+[[damage]]
+when = { request = "set_address", path = "1", at = "after" }
+packet = 1
+how = "lose"
+--
+S 1 0 1 8000000000000200
+I 1 0
+R 1
+O 1 0
+S 0 0 1 0005010000000000
+I 0 0
+R 1
+S 0 0 1 0005010000000000
+--
+events 0 damages
+events 0 damages 6
+
+# The same setup data again are the same request, until that goes on or a root port is called.
+[[damage]]
+when = { request = "set_address", path = "1", nth = 3 }
+packet = 1
+how = "lose"
+--
+S 0 0 1 0005010000000000
+S 0 0 1 0005010000000000
+P 1
+I 1 1
+S 0 0 1 0005010000000000
+R 1
+S 0 0 1 0005010000000000
+I 0 0
+S 0 0 1 0005010000000000
+--
+events 0 damages
+events 0 damages 7
+
+# The place of the second event is before that of the first one.
+[[event]]
+do = "unplug"
+path = "1"
+when = { request = "set_address", path = "1", at = "after" }
+[[event]]
+do = "plug"
+path = "1"
+device = "fn"
+when = { reset = 1 }
+[[event]]
+do = "show"
+--
+E
+R 1
+S 0 0 1 0005010000000000
+I 0 0
+I 0 0
+S 1 0 1 8006000100001200
+F
+I 1 0
+--
+events 0 damages
+events 0 3 damages
+events 0 3 1 0 damages
+
+# No event comes before the one before it.
+[[event]]
+do = "show"
+[[event]]
+do = "unplug"
+path = "1"
+when = { request = "set_address", path = "1" }
+--
+E
+S 0 0 1 0005010000000000
+I 0 0
+W
+E
+S 1 0 1 8006000100001200
+--
+events 0 0 damages
+events 0 0 0 damages
+
+[[event]]
+do = "show"
+when = { port = 1, nth = 5 }
+[[event]]
+do = "news"
+--
+E
+W
+--
+events 0 damages
+events 0 0 0 damages
+
+# The fault of a `when` comes before that of a device.
+when = 1
+[[device]]
+--
+--
+plan: event 1: bad when: no table"#;
 
 /// The setup data of a text.
 fn setup_of(text: &str) -> Setup {
@@ -150,16 +381,6 @@ fn setup_of(text: &str) -> Setup {
         *byte = u8::from_str_radix(digits, 16).unwrap_or(0);
     }
     Setup::from_bytes(bytes)
-}
-
-/// The word of a line at an index, counted from 0.
-fn word(line: &str, index: usize) -> &str {
-    line.split(' ').nth(index).unwrap_or("")
-}
-
-/// The same as a number.
-fn number(line: &str, index: usize) -> u8 {
-    word(line, index).parse::<u8>().unwrap_or(0)
 }
 
 /// The attempt of a line.
@@ -281,13 +502,18 @@ fn known_of(alloc: Global, text: &str, lines: &str) -> Result<String, PlacesFaul
 
 #[test]
 fn places_in_runs(rt: HostRuntime) -> Result<(), AllocError> {
-    for row in &ROWS {
-        let text = [FUNCTION, PLUG, row.plan].concat(rt.alloc())?;
-        let known = match known_of(rt.alloc(), text.as_str(), row.host) {
+    for row in ROWS.split("\n\n") {
+        let (plan, rest) = row.split_once("--\n").unwrap_or((row, ""));
+        let (host, wanted) = rest.split_once("--\n").unwrap_or((rest, ""));
+        let host = if host == "TAKEN\n" { TAKEN } else { host };
+        let text = [FUNCTION, PLUG, plan].concat(rt.alloc())?;
+        let known = match known_of(rt.alloc(), text.as_str(), host) {
             Ok(known) => known,
             Err(fault) => fault.to_string(rt.alloc())?,
         };
-        assert_eq!(rt; known.as_str(), row.known, "of {}", row.plan);
+        let known = known.as_str();
+        let known = known.strip_suffix("\n").unwrap_or(known);
+        assert_eq!(rt; known, wanted, "of {plan}");
     }
     Ok(())
 }
