@@ -51,7 +51,10 @@ fn port_call<T: Trace>(bus: &mut SimBus<T>, call: &mut Call<'_>) {
             tell_done(call, done);
         }
         "ready" => ready(bus, call.small(2)),
-        "status" => call.add_debug(&status(bus, call.small(2))),
+        "status" => {
+            let status = status(bus, call.small(2));
+            call.add_debug(&status);
+        }
         "set" => set(bus, call.small(2), call.feature(3)),
         _ => clear(bus, call.small(2), call.feature(3)),
     }

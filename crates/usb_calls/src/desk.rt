@@ -115,7 +115,10 @@ fn want_at(call: &mut Call<'_>, place: usize) -> Option<Want>
         "round" => Some(Want::Round),
         "tree" => Some(Want::Tree),
         "news" => Some(Want::News),
-        kind => want_of(call, kind, call.path(place + 1)?, place + 2),
+        kind => {
+            let path = call.path(place + 1)?;
+            want_of(call, kind, path, place + 2)
+        }
     }
 }
 
