@@ -188,20 +188,23 @@ fn driver_call(driver: &mut Driver, shown: Statuses, asked: &mut [u8; 72], call:
             Err(fault) => call.add_debug(&fault),
         },
         "told" => tell_records(call, driver.told()),
-        "answer" => {
-            let answer = answer_at(call, shown, 2);
-            tell(call, driver.answer(answer));
-        }
-        "row" => {
-            let before = call.bytes(2);
-            let answer = answer_at(call, shown, 3);
-            tell(call, driver.answer_row(before.as_slice(), answer));
-        }
+        "answer" | "row" => answer(driver, shown, call),
         _ => {
             let done = until_short_in(driver, shown, asked);
             tell(call, done);
         }
     }
+}
+
+/// Gives an answer, or a row of them: `row BEFORE ANSWER`.
+fn answer(driver: &mut Driver, shown: Statuses, call: &mut Call<'_>) {
+    let done = if call.word(1) == "row" {
+        let before = call.bytes(2);
+        driver.answer_row(before.as_slice(), answer_at(call, shown, 3))
+    } else {
+        driver.answer(answer_at(call, shown, 2))
+    };
+    tell(call, done);
 }
 
 /// Answers why a call was refused, if it was.

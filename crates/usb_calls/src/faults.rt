@@ -5,37 +5,34 @@ use usb_bus::BusFault;
 use usb_enum::{Cause, Request};
 use usb_transfer::{PipeFault, TransFault};
 
+const TRANSACTIONS: [TransFault; 4] = [
+    TransFault::Stalled,
+    TransFault::Busy,
+    TransFault::NoAnswer,
+    TransFault::Bus(BusFault::Limit),
+];
+
+const PIPES: [PipeFault; 6] = [
+    PipeFault::Stalled,
+    PipeFault::Busy,
+    PipeFault::NoAnswer,
+    PipeFault::Broken,
+    PipeFault::Bus(BusFault::Failed),
+    PipeFault::Memory,
+];
+
+const CAUSES: [Cause; 3] = [
+    Cause::Stalled(Request::SetConfig),
+    Cause::BadConfiguration(3),
+    Cause::TooLarge,
+];
+
 /// Answers the words of a fault that is named.
 pub(crate) fn play(call: &mut Call<'_>) {
     match call.word(1) {
-        "transaction" => tell_named(
-            call,
-            &[
-                TransFault::Stalled,
-                TransFault::Busy,
-                TransFault::NoAnswer,
-                TransFault::Bus(BusFault::Limit),
-            ],
-        ),
-        "pipe" => tell_named(
-            call,
-            &[
-                PipeFault::Stalled,
-                PipeFault::Busy,
-                PipeFault::NoAnswer,
-                PipeFault::Broken,
-                PipeFault::Bus(BusFault::Failed),
-                PipeFault::Memory,
-            ],
-        ),
-        _ => tell_named(
-            call,
-            &[
-                Cause::Stalled(Request::SetConfig),
-                Cause::BadConfiguration(3),
-                Cause::TooLarge,
-            ],
-        ),
+        "transaction" => tell_named(call, &TRANSACTIONS),
+        "pipe" => tell_named(call, &PIPES),
+        _ => tell_named(call, &CAUSES),
     }
 }
 
